@@ -1,0 +1,9 @@
+//! Disks, and what a power cut may leave of them.
+//!
+//! A disk is seen as data: its image, and the trace of its writes and syncs with their moments. What a
+//! cut may leave at each moment is a definition over the trace (`specs/Trace`).
+#![tactic(auto)]
+
+mod disk;
+
+pub use disk::{Disk, DiskFault};
