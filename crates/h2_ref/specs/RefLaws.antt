@@ -1,7 +1,7 @@
 -- The bytes of a reference are seen by its 128 places alone.
-use Rattle.std.specs.Prelude.{◌≡◌, ◌<◌, ◌≤◌, ℕ, ◌+◌}
+use Rattle.std.specs.Prelude.{◌≤◌, ◌+◌}
 use Rattle.std.proofs.Common.{◌∙◌, arith}
-use Rattle.h2_num.specs.Places.{Places, SameBelow, ZeroIn}
+use Rattle.h2_num.specs.Places.{Places, SameBelow}
 use Rattle.h2_num.specs.PlaceLaws.{number_same, zeros_same}
 use Rattle.h2_ref.specs.declared.reference.Check.{Check}
 use Rattle.h2_ref.specs.declared.reference.Check.TheVariants.{Nothing, Crc, Xx}

@@ -1,15 +1,15 @@
 -- A reference has one spelling, and bytes spell one valid reference at most.
-use Rattle.std.specs.Prelude.{◌≡◌, ◌<◌, ◌≤◌, ℕ, zero, suc, ◌+◌, ◌%◌, ◌^◌, refl, ◌==◌, if◌then◌else◌}
-use Rattle.std.proofs.Common.{ap, sym, subst, ◌∙◌, arith, inl, inr}
+use Rattle.std.specs.Prelude.{◌≡◌, ◌<◌, ◌≤◌, ℕ, zero, suc, ◌+◌, ◌%◌, refl, ◌==◌, if◌then◌else◌}
+use Rattle.std.proofs.Common.{ap, sym, ◌∙◌, arith, inl, inr}
 use Rattle.std.proofs.lemmas.Bool.{cases_lt}
-use Rattle.h2_num.specs.Places.{Places, AreBytes, number_at, SameBelow, ZeroIn}
+use Rattle.h2_num.specs.Places.{Places, AreBytes, number_at, SameBelow}
 use Rattle.h2_num.specs.PlaceLaws.{number_bytes, zero_bytes}
 use Rattle.h2_ref.specs.declared.reference.Kind.{Kind}
 use Rattle.h2_ref.specs.declared.reference.Kind.TheVariants.{Empty, Inode, MapLeaf}
 use Rattle.h2_ref.specs.declared.reference.Check.{Check}
 use Rattle.h2_ref.specs.declared.reference.Check.TheVariants.{Nothing, Crc, Xx}
 use Rattle.h2_ref.specs.declared.reference.Ref.{Ref}
-use Rattle.h2_ref.specs.Ref.{kind_number, method_number, check_len, check_value, FieldBytes, GapBytes, RefBytes, HasBlock, IsOfKind, IsValid, IsSplit}
+use Rattle.h2_ref.specs.Ref.{kind_number, method_number, check_len, check_value, FieldBytes, RefBytes, HasBlock, IsOfKind, IsValid, IsSplit}
 
 -- A reference has one spelling
 

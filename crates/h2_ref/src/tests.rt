@@ -60,8 +60,23 @@ fn references_are_spelled_both_ways(rt: HostRuntime) -> Result<(), Fail> {
         assert_eq!(rt; encode(&r).as_slice(), bytes.as_slice());
         assert_eq!(rt; decode(&bytes), Some(r));
     }
-    assert_eq!(rt; inode_ref().0.size(), 1024);
-    assert_eq!(rt; Ref::empty().size(), 0);
+    Ok(())
+}
+
+#[test]
+fn a_block_has_the_size_of_its_radix(rt: HostRuntime) -> Result<(), Fail> {
+    let (named, _) = inode_ref();
+    for (radix, size) in [
+        (0u8, 0u32),
+        (10, 1024),
+        (12, 4096),
+        (14, 16384),
+        (31, 1 << 31),
+    ] {
+        let r = Ref { radix, ..named };
+        assert!(rt; r.radix < 32);
+        assert_eq!(rt; r.size(), size);
+    }
     Ok(())
 }
 
