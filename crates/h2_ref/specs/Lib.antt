@@ -1,0 +1,3 @@
+pub mod Ref
+pub mod Spelling
+pub mod RefLaws
