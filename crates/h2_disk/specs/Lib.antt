@@ -1,2 +1,6 @@
 pub mod Trace
 pub mod Disk
+pub mod Laid
+pub mod Pages
+pub mod Record
+pub mod Sure

@@ -5,5 +5,13 @@
 #![tactic(auto)]
 
 mod disk;
+mod entry;
+mod pages;
+mod recording;
+mod sure;
 
 pub use disk::{Disk, DiskFault};
+pub use sure::SureDisk;
+
+#[cfg(test)]
+mod tests;
