@@ -137,7 +137,7 @@ four_apart x row lt =
     step_0 ∙ ap (bit_xor a) (step_1 ∙ ap (bit_xor b) step_2) ∙ ap (bit_xor a) (sym (xor_assoc b c d)) ∙ sym (xor_assoc a (bit_xor b c) d) ∙ ap (λ y. bit_xor y d) (sym (xor_assoc a b c))
 
 -- a number of 64 bits goes in as its two halves
-pub halves_apart : (x : ℕ) → after_bits x 64 ≡ bit_xor (after_bits (x % 2 ^ 32) 64) (after_bits (x / 2 ^ 32) 32)
+pub halves_apart : (x : ℕ) → after_bits x 64 ≡ bit_xor (after_bits (x / 2 ^ 32) 32) (after_bits (x % 2 ^ 32) 64)
 halves_apart x =
     let low = x % 2 ^ 32 in
     let high = x / 2 ^ 32 in
@@ -145,6 +145,7 @@ halves_apart x =
     ap (λ y. after_bits y 64) parts
     ∙ after_bits-xor low (high * 2 ^ 32) 64
     ∙ ap (bit_xor (after_bits low 64)) (after_bits-add (high * 2 ^ 32) 32 32 ∙ ap (λ x. after_bits x 32) (zeros_fall_out high 32))
+    ∙ xor_comm (after_bits low 64) (after_bits high 32)
 
 -- one byte goes in by the entry of the low byte
 pub one_apart : (r byte : ℕ) → byte < 256 → after_byte r byte ≡ bit_xor (after_bits (bit_xor r byte % 256) 8) (r / 256)
