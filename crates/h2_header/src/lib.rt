@@ -21,3 +21,6 @@ pub use header::{HEADER_BYTES, Header, SLOTS};
 pub use laws::header_law;
 pub use reading::read_from;
 pub use writing::write_into;
+
+#[cfg(test)]
+mod tests;
