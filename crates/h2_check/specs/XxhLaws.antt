@@ -1,10 +1,11 @@
--- The check depends on the bytes that it covers alone.
-use Rattle.std.specs.Prelude.{◌≡◌, ◌<◌, ◌≤◌, ℕ, zero, suc, ◌+◌, ◌*◌, ◌/◌, ◌%◌, nat_lt, Bool, true, false, cond, refl, bit_xor}
+-- The check depends on the bytes that it covers alone, and is a number of 64 bits.
+use Rattle.std.specs.Prelude.{◌≡◌, ◌<◌, ◌≤◌, ℕ, zero, suc, ◌+◌, ◌*◌, ◌/◌, ◌%◌, ◌^◌, nat_lt, Bool, true, false, cond, refl, bit_xor}
 use Rattle.std.proofs.Common.{ap, ◌∙◌, arith, inl, inr}
 use Rattle.std.proofs.lemmas.Bool.{cases_lt, lt-ltb, le-ltb}
+use Rattle.std.proofs.lemmas.Nat.{xor_lt}
 use Rattle.h2_num.specs.Places.{Places, SameBelow, number_at}
 use Rattle.h2_num.specs.PlaceLaws.{number_same}
-use Rattle.h2_check.specs.Xxh.{Lanes, round, times, plus, rotl, prime1, prime4, prime5, lanes_step, lanes_after, joined, eights_after, four_step, bytes_after, avalanche, start_of, fours_after, xxh64_of}
+use Rattle.h2_check.specs.Xxh.{Lanes, round, times, plus, rotl, prime1, prime2, prime3, prime4, prime5, lanes_step, lanes_after, joined, eights_after, four_step, bytes_after, avalanche, start_of, fours_after, xxh64_of}
 
 lanes_step-same : (v : Lanes) (a b : Places) (at n : ℕ) → at + 32 ≤ n → SameBelow n a b → lanes_step v b at ≡ lanes_step v a at
 unfolding lanes_step
@@ -51,3 +52,19 @@ xxh64_of-same a b n same =
       fours_after-same a b (eights_after a (n / 32 * 32) (plus (start_of a n) n) (n % 32 / 8)) n same,
       bytes_after-same a b (n / 4 * 4) (fours_after a (n / 8 * 8) (eights_after a (n / 32 * 32) (plus (start_of a n) n) (n % 32 / 8)) n) (n % 4) n (omega arith) same,
     ) refl
+
+times-lt : (a b : ℕ) → times a b < 2 ^ 64
+unfolding times
+times-lt a b = omega arith
+
+avalanche-lt : (h : ℕ) → avalanche h < 2 ^ 64
+unfolding avalanche
+avalanche-lt h =
+    let h2 = times (bit_xor (times (bit_xor h (h / 2 ^ 33)) prime2) (times (bit_xor h (h / 2 ^ 33)) prime2 / 2 ^ 29)) prime3 in
+    let fits : h2 < 2 ^ 64 = times-lt _ prime3 in
+    xor_lt 64 h2 (h2 / 2 ^ 32) fits (omega arith)
+
+-- the check has 64 bits
+pub xxh64_of-lt : (b : Places) (n : ℕ) → xxh64_of b n < 2 ^ 64
+unfolding xxh64_of
+xxh64_of-lt b n = avalanche-lt _

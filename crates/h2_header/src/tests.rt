@@ -61,7 +61,7 @@ fn header() -> Header {
 }
 
 // The numbers of its block, from the format's tables: the place, and eight bytes.
-const NUMBERS: [(usize, u64); 39] = [
+const NUMBERS: [(u16, u64); 39] = [
     // the magic, version and zones, the number, the map number and the next PFS id
     (0, 0x454d_554c_4f56_3248),
     (8, 0x0000_0005_0000_0001),
@@ -106,13 +106,17 @@ const NUMBERS: [(usize, u64); 39] = [
     (1600, 0xa0b0_c0d4),
 ];
 
+fn put_at(block: &mut [u8], at: u16, number: u64) {
+    if at as usize + 8 <= block.len() {
+        put64(block, at as usize, number);
+    }
+}
+
 // The block of the header, by hand.
 fn block(alloc: Global) -> Result<Vec<u8>, AllocError> {
     let mut block = vec![in alloc; 0u8; 65536]?;
     for (at, number) in NUMBERS {
-        if at + 8 <= block.len() {
-            put64(&mut block, at, number);
-        }
+        put_at(&mut block, at, number);
     }
     if block.len() == 65536 {
         put32(&mut block, 65532, CHECK);
