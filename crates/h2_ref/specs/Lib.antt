@@ -1,3 +1,5 @@
 pub mod Ref
-pub mod Spelling
 pub mod RefLaws
+pub mod Spelling
+pub mod Set
+pub mod SetLaws

@@ -116,7 +116,3 @@ NoRef b = (r : Ref) → IsValid r → RefBytes r b → ⊥
 -- how many bytes the block has
 abbrev pub size_of : Ref → ℕ
 size_of r = if r.radix == 0 then 0 else 2 ^ r.radix
-
--- where the range of keys ends
-abbrev pub limit : Ref → ℕ
-limit r = r.key + 2 ^ r.keybits

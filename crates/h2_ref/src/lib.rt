@@ -12,11 +12,13 @@ mod encoding;
 mod laws;
 mod reference;
 mod rules;
+mod set;
 
 pub use decoding::decode;
 pub use encoding::encode;
 pub use laws::spelling_law;
-pub use reference::{Check, Kind, Ref};
+pub use reference::{Check, Kind, REF_BYTES, Ref};
+pub use set::is_set;
 
 #[cfg(test)]
 mod tests;
