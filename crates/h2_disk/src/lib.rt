@@ -4,12 +4,14 @@
 //! cut may leave at each moment is a definition over the trace (`specs/Trace`).
 #![tactic(auto)]
 
+mod choice;
 mod disk;
 mod entry;
 mod pages;
 mod recording;
 mod sure;
 
+pub use choice::Choice;
 pub use disk::{Disk, DiskFault};
 pub use sure::SureDisk;
 

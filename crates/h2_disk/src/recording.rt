@@ -1,11 +1,13 @@
-ghost use Rattle.std.specs.Prelude.{◌≡◌, ◌+◌, ◌-◌, ◌^◌, ◌≤◌, ◌<◌, ◌↔◌, ◌∷◌, [], ◌++◌, length, IsTrue, OnOk, OnErr, IsErr};
+ghost use Rattle.std.specs.Prelude.{◌≡◌, ◌+◌, ◌-◌, ◌^◌, ◌≤◌, ◌<◌, ◌↔◌, ◌∷◌, [], ◌++◌, length, IsTrue, OnOk, OnErr, IsErr, All};
 ghost use Rattle.std.specs.Ordering.{nat_cmp};
 ghost use Rattle.std.specs.BTreeMap.{get};
 ghost use Rattle.h2_num.specs.Places.{places, from_place, Same, SameBelow};
 ghost use Rattle.h2_num.specs.Causes.{one_more};
 ghost use Rattle.h2_disk.specs.Trace.{latest};
 ghost use Rattle.h2_disk.specs.Pages.{page_byte, HasPages};
-ghost use Rattle.h2_disk.specs.Record.{image_of, trace_of};
+ghost use Rattle.h2_disk.specs.Record.{image_of, trace_of, IsOnDisk};
+
+mod cuts;
 
 use crate::entry::Entry;
 use crate::pages::Pages;
@@ -23,6 +25,7 @@ pub struct Recording {
     entries: Vec<Entry>,
     moment: u64,
     ghost fits: { moment < 2 ^ 64 },
+    ghost on_disk: { All IsOnDisk entries.items },
     ghost past: { latest (trace_of entries.items) ≤ moment },
     ghost reads: { Same (image_of entries.items) (page_byte (get nat_cmp pages.starts) pages.bytes.items) },
 }
