@@ -6,3 +6,4 @@ pub mod Record
 pub mod Sure
 pub mod Cut
 pub mod CutLaws
+pub mod Mem

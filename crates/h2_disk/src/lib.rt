@@ -7,12 +7,14 @@
 mod choice;
 mod disk;
 mod entry;
+mod mem;
 mod pages;
 mod recording;
 mod sure;
 
 pub use choice::Choice;
 pub use disk::{Disk, DiskFault};
+pub use mem::MemDisk;
 pub use sure::SureDisk;
 
 #[cfg(test)]

@@ -4,6 +4,7 @@ ghost use Rattle.std.specs.BTreeMap.{get};
 ghost use Rattle.h2_num.specs.Places.{places, from_place, Same, SameBelow};
 ghost use Rattle.h2_num.specs.Causes.{one_more};
 ghost use Rattle.h2_disk.specs.Trace.{latest};
+ghost use Rattle.h2_disk.specs.Disk.{Writes, Syncs};
 ghost use Rattle.h2_disk.specs.Pages.{page_byte, HasPages};
 ghost use Rattle.h2_disk.specs.Record.{image_of, trace_of, IsOnDisk};
 
@@ -44,6 +45,11 @@ impl Recording {
         }
     }
 
+    /// The allocator.
+    pub fn alloc(&self) -> Global {
+        self.alloc
+    }
+
     /// The moment.
     pub fn moment(&self) -> u64
         ensures { result ≡ self.now.moment }
@@ -77,7 +83,7 @@ impl Recording {
     /// Writes the bytes at the place, or changes the moment alone.
     pub fn write(&mut self, at: u64, bytes: &[u8]) -> Result<(), NoMemory>
         requires { at + length bytes.now ≤ 2 ^ 34 }
-        ensures wrote { OnOk result (self.new.entries.items ≡ self.old.entries.items ++ Entry.Write self.new.moment at bytes.now ∷ []) }
+        ensures wrote { OnOk result (Writes self.new.moment at bytes.now (image_of self.old.entries.items) (image_of self.new.entries.items) (trace_of self.old.entries.items) (trace_of self.new.entries.items)) }
         ensures failed { OnErr result (self.new.entries.items ≡ self.old.entries.items) }
         ensures time { self.new.moment ≡ one_more self.old.moment }
         ensures end { 2 ^ 64 - 2 ≤ self.old.moment → IsErr result }
@@ -116,7 +122,7 @@ impl Recording {
 
     /// Notes a sync, or changes the moment alone.
     pub fn sync(&mut self) -> Result<(), NoMemory>
-        ensures synced { OnOk result (self.new.entries.items ≡ self.old.entries.items ++ Entry.Sync self.new.moment ∷ []) }
+        ensures synced { OnOk result (Syncs self.new.moment (image_of self.old.entries.items) (image_of self.new.entries.items) (trace_of self.old.entries.items) (trace_of self.new.entries.items)) }
         ensures failed { OnErr result (self.new.entries.items ≡ self.old.entries.items) }
         ensures time { OnOk result (self.new.moment ≡ self.old.moment + 2) }
         ensures time_failed { OnErr result (self.new.moment ≡ one_more self.old.moment) }
