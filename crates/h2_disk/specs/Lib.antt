@@ -4,3 +4,6 @@ pub mod Laid
 pub mod Pages
 pub mod Record
 pub mod Sure
+pub mod Cut
+pub mod CutLaws
+pub mod Mem

@@ -1,11 +1,14 @@
-ghost use Rattle.std.specs.Prelude.{◌≡◌, ◌+◌, ◌-◌, ◌^◌, ◌≤◌, ◌<◌, ◌↔◌, ◌∷◌, [], ◌++◌, length, IsTrue, OnOk, OnErr, IsErr};
+ghost use Rattle.std.specs.Prelude.{◌≡◌, ◌+◌, ◌-◌, ◌^◌, ◌≤◌, ◌<◌, ◌↔◌, ◌∷◌, [], ◌++◌, length, IsTrue, OnOk, OnErr, IsErr, All};
 ghost use Rattle.std.specs.Ordering.{nat_cmp};
 ghost use Rattle.std.specs.BTreeMap.{get};
 ghost use Rattle.h2_num.specs.Places.{places, from_place, Same, SameBelow};
 ghost use Rattle.h2_num.specs.Causes.{one_more};
 ghost use Rattle.h2_disk.specs.Trace.{latest};
+ghost use Rattle.h2_disk.specs.Disk.{Writes, Syncs};
 ghost use Rattle.h2_disk.specs.Pages.{page_byte, HasPages};
-ghost use Rattle.h2_disk.specs.Record.{image_of, trace_of};
+ghost use Rattle.h2_disk.specs.Record.{image_of, trace_of, IsOnDisk};
+
+mod cuts;
 
 use crate::entry::Entry;
 use crate::pages::Pages;
@@ -23,6 +26,7 @@ pub struct Recording {
     entries: Vec<Entry>,
     moment: u64,
     ghost fits: { moment < 2 ^ 64 },
+    ghost on_disk: { All IsOnDisk entries.items },
     ghost past: { latest (trace_of entries.items) ≤ moment },
     ghost reads: { Same (image_of entries.items) (page_byte (get nat_cmp pages.starts) pages.bytes.items) },
 }
@@ -39,6 +43,11 @@ impl Recording {
             entries: Vec::new(alloc),
             moment: 0,
         }
+    }
+
+    /// The allocator.
+    pub fn alloc(&self) -> Global {
+        self.alloc
     }
 
     /// The moment.
@@ -74,7 +83,7 @@ impl Recording {
     /// Writes the bytes at the place, or changes the moment alone.
     pub fn write(&mut self, at: u64, bytes: &[u8]) -> Result<(), NoMemory>
         requires { at + length bytes.now ≤ 2 ^ 34 }
-        ensures wrote { OnOk result (self.new.entries.items ≡ self.old.entries.items ++ Entry.Write self.new.moment at bytes.now ∷ []) }
+        ensures wrote { OnOk result (Writes self.new.moment at bytes.now (image_of self.old.entries.items) (image_of self.new.entries.items) (trace_of self.old.entries.items) (trace_of self.new.entries.items)) }
         ensures failed { OnErr result (self.new.entries.items ≡ self.old.entries.items) }
         ensures time { self.new.moment ≡ one_more self.old.moment }
         ensures end { 2 ^ 64 - 2 ≤ self.old.moment → IsErr result }
@@ -113,7 +122,7 @@ impl Recording {
 
     /// Notes a sync, or changes the moment alone.
     pub fn sync(&mut self) -> Result<(), NoMemory>
-        ensures synced { OnOk result (self.new.entries.items ≡ self.old.entries.items ++ Entry.Sync self.new.moment ∷ []) }
+        ensures synced { OnOk result (Syncs self.new.moment (image_of self.old.entries.items) (image_of self.new.entries.items) (trace_of self.old.entries.items) (trace_of self.new.entries.items)) }
         ensures failed { OnErr result (self.new.entries.items ≡ self.old.entries.items) }
         ensures time { OnOk result (self.new.moment ≡ self.old.moment + 2) }
         ensures time_failed { OnErr result (self.new.moment ≡ one_more self.old.moment) }
