@@ -1,0 +1,6 @@
+pub mod Parts
+pub mod Steps
+pub mod Landing
+pub mod Runs
+pub mod Overlay
+pub mod Calls
