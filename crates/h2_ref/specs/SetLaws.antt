@@ -1,9 +1,8 @@
 -- The bytes of references one after the other.
-use Rattle.std.specs.Prelude.{◌≡◌, ◌<◌, ◌≤◌, ℕ, ◌+◌, ◌*◌, ◌/◌, ◌%◌, List, [], ◌∷◌, length, slice_index_or, All}
-use Rattle.std.proofs.Common.{ap, sym, ◌∙◌, arith, inl, inr}
+use Rattle.std.specs.Prelude.{◌≡◌, ◌<◌, ◌+◌, ◌*◌, ◌/◌, ◌%◌, List, length, slice_index_or, All}
+use Rattle.std.proofs.Common.{ap, sym, ◌∙◌, arith}
 use Rattle.std.proofs.lemmas.List.{ext_get_or}
 use Rattle.h2_num.specs.Places.{Places, AreBytes, from_place, SameBelow}
-use Rattle.h2_ref.specs.declared.reference.Kind.TheVariants.{Empty}
 use Rattle.h2_ref.specs.declared.reference.Ref.{Ref}
 use Rattle.h2_ref.specs.Ref.{empty_ref, IsValid}
 use Rattle.h2_ref.specs.RefLaws.{RefBytes-same}

@@ -4,7 +4,11 @@ ghost use Rattle.h2_ref.specs.Ref.{check_len, check_value, kind_number, method_n
 ghost use Rattle.h2_ref.specs.declared.reference.Kind.{Kind};
 ghost use Rattle.h2_ref.specs.declared.reference.Check.{Check};
 
-use crate::reference::{CHECK_AT, Check, Kind, REF_BYTES, Ref};
+use crate::layout::{
+    CHECK_AT, ENTRY_AT, FLAGS_AT, FLAGS_END, ID_AT, KEY_AT, KEYBITS_AT, KIND_AT, METHOD_AT,
+    PLACE_AT, REF_BYTES,
+};
+use crate::reference::{Check, Kind, Ref};
 use h2_num::{first_nonzero, get32, get64};
 
 /// One more than the greatest radix that the low bits of a place hold.
@@ -28,7 +32,7 @@ fn check_of(b: &[u8; REF_BYTES]) -> Option<Check>
     ensures method { IfSome result (λ check. places b.now 1 ≡ method_number check) }
     ensures value { IfSome result (λ check. number_at (places b.now) 64 (check_len check) ≡ check_value check) }
 {
-    match b[1] {
+    match b[METHOD_AT] {
         0 => Some(Check::Nothing),
         3 => Some(Check::Xx(get64(b, CHECK_AT))),
         5 => Some(Check::Crc(get32(b, CHECK_AT))),
@@ -42,16 +46,16 @@ fn fields_of(b: &[u8; REF_BYTES]) -> Option<Ref>
     ensures fields { IfSome result (λ r. FieldBytes r (places b.now)) }
     ensures split { IfSome result IsSplit }
 {
-    let kind = kind_of(b[0])?;
+    let kind = kind_of(b[KIND_AT])?;
     let check = check_of(b)?;
-    let place = get64(b, 16);
+    let place = get64(b, PLACE_AT);
     Some(Ref {
         kind,
-        key: get64(b, 8),
-        keybits: b[2],
+        key: get64(b, KEY_AT),
+        keybits: b[KEYBITS_AT],
         place: place / RADIX_END * RADIX_END,
         radix: (place % RADIX_END) as u8,
-        id: get64(b, 24),
+        id: get64(b, ID_AT),
         check,
     })
 }
@@ -81,9 +85,9 @@ fn check_len(check: Check) -> usize
 fn has_zero_gaps(b: &[u8; REF_BYTES], check: Check) -> bool
     ensures { IsTrue result ↔ GapBytes check (places b.now) }
 {
-    b[3] == 0
-        && is_zero(b, 4, 8)
-        && is_zero(b, 32, CHECK_AT)
+    b[FLAGS_AT] == 0
+        && is_zero(b, FLAGS_END, KEY_AT)
+        && is_zero(b, ENTRY_AT, CHECK_AT)
         && is_zero(b, CHECK_AT + check_len(check), REF_BYTES)
 }
 

@@ -2,7 +2,8 @@ ghost use Rattle.std.specs.Prelude.{◌≡◌, ◌+◌};
 ghost use Rattle.h2_num.specs.Places.{number_at, places, ZeroIn};
 ghost use Rattle.h2_ref.specs.Ref.{check_len, check_value, kind_number, method_number, RefBytes, IsValid};
 
-use crate::reference::{CHECK_AT, Check, Kind, REF_BYTES, Ref};
+use crate::layout::{CHECK_AT, ID_AT, KEY_AT, KEYBITS_AT, KIND_AT, METHOD_AT, PLACE_AT, REF_BYTES};
+use crate::reference::{Check, Kind, Ref};
 use h2_num::{put8, put32, put64};
 
 /// The number of a kind.
@@ -48,11 +49,11 @@ pub fn encode(r: &Ref) -> [u8; REF_BYTES]
     ensures { RefBytes r.now (places result) }
 {
     let mut b = check_over_zeros(r.check);
-    put8(&mut b, 0, kind_number(r.kind));
-    put8(&mut b, 1, method_number(r.check));
-    put8(&mut b, 2, r.keybits);
-    put64(&mut b, 8, r.key);
-    put64(&mut b, 16, r.place + r.radix as u64);
-    put64(&mut b, 24, r.id);
+    put8(&mut b, KIND_AT, kind_number(r.kind));
+    put8(&mut b, METHOD_AT, method_number(r.check));
+    put8(&mut b, KEYBITS_AT, r.keybits);
+    put64(&mut b, KEY_AT, r.key);
+    put64(&mut b, PLACE_AT, r.place + r.radix as u64);
+    put64(&mut b, ID_AT, r.id);
     b
 }

@@ -10,6 +10,7 @@
 mod decoding;
 mod encoding;
 mod laws;
+mod layout;
 mod reference;
 mod rules;
 mod set;
@@ -17,7 +18,8 @@ mod set;
 pub use decoding::decode;
 pub use encoding::encode;
 pub use laws::spelling_law;
-pub use reference::{Check, Kind, REF_BYTES, Ref};
+pub use layout::REF_BYTES;
+pub use reference::{Check, Kind, Ref};
 pub use set::is_set;
 
 #[cfg(test)]

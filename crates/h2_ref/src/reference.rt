@@ -2,12 +2,6 @@ ghost use Rattle.std.specs.Prelude.{◌≡◌, ◌<◌, ◌↔◌, IsTrue};
 
 use crate::rules::is_valid;
 
-/// The bytes of a reference.
-pub const REF_BYTES: usize = 128;
-
-/// Where the check of a block stands in the reference.
-pub const CHECK_AT: usize = 64;
-
 /// What a reference names.
 #[derive(Clone, Copy, Debug, PartialEq, Eq)]
 pub enum Kind {

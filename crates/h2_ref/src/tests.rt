@@ -110,3 +110,32 @@ fn spoiled_bytes_are_refused(rt: HostRuntime) -> Result<(), Fail> {
     }
     Ok(())
 }
+
+#[test]
+fn a_set_ascends_and_ends_in_empty_ones(rt: HostRuntime) -> Result<(), Fail> {
+    let (named, _) = inode_ref();
+    let (leaf, _) = leaf_ref();
+    let of = |key: u64| match key {
+        0 => Ref::empty(),
+        3_000_000_000 => Ref { key: 0, ..leaf },
+        _ => Ref { key, ..named },
+    };
+    // 0 stands for an empty reference, and 3,000,000,000 for the leaf of the keys below 2^25
+    let rows = [
+        ([0, 0, 0], true),
+        ([1, 3, 0], true),
+        ([1, 2, 3], true),
+        ([3_000_000_000, 33_554_432, 0], true),
+        ([3_000_000_000, 33_554_431, 0], false),
+        ([1, 1, 0], false),
+        ([3, 1, 0], false),
+        ([1, 0, 2], false),
+        ([0, 1, 2], false),
+    ];
+    for ([a, b, c], expected) in rows {
+        let refs = [of(a), of(b), of(c)];
+        assert!(rt; refs[0].valid() && refs[1].valid() && refs[2].valid());
+        assert_eq!(rt; is_set(&refs), expected);
+    }
+    Ok(())
+}
