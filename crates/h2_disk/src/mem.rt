@@ -3,7 +3,8 @@ ghost use Rattle.h2_num.specs.Places.{places, from_place, SameBelow, Lays};
 ghost use Rattle.h2_num.specs.Causes.{one_more};
 ghost use Rattle.h2_disk.specs.Trace.{Opened};
 ghost use Rattle.h2_disk.specs.Disk.{Keeps, Writes, Syncs};
-ghost use Rattle.h2_disk.specs.Mem.{mem_image, mem_trace, mem_moment, mem_faults, mem_reads, FailsNextRead, FailsNextCall, FailsExactlyIf, IsCounted, KeepsPlan, IsFresh};
+ghost use Rattle.h2_disk.specs.Faults.{IsCounted};
+ghost use Rattle.h2_disk.specs.Mem.{mem_image, mem_trace, mem_moment, mem_faults, mem_reads, FailsNextRead, FailsNextCall, FailsExactlyIf, KeepsPlan, IsFresh};
 ghost use Rattle.h2_disk.specs.declared.disk.DiskFault.TheVariants.{Failed};
 
 use crate::recording::Recording;
