@@ -32,7 +32,11 @@ pub struct MemDisk {
 impl MemDisk {
     /// An empty disk at moment 0. The write or sync that begins at one of the moments fails, and so does
     /// the read whose number, from 0, is one of `fail_reads`.
-    pub fn new(alloc: Global, fail_moments: Vec<u64>, fail_reads: Vec<u64>) -> Result<MemDisk, NoMemory>
+    pub fn new(
+        alloc: Global,
+        fail_moments: Vec<u64>,
+        fail_reads: Vec<u64>,
+    ) -> Result<MemDisk, NoMemory>
         ensures { IfOk result (IsFresh (λ k. 0) fail_moments.items fail_reads.items) }
     {
         Ok(MemDisk::over(Recording::new(alloc), fail_moments, fail_reads))
@@ -81,7 +85,11 @@ impl MemDisk {
     fn fails_call(&self) -> bool
         ensures { IsTrue result ↔ FailsNextCall self.now }
     {
-        self.recording.has_ended() || is_listed(&self.fail_moments, self.recording.moment().saturating_add(1))
+        self.recording.has_ended()
+            || is_listed(
+                &self.fail_moments,
+                self.recording.moment().saturating_add(1),
+            )
     }
 
     // Counts a fault.
