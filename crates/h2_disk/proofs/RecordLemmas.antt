@@ -27,14 +27,14 @@ newest_first entries count e some le is =
     let one : count - 1 + 1 ≡ count = omega arith in
     let more = take_more entries (count - 1) e (omega arith) in
     ap (λ n. reverse (take n entries)) (sym one) ∙ ap reverse more
-      ∙ reverse-append (take (count - 1) entries) (get_or entries (count - 1) e ∷ []) ∙ ap (λ x. x ∷ reverse (take (count - 1) entries)) (sym is)
+    ∙ reverse-append (take (count - 1) entries) (get_or entries (count - 1) e ∷ []) ∙ ap (λ x. x ∷ reverse (take (count - 1) entries)) (sym is)
 
 -- of a last write only the first bytes are kept
 pub torn-write : (k began at : ℕ) (bytes : List ℕ) (entries : List Entry) (count : ℕ) → 0 < count → count ≤ length entries → Write began at bytes ≡ get_or entries (count - 1) (Write began at bytes)
     → torn k (trace_of (take count entries)) ≡ laid at (take k bytes) (image_of (take (count - 1) entries))
 torn-write k began at bytes entries count some le is =
     ap (λ xs. torn k (trace_after xs)) (newest_first entries count (Write began at bytes) some le is)
-      ∙ ap (laid at (take k bytes)) (newest-after (reverse (take (count - 1) entries)))
+    ∙ ap (laid at (take k bytes)) (newest-after (reverse (take (count - 1) entries)))
 
 -- a disk at moment 0 with bytes laid over it
 pub starts_laid : (at moment later : ℕ) (bytes : List ℕ) (image : Places) (entries more : List Entry) → StartsWith image entries moment → more ≡ entries ++ Laid at bytes ∷ [] → later ≡ moment

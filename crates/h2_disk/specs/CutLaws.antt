@@ -29,8 +29,8 @@ laid_same n began at bytes t k same below = split (in_range at (length (take n b
         let to : k < at + length (take n bytes) = r.1 in
         let len = length-take n bytes in
         held at (take n bytes) (laid at (take n bytes) (newest t)) (laid_inside at (take n bytes) (newest t)) k r
-          ∙ get_or-take n bytes (k - at) 0 (omega arith)
-          ∙ written_same began at bytes t k (from, omega arith) same
+        ∙ get_or-take n bytes (k - at) 0 (omega arith)
+        ∙ written_same began at bytes t k (from, omega arith) same
     split (inr out) = outside at (length (take n bytes)) (newest t) (laid at (take n bytes) (newest t)) (laid_elsewhere at (take n bytes) (newest t)) k out ∙ below
 
 -- a byte that no write was to change is durable

@@ -1,5 +1,7 @@
 pub mod Trace
+pub mod TraceLaws
 pub mod Disk
+pub mod Faults
 pub mod Laid
 pub mod Pages
 pub mod Record
@@ -7,3 +9,4 @@ pub mod Sure
 pub mod Cut
 pub mod CutLaws
 pub mod Mem
+pub mod File

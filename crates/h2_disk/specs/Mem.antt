@@ -49,12 +49,6 @@ FailsExactlyIf planned (Ok done) = planned → ⊥
 FailsExactlyIf planned (Err Failed) = planned
 FailsExactlyIf planned (Err NoMemory) = planned → ⊥
 
--- the count of faults rose exactly where the call failed
-abbrev pub IsCounted : {T : Type 0} → ℕ → ℕ → Result T DiskFault → Type 0
-IsCounted before now (Ok done) = now ≡ before
-IsCounted before now (Err Failed) = now ≡ one_more before
-IsCounted before now (Err NoMemory) = now ≡ before
-
 -- what is planned to fail stays
 pub record KeepsPlan (old new : MemDisk) : Type 0 where
   pub moments : fail_moments new ≡ fail_moments old

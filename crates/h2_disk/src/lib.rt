@@ -7,6 +7,7 @@
 mod choice;
 mod disk;
 mod entry;
+mod file;
 mod mem;
 mod pages;
 mod recording;
@@ -14,6 +15,7 @@ mod sure;
 
 pub use choice::Choice;
 pub use disk::{Disk, DiskFault};
+pub use file::FileDisk;
 pub use mem::MemDisk;
 pub use sure::SureDisk;
 

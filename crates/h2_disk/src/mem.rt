@@ -3,7 +3,8 @@ ghost use Rattle.h2_num.specs.Places.{places, from_place, SameBelow, Lays};
 ghost use Rattle.h2_num.specs.Causes.{one_more};
 ghost use Rattle.h2_disk.specs.Trace.{Opened};
 ghost use Rattle.h2_disk.specs.Disk.{Keeps, Writes, Syncs};
-ghost use Rattle.h2_disk.specs.Mem.{mem_image, mem_trace, mem_moment, mem_faults, mem_reads, FailsNextRead, FailsNextCall, FailsExactlyIf, IsCounted, KeepsPlan, IsFresh};
+ghost use Rattle.h2_disk.specs.Faults.{IsCounted};
+ghost use Rattle.h2_disk.specs.Mem.{mem_image, mem_trace, mem_moment, mem_faults, mem_reads, FailsNextRead, FailsNextCall, FailsExactlyIf, KeepsPlan, IsFresh};
 ghost use Rattle.h2_disk.specs.declared.disk.DiskFault.TheVariants.{Failed};
 
 use crate::recording::Recording;
@@ -31,7 +32,11 @@ pub struct MemDisk {
 impl MemDisk {
     /// An empty disk at moment 0. The write or sync that begins at one of the moments fails, and so does
     /// the read whose number, from 0, is one of `fail_reads`.
-    pub fn new(alloc: Global, fail_moments: Vec<u64>, fail_reads: Vec<u64>) -> Result<MemDisk, NoMemory>
+    pub fn new(
+        alloc: Global,
+        fail_moments: Vec<u64>,
+        fail_reads: Vec<u64>,
+    ) -> Result<MemDisk, NoMemory>
         ensures { IfOk result (IsFresh (λ k. 0) fail_moments.items fail_reads.items) }
     {
         Ok(MemDisk::over(Recording::new(alloc), fail_moments, fail_reads))
@@ -80,7 +85,11 @@ impl MemDisk {
     fn fails_call(&self) -> bool
         ensures { IsTrue result ↔ FailsNextCall self.now }
     {
-        self.recording.has_ended() || is_listed(&self.fail_moments, self.recording.moment().saturating_add(1))
+        self.recording.has_ended()
+            || is_listed(
+                &self.fail_moments,
+                self.recording.moment().saturating_add(1),
+            )
     }
 
     // Counts a fault.

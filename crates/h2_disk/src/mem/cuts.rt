@@ -16,7 +16,11 @@ impl MemDisk {
         ensures keeps { IfOk result (λ disk. KeepsDurable (up_to m (mem_trace self.now)) (mem_image disk)) }
     {
         let alloc = self.recording.alloc();
-        Ok(MemDisk::over(self.recording.cut(m, choice)?, Vec::new(alloc), Vec::new(alloc)))
+        Ok(MemDisk::over(
+            self.recording.cut(m, choice)?,
+            Vec::new(alloc),
+            Vec::new(alloc),
+        ))
     }
 
     /// A disk at moment 0 with the same image and these failures, as for `new`.

@@ -16,5 +16,5 @@ returns c =
     let is = sym last.is ∙ c.index.ensures ∙ ap (get_or entries (c.args.count - 1)) last.is in
     let P : Places → Type 0 = λ image. StartsWith image c.lay.new.self.entries.items c.lay.new.self.moment in
     subst P
-      (ap (λ bytes. laid last.at bytes below) part ∙ sym (torn-write c.args.kept last.began last.at last.bytes entries c.args.count (omega arith) (omega arith) is))
-      (starts_laid last.at c.in_ok-copy.copy.moment c.lay.new.self.moment c.first_bytes.result.now below c.in_ok-copy.copy.entries.items c.lay.new.self.entries.items c.in_ok-copy.ensures c.in_ok-lay.ensures.laid c.in_ok-lay.ensures.time)
+    (ap (λ bytes. laid last.at bytes below) part ∙ sym (torn-write c.args.kept last.began last.at last.bytes entries c.args.count (omega arith) (omega arith) is))
+    (starts_laid last.at c.in_ok-copy.copy.moment c.lay.new.self.moment c.first_bytes.result.now below c.in_ok-copy.copy.entries.items c.lay.new.self.entries.items c.in_ok-copy.ensures c.in_ok-lay.ensures.laid c.in_ok-lay.ensures.time)

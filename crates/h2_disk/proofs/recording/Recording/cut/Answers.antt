@@ -12,5 +12,5 @@ returns-in-New c =
     let entries = c.args.self.now.entries.items in
     let P : Places → Type 0 = λ image. IfOk c.copy_first-in-New.result (λ disk. StartsWith image disk.entries.items disk.moment) in
     subst P
-      (sym (newest-of (take c.count_up_to-count.result entries)) ∙ ap newest (sym c.count_up_to-count.ensures.found) ∙ ap (λ choice. image_cut choice (up_to c.args.m (trace_of entries))) (sym c.in-New.is))
-      c.copy_first-in-New.ensures
+    (sym (newest-of (take c.count_up_to-count.result entries)) ∙ ap newest (sym c.count_up_to-count.ensures.found) ∙ ap (λ choice. image_cut choice (up_to c.args.m (trace_of entries))) (sym c.in-New.is))
+    c.copy_first-in-New.ensures
