@@ -4,3 +4,5 @@ pub mod Landing
 pub mod Runs
 pub mod Overlay
 pub mod Calls
+pub mod Pieces
+pub mod Driving

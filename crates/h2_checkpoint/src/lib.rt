@@ -6,7 +6,9 @@ mod disk_calls;
 mod format;
 mod next;
 mod piece;
+mod whole_flush;
 
 pub use format::{VolumeFormat, crash_law};
 pub use next::{Next, Stepped};
 pub use piece::Piece;
+pub use whole_flush::drive;
