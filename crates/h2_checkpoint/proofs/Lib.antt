@@ -6,3 +6,5 @@ pub mod Overlay
 pub mod Calls
 pub mod Pieces
 pub mod Driving
+pub mod Cuts
+pub mod Making
