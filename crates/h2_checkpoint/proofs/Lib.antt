@@ -8,3 +8,7 @@ pub mod Pieces
 pub mod Driving
 pub mod Cuts
 pub mod Making
+pub mod Nexts
+pub mod View
+pub mod Toy
+pub mod Rows

@@ -11,7 +11,7 @@ mod piece;
 mod whole_flush;
 
 pub use flushing::Flushing;
-pub use format::{VolumeFormat, crash_law};
+pub use format::{VolumeFormat, crash_law, cut_law};
 pub use new_volume::make;
 pub use next::{Next, Stepped};
 pub use piece::Piece;
