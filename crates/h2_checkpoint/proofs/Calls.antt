@@ -16,6 +16,10 @@ use Rattle.h2_checkpoint.specs.Steps.{queue_of}
 use Rattle.h2_checkpoint.specs.declared.piece.Piece.{Piece}
 use Rattle.h2_checkpoint.proofs.Runs.{keeps, opened_survives}
 
+-- the entries that are left at a piece
+pub at_piece : (pieces : List Piece) (k : ℕ) (piece : Piece) → k < length pieces → piece ≡ slice_index_or pieces k piece → queue_of (drop k pieces) ≡ entry_of piece ∷ queue_of (drop (k + 1) pieces)
+at_piece pieces k piece lt is = let next : suc k ≡ k + 1 = omega arith in ap queue_of (drop-cons pieces k piece lt) ∙ ap (λ (z : Piece). entry_of z ∷ queue_of (drop (suc k) pieces)) (sym is) ∙ ap (λ (z : ℕ). entry_of piece ∷ queue_of (drop z pieces)) next
+
 module _ (v : Format) (laws : IsLawful v) (start : ℕ) (opening : Newest v) (before : Trace) (marks : List (Mark v.Forest)) where
   -- calls that lead from a state to another are made of the disk
   goes_on : (x y : DiskState) (d e : Newest v) (fl fl2 : Flush v) (marks2 : List (Mark v.Forest)) (since : List Call) (s : StandsAt v start opening before x d fl marks) → y.trace ≡ after since before
@@ -91,10 +95,6 @@ module _ (v : Format) (laws : IsLawful v) (start : ℕ) (opening : Newest v) (be
       (w.trace ∙ ap (Synced y.moment y.image) s.trace_is)
       (header_done f g y.moment y.image refl le w.image)
 
-  -- the entries that are left at a piece
-  pub at_piece : (pieces : List Piece) (k : ℕ) (piece : Piece) → k < length pieces → piece ≡ slice_index_or pieces k piece → queue_of (drop k pieces) ≡ entry_of piece ∷ queue_of (drop (k + 1) pieces)
-  at_piece pieces k piece lt is = let next : suc k ≡ k + 1 = omega arith in ap queue_of (drop-cons pieces k piece lt) ∙ ap (λ (z : Piece). entry_of z ∷ queue_of (drop (suc k) pieces)) (sym is) ∙ ap (λ (z : ℕ). entry_of piece ∷ queue_of (drop z pieces)) next
-
   pub wrote_piece : (x y : DiskState) (d : Newest v) (f : Frozen v) (g : Progress) (pieces : List Piece) (k : ℕ) (piece : Piece) (bytes : List ℕ) → x.moment ≤ y.moment
       → k < length pieces → piece ≡ slice_index_or pieces k piece → bytes ≡ piece.bytes → Writes y.moment piece.at bytes x.image y.image x.trace y.trace
       → StandsAt v start opening before x d (UnderWay f g (Writing (queue_of (drop k pieces)))) marks → StandsAt v start opening before y d (UnderWay f g (Writing (queue_of (drop (k + 1) pieces)))) marks
@@ -139,3 +139,11 @@ module _ (v : Format) (laws : IsLawful v) (start : ℕ) (opening : Newest v) (be
       → StandsAt v start opening before x d Idle marks → StandsAt v start opening before x d (UnderWay f Fresh (Writing f.queue)) (Froze (v.number f.checkpoint.header) f.checkpoint.forest ∷ marks)
   freeze_on x d f plan others s = goes_on x x d d Idle (UnderWay f Fresh (Writing f.queue)) (Froze (v.number f.checkpoint.header) f.checkpoint.forest ∷ marks) s.since s s.trace_is
       (freeze f refl plan others)
+
+-- a write that fails changes nothing outside its range
+pub tried_outside : (moment at : ℕ) (bytes : List ℕ) (i j : Places) (t u : Trace) → FailsToWrite moment at bytes i j t u → SameOutside at (length bytes) i j
+tried_outside moment at bytes i j t u w = split w.tried
+  where
+    split : Tried moment at bytes t i u j → SameOutside at (length bytes) i j
+    split (inl (is, kept)) = kept
+    split (inr (is, same)) = record { before = λ k lt. same k; after = λ k le. same k }

@@ -12,9 +12,9 @@ use Rattle.h2_checkpoint.specs.Steps.{IsPlanOf}
 use Rattle.h2_checkpoint.specs.declared.piece.Piece.{Piece}
 
 module _ (v : Format) where
-  -- no header yet, or the planned volume
+  -- no header yet, or the planned forest under a header with the planned number
   abbrev pub IsNoneOrMade : Frozen v → Places → Type 0
-  IsNoneOrMade f image = HasNoHeader v image ⊎ (IsNewest v image f.checkpoint.header × v.Stands image f.checkpoint.header f.checkpoint.forest)
+  IsNoneOrMade f image = HasNoHeader v image ⊎ ((h : v.Header) × IsNewest v image h × (v.number h ≡ v.number f.checkpoint.header) × v.Stands image h f.checkpoint.forest)
 
   -- the pieces and the header spell a first volume, on an image that has none
   pub record IsFirstPlan (f : Frozen v) (pieces : List Piece) (place : ℕ) (header : List ℕ) (image : Places) : Type 0 where

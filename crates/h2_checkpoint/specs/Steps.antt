@@ -1,7 +1,8 @@
 -- What the calls of a flush do to where a volume stands.
-use Rattle.std.specs.Prelude.{◌≡◌, ◌⊎◌, ◌≤◌, ℕ, List, [], ◌∷◌, map, drop, length, Result, Ok, Err}
+use Rattle.std.specs.Prelude.{◌≡◌, ◌⊎◌, ◌<◌, ◌≤◌, ◌+◌, ℕ, List, [], ◌∷◌, map, drop, length, Result, Ok, Err}
 use Rattle.h2_num.specs.Places.{Places, InRange, Same}
-use Rattle.h2_disk.specs.Trace.{Trace}
+use Rattle.h2_num.specs.Causes.{one_more}
+use Rattle.h2_disk.specs.Trace.{Trace, IsDurable}
 use Rattle.h2_disk.specs.declared.disk.DiskFault.{DiskFault}
 use Rattle.h2_checkpoint.specs.Slots.{slot_place}
 use Rattle.h2_checkpoint.specs.Format.{Format, IsLawful}
@@ -133,3 +134,32 @@ StepsFlush v pieces place header was now old new result =
     IsLawful v → (start : ℕ) (opening newest : Newest v) (before : Trace) (f : Frozen v) (g : Progress) (marks : List (Mark v.Forest)) → IsPlanOf v f pieces place header
     → StandsAt v start opening before old newest (UnderWay f g (stage_of was pieces)) marks
     → StandsAfter v start opening before newest f marks was (stage_of now pieces) new result
+
+-- which call was made, and which comes next; after a fault the first piece
+abbrev pub Advances : Next → ℕ → Next → Result Stepped DiskFault → Type 0
+Advances was pieces now (Err fault) = now ≡ Pieces 0
+Advances (Pieces k) pieces now (Ok Wrote) = (k < pieces) × (now ≡ Pieces (k + 1))
+Advances (Pieces k) pieces now (Ok Synced) = (pieces ≤ k) × (now ≡ Header)
+Advances (Pieces k) pieces now (Ok Out) = ⊥
+Advances (Pieces k) pieces now (Ok Done) = ⊥
+Advances Header pieces now (Ok Wrote) = ⊥
+Advances Header pieces now (Ok Synced) = ⊥
+Advances Header pieces now (Ok Out) = now ≡ Finish
+Advances Header pieces now (Ok Done) = ⊥
+Advances Finish pieces now (Ok Wrote) = ⊥
+Advances Finish pieces now (Ok Synced) = ⊥
+Advances Finish pieces now (Ok Out) = ⊥
+Advances Finish pieces now (Ok Done) = now ≡ Finish
+
+-- a write moves the moment on by one, a sync by two, and a fault by one
+abbrev pub Ticks : Result Stepped DiskFault → ℕ → ℕ → Type 0
+Ticks (Ok Wrote) old new = new ≡ old + 1
+Ticks (Ok Synced) old new = new ≡ old + 2
+Ticks (Ok Out) old new = new ≡ old + 1
+Ticks (Ok Done) old new = new ≡ old + 2
+Ticks (Err fault) old new = new ≡ one_more old
+
+-- after the last step the image is durable
+abbrev pub EndsDurable : Result Stepped DiskFault → DiskState → Type 0
+EndsDurable (Ok Done) disk = IsDurable disk.trace disk.image
+EndsDurable _ disk = Unit {0}

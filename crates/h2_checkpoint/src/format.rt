@@ -1,4 +1,5 @@
 ghost use Rattle.h2_checkpoint.specs.Runs.{CrashLaw};
+ghost use Rattle.h2_checkpoint.specs.Stands.{CutLaw};
 
 /// A format of volumes, as a type that stands for it: what blocks and headers are, and what an image
 /// with a header stands for.
@@ -13,4 +14,11 @@ pub trait VolumeFormat {
 /// mounts the newest completed checkpoint, or the one whose header was under way.
 pub fn crash_law<V: VolumeFormat>()
     ensures law { CrashLaw V.format }
+{}
+
+/// The law of cuts. Where a volume stands on a disk that was durable at the opening, a cut at any moment
+/// since, by the disk's own trace, leaves an image that mounts the newest completed checkpoint, or the
+/// one whose header was under way.
+pub fn cut_law<V: VolumeFormat>()
+    ensures law { CutLaw V.format }
 {}

@@ -3,10 +3,16 @@
 #![tactic(auto)]
 
 mod disk_calls;
+mod flushing;
 mod format;
+mod new_volume;
 mod next;
 mod piece;
+mod whole_flush;
 
-pub use format::{VolumeFormat, crash_law};
+pub use flushing::Flushing;
+pub use format::{VolumeFormat, crash_law, cut_law};
+pub use new_volume::make;
 pub use next::{Next, Stepped};
 pub use piece::Piece;
+pub use whole_flush::drive;
