@@ -13,24 +13,24 @@ use Rattle.h2_header.specs.declared.header.Header.{Header}
 use Rattle.h2_header.specs.Map.{leaf_place}
 use Rattle.h2_checkpoint.specs.Slots.{IsSlot, InSlot}
 use Rattle.h2_checkpoint.specs.Format.{Reach, by_root, by_child, ReachesByte}
-use Rattle.h2_image.specs.NewVolume.{directory_place, pfs_place, directory_ref, pfs_ref, leaf_ref, map_slot, new_root, new_map, new_header, IsNewVolume}
+use Rattle.h2_image.specs.NewVolume.{directory_place, pfs_place, inode_ref, leaf_ref, map_slot, new_root, new_map, directory_block, pfs_block, leaf_block, IsNewVolume}
 use Rattle.h2_image.specs.VolumeFormat.{IsChild, volume}
 use Rattle.h2_image.specs.VolumeLaws.{directory_valid}
 
 -- a reference of a new volume: to the PFS, to the root directory, to a leaf, or an empty one
 pub data IsPart (image : Places) (zones : ℕ) (r : Ref) : Type 0 where
-  is_pfs : r ≡ pfs_ref image → IsPart image zones r
-  is_directory : r ≡ directory_ref image → IsPart image zones r
-  is_leaf : (zone : ℕ) → zone < zones → r ≡ leaf_ref image zone → IsPart image zones r
+  is_pfs : r ≡ inode_ref pfs_place (pfs_block image) → IsPart image zones r
+  is_directory : r ≡ inode_ref directory_place (directory_block image) → IsPart image zones r
+  is_leaf : (zone : ℕ) → zone < zones → r ≡ leaf_ref zone (leaf_block image zone) → IsPart image zones r
   is_empty : r ≡ empty_ref → IsPart image zones r
 
-slot_part : (image : Places) (zones slot : ℕ) (r : Ref) → map_slot zones image slot ≡ r → IsPart image zones r
+slot_part : (image : Places) (zones slot : ℕ) (r : Ref) → map_slot zones (leaf_block image) slot ≡ r → IsPart image zones r
 slot_part image zones slot r is = elim (cases_lt slot zones) [
   | inl lt ↦ let used : nat_lt slot zones ≡ true = lt-ltb slot zones lt in is_leaf slot lt (sym (rw used at is))
   | inr le ↦ let unused : nat_lt slot zones ≡ false = le-ltb slot zones le in is_empty (sym (rw unused at is))
 ]
 
-root_part : (image : Places) (zones k : ℕ) (r : Ref) → k < 12 → slice_index_or (new_root image ++ new_map zones image) k r ≡ r → IsPart image zones r
+root_part : (image : Places) (zones k : ℕ) (r : Ref) → k < 12 → slice_index_or (new_root (pfs_block image) ++ new_map zones (leaf_block image)) k r ≡ r → IsPart image zones r
 root_part image zones zero r lt is = is_pfs (sym is)
 root_part image zones (suc zero) r lt is = is_empty (sym is)
 root_part image zones (suc (suc zero)) r lt is = is_empty (sym is)
@@ -55,23 +55,23 @@ zeros_are_empty : (s : Ref) (b : Places) → b 0 ≡ 0 → RefBytes s b → s.ki
 zeros_are_empty s b zero_there spelled = kind_of_zero s.kind (sym spelled.fields.kind ∙ zero_there)
 
 -- the PFS has one child, the root directory
-pfs_child : (image : Places) (h : Header) (zones : ℕ) (r s : Ref) → IsNewVolume image h zones → r ≡ pfs_ref image → IsChild r (from_place image r.place) s → s ≡ directory_ref image
+pfs_child : (image : Places) (h : Header) (zones : ℕ) (r s : Ref) → IsNewVolume image h zones → r ≡ inode_ref pfs_place (pfs_block image) → IsChild r (from_place image r.place) s → s ≡ inode_ref directory_place (directory_block image)
 pfs_child image h zones r s v is c = which c.index c.below c.spelled
   where
     place_is : r.place ≡ pfs_place
     place_is = ap (λ (x : Ref). x.place) is
 
-    which : (index : ℕ) → index < 4 → RefBytes s (from_place (from_place image r.place) (512 + 128 * index)) → s ≡ directory_ref image
+    which : (index : ℕ) → index < 4 → RefBytes s (from_place (from_place image r.place) (512 + 128 * index)) → s ≡ inode_ref directory_place (directory_block image)
     which zero lt spelled =
         let here : RefBytes s (from_place (from_place image pfs_place) 512) = subst (λ (p : ℕ). RefBytes s (from_place (from_place image p) 512)) place_is spelled in
-        one_value (directory_ref image) s (from_place (from_place image pfs_place) 512) (directory_valid image) c.valid v.pfs.directory_is here
+        one_value (inode_ref directory_place (directory_block image)) s (from_place (from_place image pfs_place) 512) (directory_valid image) c.valid v.pfs.directory_is here
     which (suc k) lt spelled =
         let e : r.place ≡ pfs_place = place_is in
         let byte : image (r.place + (512 + 128 * suc k + 0)) ≡ 0 = ap image (omega arith) ∙ v.pfs.no_more (512 + 128 * suc k) (omega arith) (omega arith) in
         absurd (c.used (zeros_are_empty s (from_place (from_place image r.place) (512 + 128 * suc k)) byte spelled))
 
 -- the root directory has none
-directory_child : (image : Places) (h : Header) (zones : ℕ) (r s : Ref) → IsNewVolume image h zones → r ≡ directory_ref image → IsChild r (from_place image r.place) s → ⊥
+directory_child : (image : Places) (h : Header) (zones : ℕ) (r s : Ref) → IsNewVolume image h zones → r ≡ inode_ref directory_place (directory_block image) → IsChild r (from_place image r.place) s → ⊥
 directory_child image h zones r s v is c =
     let place_is : r.place ≡ directory_place = ap (λ (x : Ref). x.place) is in
     let below : c.index < 4 = c.below in
@@ -87,7 +87,7 @@ child_part image h zones r s v (is_empty is) c = let kind : r.kind ≡ Empty = a
 -- all that a new volume reaches is a part of it
 pub reached_part : (image : Places) (h : Header) (zones : ℕ) → IsNewVolume image h zones → (r : Ref) → Reach volume image (h.root ++ h.map) r → IsPart image zones r
 reached_part image h zones v _ (by_root r here) =
-    let there : Contains (new_root image ++ new_map zones image) r = subst (λ (x : Header). Contains (x.root ++ x.map) r) v.header here in
+    let there : Contains (new_root (pfs_block image) ++ new_map zones (leaf_block image)) r = subst (λ (x : Header). Contains (x.root ++ x.map) r) v.header here in
     root_part image zones there.0 r there.1 there.2
 reached_part image h zones v _ (by_child r s path child) = child_part image h zones r s v (reached_part image h zones v r path) child
 

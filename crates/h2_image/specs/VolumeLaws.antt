@@ -21,7 +21,7 @@ use Rattle.h2_header.specs.HeaderLaws.{IsHeaderAt-same, one_number}
 use Rattle.h2_header.specs.Map.{zone_place, leaf_place}
 use Rattle.h2_checkpoint.specs.Format.{Reach, by_root, by_child, SameReached, IsLawful}
 use Rattle.h2_image.specs.NewBlocks.{InodeHead, RootDirectoryBytes, RootPfsBytes, SegmentBytes, NewLeafBytes, new_code, new_free}
-use Rattle.h2_image.specs.NewVolume.{directory_place, pfs_place, directory_ref, pfs_ref, leaf_ref, map_slot, new_root, new_map, new_header, IsNewVolume}
+use Rattle.h2_image.specs.NewVolume.{directory_place, pfs_place, inode_ref, leaf_ref, map_slot, new_root, new_map, new_header, directory_block, pfs_block, leaf_block, IsNewVolume}
 use Rattle.h2_image.specs.VolumeFormat.{IsChild, volume}
 
 -- a block of radix 10 has 1024 bytes
@@ -84,78 +84,77 @@ leaf_same zone a b same l segment lt =
 
 -- A volume by its bytes alone
 
--- the blocks of a volume of so many zones are the same in two images
-pub record SameBlocks (zones : ℕ) (a b : Places) : Type 0 where
-  pub directory : SameBelow 1024 (from_place a directory_place) (from_place b directory_place)
-  pub pfs : SameBelow 1024 (from_place a pfs_place) (from_place b pfs_place)
-  pub leaves : (zone : ℕ) → zone < zones → SameBelow 1024 (from_place a (leaf_place zone 0)) (from_place b (leaf_place zone 0))
+inode_ref_same : (place : ℕ) (a b : Places) → SameBelow 1024 a b → inode_ref place b ≡ inode_ref place a
+inode_ref_same place a b same =
+    ap (λ (n : ℕ). record { kind = Inode; key = 1; keybits = 0; place = place; radix = 10; id = 1; check = Xx n }) (xxh64_of-same a b 1024 same)
 
-directory_ref_same : (zones : ℕ) (a b : Places) → SameBlocks zones a b → directory_ref b ≡ directory_ref a
-directory_ref_same zones a b same =
-    ap (λ (n : ℕ). record { kind = Inode; key = 1; keybits = 0; place = directory_place; radix = 10; id = 1; check = Xx n })
-    (xxh64_of-same (from_place a directory_place) (from_place b directory_place) 1024 same.directory)
-
-pfs_ref_same : (zones : ℕ) (a b : Places) → SameBlocks zones a b → pfs_ref b ≡ pfs_ref a
-pfs_ref_same zones a b same =
-    ap (λ (n : ℕ). record { kind = Inode; key = 1; keybits = 0; place = pfs_place; radix = 10; id = 1; check = Xx n })
-    (xxh64_of-same (from_place a pfs_place) (from_place b pfs_place) 1024 same.pfs)
-
-map_slot_same : (zones : ℕ) (a b : Places) → SameBlocks zones a b → (slot : ℕ) → map_slot zones b slot ≡ map_slot zones a slot
+map_slot_same : (zones : ℕ) (a b : ℕ → Places) → ((zone : ℕ) → zone < zones → SameBelow 1024 (a zone) (b zone)) → (slot : ℕ) → map_slot zones b slot ≡ map_slot zones a slot
 map_slot_same zones a b same slot = elim (cases_lt slot zones) [
   | inl lt ↦
       let used : nat_lt slot zones ≡ true = lt-ltb slot zones lt in
       rw used (ap (λ (n : ℕ). record { kind = MapLeaf; key = zone_place slot; keybits = 25; place = leaf_place slot 0; radix = 10; id = 1; check = Crc n })
-      (crc32c_of-same (from_place a (leaf_place slot 0)) (from_place b (leaf_place slot 0)) 1024 (same.leaves slot lt)))
+      (crc32c_of-same (a slot) (b slot) 1024 (same slot lt)))
   | inr le ↦ let unused : nat_lt slot zones ≡ false = le-ltb slot zones le in rw unused refl
 ]
 
-header_same : (zones : ℕ) (a b : Places) → SameBlocks zones a b → new_header zones b ≡ new_header zones a
-header_same zones a b same =
-    let e = map_slot_same zones a b same in
-    rw (pfs_ref_same zones a b same, e 0, e 1, e 2, e 3, e 4, e 5, e 6, e 7) refl
+-- the header of a new volume depends on the bytes of its blocks alone
+pub new_header_same : (zones : ℕ) (p q : Places) (a b : ℕ → Places) → SameBelow 1024 p q → ((zone : ℕ) → zone < zones → SameBelow 1024 (a zone) (b zone))
+    → new_header zones q b ≡ new_header zones p a
+new_header_same zones p q a b same leaves =
+    let e = map_slot_same zones a b leaves in
+    rw (inode_ref_same pfs_place p q same, e 0, e 1, e 2, e 3, e 4, e 5, e 6, e 7) refl
 
-pub new_volume_same : (zones : ℕ) (a b : Places) (h : Header) → SameBlocks zones a b → IsNewVolume a h zones → IsNewVolume b h zones
+-- the blocks of a volume of so many zones are the same in two images
+pub record SameBlocks (zones : ℕ) (a b : Places) : Type 0 where
+  pub directory : SameBelow 1024 (directory_block a) (directory_block b)
+  pub pfs : SameBelow 1024 (pfs_block a) (pfs_block b)
+  pub leaves : (zone : ℕ) → zone < zones → SameBelow 1024 (leaf_block a zone) (leaf_block b zone)
+
+-- the PFS names the directory by its bytes alone
+pub pfs_names_same : (a b p q : Places) → SameBelow 1024 a b → SameBelow 1024 p q → RootPfsBytes (inode_ref directory_place a) p → RootPfsBytes (inode_ref directory_place b) q
+pfs_names_same a b p q same pfs h = subst (λ (r : Ref). RootPfsBytes r q) (sym (inode_ref_same directory_place a b same)) (pfs_same (inode_ref directory_place a) p q pfs h)
+
+new_volume_same : (zones : ℕ) (a b : Places) (h : Header) → SameBlocks zones a b → IsNewVolume a h zones → IsNewVolume b h zones
 new_volume_same zones a b h same v = record {
   count = v.count;
-  header = v.header ∙ sym (header_same zones a b same);
-  directory = directory_same (from_place a directory_place) (from_place b directory_place) same.directory v.directory;
-  pfs = subst (λ (r : Ref). RootPfsBytes r (from_place b pfs_place)) (sym (directory_ref_same zones a b same))
-      (pfs_same (directory_ref a) (from_place a pfs_place) (from_place b pfs_place) same.pfs v.pfs);
-  leaves = λ zone lt. leaf_same zone (from_place a (leaf_place zone 0)) (from_place b (leaf_place zone 0)) (same.leaves zone lt) (v.leaves zone lt);
+  header = v.header ∙ sym (new_header_same zones (pfs_block a) (pfs_block b) (leaf_block a) (leaf_block b) same.pfs same.leaves);
+  directory = directory_same (directory_block a) (directory_block b) same.directory v.directory;
+  pfs = pfs_names_same (directory_block a) (directory_block b) (pfs_block a) (pfs_block b) same.directory same.pfs v.pfs;
+  leaves = λ zone lt. leaf_same zone (leaf_block a zone) (leaf_block b zone) (same.leaves zone lt) (v.leaves zone lt);
 }
 
 -- All its blocks are reached
 
-slot_in_map : (zones : ℕ) (image : Places) (slot : ℕ) → slot < 8 → slice_index_or (new_map zones image) slot (map_slot zones image slot) ≡ map_slot zones image slot
-slot_in_map zones image zero lt = refl
-slot_in_map zones image (suc zero) lt = refl
-slot_in_map zones image (suc (suc zero)) lt = refl
-slot_in_map zones image (suc (suc (suc zero))) lt = refl
-slot_in_map zones image (suc (suc (suc (suc zero)))) lt = refl
-slot_in_map zones image (suc (suc (suc (suc (suc zero))))) lt = refl
-slot_in_map zones image (suc (suc (suc (suc (suc (suc zero)))))) lt = refl
-slot_in_map zones image (suc (suc (suc (suc (suc (suc (suc zero))))))) lt = refl
-slot_in_map zones image (suc (suc (suc (suc (suc (suc (suc (suc k)))))))) lt = absurd (omega arith)
+slot_in_map : (zones : ℕ) (leaves : ℕ → Places) (slot : ℕ) → slot < 8 → slice_index_or (new_map zones leaves) slot (map_slot zones leaves slot) ≡ map_slot zones leaves slot
+slot_in_map zones leaves zero lt = refl
+slot_in_map zones leaves (suc zero) lt = refl
+slot_in_map zones leaves (suc (suc zero)) lt = refl
+slot_in_map zones leaves (suc (suc (suc zero))) lt = refl
+slot_in_map zones leaves (suc (suc (suc (suc zero)))) lt = refl
+slot_in_map zones leaves (suc (suc (suc (suc (suc zero))))) lt = refl
+slot_in_map zones leaves (suc (suc (suc (suc (suc (suc zero)))))) lt = refl
+slot_in_map zones leaves (suc (suc (suc (suc (suc (suc (suc zero))))))) lt = refl
+slot_in_map zones leaves (suc (suc (suc (suc (suc (suc (suc (suc k)))))))) lt = absurd (omega arith)
 
-leaf_in_map : (zones : ℕ) (image : Places) (zone : ℕ) → zone < zones → zone < 8 → Contains (new_map zones image) (leaf_ref image zone)
+leaf_in_map : (zones : ℕ) (image : Places) (zone : ℕ) → zone < zones → zone < 8 → Contains (new_map zones (leaf_block image)) (leaf_ref zone (leaf_block image zone))
 leaf_in_map zones image zone lt below =
     let used : nat_lt zone zones ≡ true = lt-ltb zone zones lt in
-    let is : map_slot zones image zone ≡ leaf_ref image zone = rw used refl in
-    subst (λ (r : Ref). Contains (new_map zones image) r) is (zone, below, slot_in_map zones image zone below)
+    let is : map_slot zones (leaf_block image) zone ≡ leaf_ref zone (leaf_block image zone) = rw used refl in
+    subst (λ (r : Ref). Contains (new_map zones (leaf_block image)) r) is (zone, below, slot_in_map zones (leaf_block image) zone below)
 
 abbrev roots_of : Header → List Ref
 roots_of h = h.root ++ h.map
 
-pfs_reached : (image : Places) (h : Header) (zones : ℕ) → IsNewVolume image h zones → Reach volume image (roots_of h) (pfs_ref image)
-pfs_reached image h zones v = by_root (pfs_ref image) (subst (λ (x : Header). Contains (roots_of x) (pfs_ref image)) (sym v.header) (0, omega arith, refl))
+pfs_reached : (image : Places) (h : Header) (zones : ℕ) → IsNewVolume image h zones → Reach volume image (roots_of h) (inode_ref pfs_place (pfs_block image))
+pfs_reached image h zones v = by_root (inode_ref pfs_place (pfs_block image)) (subst (λ (x : Header). Contains (roots_of x) (inode_ref pfs_place (pfs_block image))) (sym v.header) (0, omega arith, refl))
 
-leaf_reached : (image : Places) (h : Header) (zones : ℕ) → IsNewVolume image h zones → (zone : ℕ) → zone < zones → Reach volume image (roots_of h) (leaf_ref image zone)
+leaf_reached : (image : Places) (h : Header) (zones : ℕ) → IsNewVolume image h zones → (zone : ℕ) → zone < zones → Reach volume image (roots_of h) (leaf_ref zone (leaf_block image zone))
 leaf_reached image h zones v zone lt =
     let most : zones ≤ 8 = v.count.high in
-    by_root (leaf_ref image zone) (subst (λ (x : Header). Contains (roots_of x) (leaf_ref image zone)) (sym v.header)
-    (Contains-append_right (new_root image) (new_map zones image) (leaf_ref image zone) (leaf_in_map zones image zone lt (omega arith))))
+    by_root (leaf_ref zone (leaf_block image zone)) (subst (λ (x : Header). Contains (roots_of x) (leaf_ref zone (leaf_block image zone))) (sym v.header)
+    (Contains-append_right (new_root (pfs_block image)) (new_map zones (leaf_block image)) (leaf_ref zone (leaf_block image zone)) (leaf_in_map zones image zone lt (omega arith))))
 
-pub directory_valid : (image : Places) → IsValid (directory_ref image)
+pub directory_valid : (image : Places) → IsValid (inode_ref directory_place (directory_block image))
 directory_valid image = record {
   keybits = refl;
   key_above = omega arith;
@@ -164,8 +163,8 @@ directory_valid image = record {
   check = xxh64_of-lt (from_place image directory_place) 1024;
 }
 
-directory_reached : (image : Places) (h : Header) (zones : ℕ) → IsNewVolume image h zones → Reach volume image (roots_of h) (directory_ref image)
-directory_reached image h zones v = by_child (pfs_ref image) (directory_ref image) (pfs_reached image h zones v) (record {
+directory_reached : (image : Places) (h : Header) (zones : ℕ) → IsNewVolume image h zones → Reach volume image (roots_of h) (inode_ref directory_place (directory_block image))
+directory_reached image h zones v = by_child (inode_ref pfs_place (pfs_block image)) (inode_ref directory_place (directory_block image)) (pfs_reached image h zones v) (record {
   kind = refl;
   radix = refl;
   check = refl;
@@ -179,9 +178,9 @@ directory_reached image h zones v = by_child (pfs_ref image) (directory_ref imag
 
 pub blocks_same : (image other : Places) (h : Header) (zones : ℕ) → IsNewVolume image h zones → SameReached volume image (roots_of h) other → SameBlocks zones image other
 blocks_same image other h zones v same = record {
-  directory = λ k lt. same (directory_place + k) (directory_ref image, directory_reached image h zones v, (omega arith, omega arith));
-  pfs = λ k lt. same (pfs_place + k) (pfs_ref image, pfs_reached image h zones v, (omega arith, omega arith));
-  leaves = λ zone zone_lt k lt. same (leaf_place zone 0 + k) (leaf_ref image zone, leaf_reached image h zones v zone zone_lt, (omega arith, omega arith));
+  directory = λ k lt. same (directory_place + k) (inode_ref directory_place (directory_block image), directory_reached image h zones v, (omega arith, omega arith));
+  pfs = λ k lt. same (pfs_place + k) (inode_ref pfs_place (pfs_block image), pfs_reached image h zones v, (omega arith, omega arith));
+  leaves = λ zone zone_lt k lt. same (leaf_place zone 0 + k) (leaf_ref zone (leaf_block image zone), leaf_reached image h zones v zone zone_lt, (omega arith, omega arith));
 }
 
 -- the format is lawful
