@@ -1,3 +1,4 @@
 pub mod Decimals
 pub mod Inodes
 pub mod Segments
+pub mod Planned

@@ -1,2 +1,3 @@
 pub mod DecimalNumber
 pub mod CommandLine
+pub mod Planning

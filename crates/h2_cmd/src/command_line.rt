@@ -1,7 +1,8 @@
 ghost use Rattle.std.specs.Prelude.{◌≡◌, ◌↔◌, ℕ, IsTrue, map, MatchOption};
 ghost use Rattle.std.specs.Fmt.{decimal};
 ghost use Rattle.std.specs.String.{string_bytes};
-ghost use Rattle.h2_cmd.specs.CommandLine.{IsZoneCount, Asks, AsksNothing};
+ghost use Rattle.h2_image.specs.NewVolume.{IsZoneCount};
+ghost use Rattle.h2_cmd.specs.CommandLine.{Asks, AsksNothing};
 
 use crate::decimal_number::parse_decimal;
 

@@ -125,22 +125,23 @@ new_volume_same zones a b h same v = record {
 
 -- All its blocks are reached
 
-slot_in_map : (zones : ℕ) (leaves : ℕ → Places) (slot : ℕ) → slot < 8 → slice_index_or (new_map zones leaves) slot (map_slot zones leaves slot) ≡ map_slot zones leaves slot
-slot_in_map zones leaves zero lt = refl
-slot_in_map zones leaves (suc zero) lt = refl
-slot_in_map zones leaves (suc (suc zero)) lt = refl
-slot_in_map zones leaves (suc (suc (suc zero))) lt = refl
-slot_in_map zones leaves (suc (suc (suc (suc zero)))) lt = refl
-slot_in_map zones leaves (suc (suc (suc (suc (suc zero))))) lt = refl
-slot_in_map zones leaves (suc (suc (suc (suc (suc (suc zero)))))) lt = refl
-slot_in_map zones leaves (suc (suc (suc (suc (suc (suc (suc zero))))))) lt = refl
-slot_in_map zones leaves (suc (suc (suc (suc (suc (suc (suc (suc k)))))))) lt = absurd (omega arith)
+-- the map by its slots
+pub slot_in_map : (zones : ℕ) (leaves : ℕ → Places) (slot : ℕ) (d : Ref) → slot < 8 → slice_index_or (new_map zones leaves) slot d ≡ map_slot zones leaves slot
+slot_in_map zones leaves zero d lt = refl
+slot_in_map zones leaves (suc zero) d lt = refl
+slot_in_map zones leaves (suc (suc zero)) d lt = refl
+slot_in_map zones leaves (suc (suc (suc zero))) d lt = refl
+slot_in_map zones leaves (suc (suc (suc (suc zero)))) d lt = refl
+slot_in_map zones leaves (suc (suc (suc (suc (suc zero))))) d lt = refl
+slot_in_map zones leaves (suc (suc (suc (suc (suc (suc zero)))))) d lt = refl
+slot_in_map zones leaves (suc (suc (suc (suc (suc (suc (suc zero))))))) d lt = refl
+slot_in_map zones leaves (suc (suc (suc (suc (suc (suc (suc (suc k)))))))) d lt = absurd (omega arith)
 
 leaf_in_map : (zones : ℕ) (image : Places) (zone : ℕ) → zone < zones → zone < 8 → Contains (new_map zones (leaf_block image)) (leaf_ref zone (leaf_block image zone))
 leaf_in_map zones image zone lt below =
     let used : nat_lt zone zones ≡ true = lt-ltb zone zones lt in
     let is : map_slot zones (leaf_block image) zone ≡ leaf_ref zone (leaf_block image zone) = rw used refl in
-    subst (λ (r : Ref). Contains (new_map zones (leaf_block image)) r) is (zone, below, slot_in_map zones (leaf_block image) zone below)
+    subst (λ (r : Ref). Contains (new_map zones (leaf_block image)) r) is (zone, below, slot_in_map zones (leaf_block image) zone (map_slot zones (leaf_block image) zone) below)
 
 abbrev roots_of : Header → List Ref
 roots_of h = h.root ++ h.map

@@ -1,0 +1,145 @@
+ghost use Rattle.std.specs.Prelude.{◌≡◌, ◌≤◌, ◌<◌, ◌+◌, ◌++◌, ◌∷◌, [], ℕ, IfOk, OnOk, length, slice_index_or};
+ghost use Rattle.h2_num.specs.Places.{places};
+ghost use Rattle.h2_ref.specs.Ref.{IsValid, empty_ref};
+ghost use Rattle.h2_ref.specs.declared.reference.Ref.{Ref};
+ghost use Rattle.h2_header.specs.Map.{leaf_place};
+ghost use Rattle.h2_checkpoint.specs.declared.piece.Piece.{Piece};
+ghost use Rattle.h2_image.specs.NewVolume.{IsZoneCount, inode_ref, leaf_ref, directory_place};
+ghost use Rattle.h2_cmd.specs.Planning.{piece_at, block_at, IsBlockAt, HasInodes, IsLeafPiece, IsPlanned};
+
+use crate::blocks::{SMALL_BLOCK_BYTES, leaf_block, root_directory_block, root_pfs_block};
+use h2_check::{crc32c, xxh64};
+use h2_checkpoint::Piece;
+use h2_header::Header;
+use h2_num::{Bytes, NoMemory};
+use h2_ref::{Check, Kind, Ref};
+use std::alloc::Global;
+
+// The bytes of a zone, and their base-2 logarithm.
+const ZONE_BYTES: u64 = 33554432;
+
+const ZONE_BITS: u8 = 25;
+
+// The first copy of the freemap lies here in each zone.
+const FIRST_COPY: u64 = 65536;
+
+// The two inodes lie in the first chunk that isn't reserved.
+const DIRECTORY_PLACE: u64 = 4194304;
+
+const PFS_PLACE: u64 = 4195328;
+
+// The base-2 logarithm of the bytes of a block of an inode or a leaf.
+const SMALL_RADIX: u8 = 10;
+
+/// What formatting writes: the blocks in order, and then the header.
+#[derive(Drop)]
+pub struct Plan {
+    pub pieces: Vec<Piece>,
+    pub header: Header,
+}
+
+// The reference to the inode with number or id 1 whose block stands at a place.
+fn make_inode_ref(place: u64, block: &[u8; SMALL_BLOCK_BYTES]) -> Ref
+    ensures { result ≡ inode_ref place (places block.now) }
+{
+    Ref {
+        kind: Kind::Inode,
+        key: 1,
+        keybits: 0,
+        place,
+        radix: SMALL_RADIX,
+        id: 1,
+        check: Check::Xx(xxh64(block)),
+    }
+}
+
+// The reference to the leaf of a zone.
+fn make_leaf_ref(zone: u32, block: &[u8; SMALL_BLOCK_BYTES]) -> Ref
+    requires { zone < 8 }
+    ensures { result ≡ leaf_ref zone (places block.now) }
+{
+    Ref {
+        kind: Kind::MapLeaf,
+        key: ZONE_BYTES * zone as u64,
+        keybits: ZONE_BITS,
+        place: ZONE_BYTES * zone as u64 + FIRST_COPY,
+        radix: SMALL_RADIX,
+        id: 1,
+        check: Check::Crc(crc32c(block)),
+    }
+}
+
+// Adds a block to the pieces, or changes nothing.
+fn push_block(
+    alloc: Global,
+    pieces: &mut Vec<Piece>,
+    at: u64,
+    block: &[u8; SMALL_BLOCK_BYTES],
+) -> Result<(), NoMemory>
+    ensures { OnOk result (pieces.new.items ≡ pieces.old.items ++ record { at = at; bytes = block.now } ∷ []) }
+{
+    let bytes = Bytes::from_slice(alloc, block)?;
+    pieces.push(Piece { at, bytes })?;
+    Ok(())
+}
+
+// The pieces of the two inodes, and the reference to the PFS.
+fn plan_inodes(alloc: Global, pieces: &mut Vec<Piece>) -> Result<Ref, NoMemory>
+    requires { pieces.old.items ≡ [] }
+    ensures count { OnOk result (length pieces.new.items ≡ 2) }
+    ensures inodes { OnOk result (HasInodes pieces.new.items) }
+    ensures pfs { IfOk result (λ r. r ≡ inode_ref 4195328 (block_at pieces.new.items 1)) }
+{
+    let directory = root_directory_block();
+    let directory_ref = make_inode_ref(DIRECTORY_PLACE, &directory);
+    let pfs = root_pfs_block(&directory_ref);
+    push_block(alloc, pieces, DIRECTORY_PLACE, &directory)?;
+    push_block(alloc, pieces, PFS_PLACE, &pfs)?;
+    Ok(make_inode_ref(PFS_PLACE, &pfs))
+}
+
+// The piece of the leaf of a zone, and the reference to it.
+fn plan_leaf(alloc: Global, pieces: &mut Vec<Piece>, zone: u32) -> Result<Ref, NoMemory>
+    requires { zone < 8 }
+    ensures { IfOk result (λ r. (piece : Piece) × IsLeafPiece zone piece × (r ≡ leaf_ref zone (places piece.bytes)) × (pieces.new.items ≡ pieces.old.items ++ piece ∷ [])) }
+{
+    let leaf = leaf_block(zone);
+    push_block(alloc, pieces, ZONE_BYTES * zone as u64 + FIRST_COPY, &leaf)?;
+    Ok(make_leaf_ref(zone, &leaf))
+}
+
+// The pieces of the leaves behind those of the two inodes, and the references to them.
+fn plan_leaves(alloc: Global, pieces: &mut Vec<Piece>, zones: u32) -> Result<[Ref; 8], NoMemory>
+    requires zones { zones ≤ 8 }
+    requires count { length pieces.old.items ≡ 2 }
+    ensures count { OnOk result (length pieces.new.items ≡ zones + 2) }
+    ensures front { OnOk result ((i : ℕ) → i < 2 → piece_at pieces.new.items i ≡ piece_at pieces.old.items i) }
+    ensures leaves { OnOk result ((zone : ℕ) → zone < zones → IsLeafPiece zone (piece_at pieces.new.items (zone + 2))) }
+    ensures map { IfOk result (λ map. (zone : ℕ) (d : Ref) → zone < zones → slice_index_or map zone d ≡ leaf_ref zone (block_at pieces.new.items (zone + 2))) }
+    ensures unused { IfOk result (λ map. (slot : ℕ) (d : Ref) → zones ≤ slot → slot < 8 → slice_index_or map slot d ≡ empty_ref) }
+{
+    let mut map = [Ref::empty(); 8];
+    for zone in 0..zones {
+        map[zone as usize] = plan_leaf(alloc, pieces, zone)?;
+    }
+    Ok(map)
+}
+
+/// The blocks and the header of a new volume of so many zones.
+pub fn plan_volume(alloc: Global, zones: u32) -> Result<Plan, NoMemory>
+    requires { IsZoneCount zones }
+    ensures { IfOk result (λ plan. IsPlanned zones plan.pieces.items plan.header) }
+{
+    let mut pieces = Vec::new(alloc);
+    let pfs = plan_inodes(alloc, &mut pieces)?;
+    let map = plan_leaves(alloc, &mut pieces, zones)?;
+    let header = Header {
+        number: 1,
+        zones,
+        map_number: 1,
+        next_pfs: 2,
+        root: [pfs, Ref::empty(), Ref::empty(), Ref::empty()],
+        map,
+    };
+    Ok(Plan { pieces, header })
+}
