@@ -1,11 +1,11 @@
 -- Pieces that are added one after another.
-use Rattle.std.proofs.Common.{◌≡◌, ◌⊎◌, ◌<◌, ◌≤◌, ℕ, zero, suc, ◌+◌, ◌-◌, List, [], ◌∷◌, ◌++◌, length, slice_index_or, slice_set, refl, sym, ap, subst, ◌∙◌, inl, inr, arith}
-use Rattle.std.specs.Prelude.{nat_lt, true, false}
-use Rattle.std.proofs.lemmas.Bool.{cases_lt, lt-ltb, le-ltb}
+use Rattle.std.proofs.Common.{◌≡◌, ◌≢◌, ◌⊎◌, ◌<◌, ◌≤◌, ℕ, zero, suc, ◌+◌, ◌-◌, List, [], ◌∷◌, ◌++◌, length, slice_index_or, slice_set, refl, sym, ap, subst, ◌∙◌, inl, inr, arith}
+use Rattle.std.specs.Prelude.{nat_lt, true, false, All}
+use Rattle.std.proofs.lemmas.Bool.{cases_lt, cases_eq, lt-ltb, le-ltb}
 use Rattle.std.proofs.lemmas.List.{get_or_append_left, get_or-append_right, length-append, get_or-set_same, get_or-set_other, length-set, ext_get_or}
 use Rattle.h2_num.specs.Places.{Places, places}
 use Rattle.h2_ref.specs.declared.reference.Ref.{Ref}
-use Rattle.h2_ref.specs.Ref.{empty_ref}
+use Rattle.h2_ref.specs.Ref.{IsValid, empty_ref}
 use Rattle.h2_checkpoint.specs.declared.piece.Piece.{Piece}
 use Rattle.h2_image.specs.NewBlocks.{RootDirectoryBytes, RootPfsBytes}
 use Rattle.h2_image.specs.NewVolume.{directory_place, pfs_place, IsZoneCount, inode_ref, leaf_ref, map_slot, new_map}
@@ -38,16 +38,18 @@ pub record HasLeaves (first : List Piece) (zones : ℕ) (pieces : List Piece) (m
   pub front : (i : ℕ) → i < 2 → piece_at pieces i ≡ piece_at first i
   pub leaves : (zone : ℕ) → zone < zones → IsLeafPiece zone (piece_at pieces (zone + 2))
   pub used : (zone : ℕ) (d : Ref) → zone < zones → slice_index_or map zone d ≡ leaf_ref zone (block_at pieces (zone + 2))
+  pub valid : All IsValid map
   pub unused : (slot : ℕ) (d : Ref) → zones ≤ slot → slot < 8 → slice_index_or map slot d ≡ empty_ref
 
-pub leaf_planned : (first pieces new : List Piece) (zone : ℕ) (map : List Ref) (p : Piece) (r : Ref) → zone < 8 → HasLeaves first zone pieces map → IsLeafPiece zone p → r ≡ leaf_ref zone (places p.bytes)
+pub leaf_planned : (first pieces new : List Piece) (zone : ℕ) (map : List Ref) (p : Piece) (r : Ref) → zone < 8 → HasLeaves first zone pieces map → IsLeafPiece zone p → r ≡ leaf_ref zone (places p.bytes) → IsValid r
     → new ≡ pieces ++ p ∷ [] → HasLeaves first (zone + 1) new (slice_set map zone r)
-leaf_planned first pieces new zone map p r below h leaf is_ref is = record {
+leaf_planned first pieces new zone map p r below h leaf is_ref good is = record {
   size = length_set;
   count = ap length is ∙ length-append pieces (p ∷ []) ∙ (let n : length pieces ≡ zone + 2 = h.count in omega arith);
   front = λ i lt. ap (λ (l : List Piece). piece_at l i) is ∙ stays pieces p i (let n : length pieces ≡ zone + 2 = h.count in omega arith) ∙ h.front i lt;
   leaves = λ z lt. leaf_at z lt (cases_lt z zone);
   used = λ z d lt. ref_at z d lt (cases_lt z zone);
+  valid = λ k d lt. valid_at k d (let size : length map ≡ 8 = h.size in let now = length-set map zone r in omega arith) (cases_eq k zone);
   unused = λ slot d le lt. get_or-set_other map zone slot r d (omega arith) ∙ h.unused slot d (omega arith) lt;
 }
   where
@@ -62,6 +64,10 @@ leaf_planned first pieces new zone map p r below h leaf is_ref is = record {
 
     here : (z : ℕ) → z ≡ zone → piece_at new (z + 2) ≡ p
     here z same = let e : length pieces ≡ zone + 2 = n in ap (λ (l : List Piece). piece_at l (z + 2)) is ∙ added pieces p (z + 2) (omega arith)
+
+    valid_at : (k : ℕ) (d : Ref) → k < length map → (k ≡ zone) ⊎ (k ≢ zone) → IsValid (slice_index_or (slice_set map zone r) k d)
+    valid_at k d lt (inl same) = subst IsValid (sym (ap (λ (x : ℕ). slice_index_or (slice_set map zone r) x d) same ∙ get_or-set_same map zone r d (let e = same in omega arith))) good
+    valid_at k d lt (inr other) = subst IsValid (sym (get_or-set_other map zone k r d other)) (h.valid k d lt)
 
     leaf_at : (z : ℕ) → z < zone + 1 → (z < zone) ⊎ (zone ≤ z) → IsLeafPiece z (piece_at new (z + 2))
     leaf_at z lt (inl earlier) = subst (IsLeafPiece z) (sym (before z earlier)) (h.leaves z earlier)
@@ -85,6 +91,7 @@ no_leaves pieces e is count = record {
   front = λ i lt. refl;
   leaves = λ zone lt. absurd (omega arith);
   used = λ zone d lt. absurd (omega arith);
+  valid = λ k d lt. subst IsValid (sym (empty_at k d lt ∙ is)) refl;
   unused = λ slot d le lt. empty_at slot d lt ∙ is;
 }
   where
@@ -127,13 +134,14 @@ pub volume_planned : (zones : ℕ) (first pieces : List Piece) (map : List Ref) 
     → ((i : ℕ) → i < 2 → piece_at pieces i ≡ piece_at first i)
     → ((zone : ℕ) → zone < zones → IsLeafPiece zone (piece_at pieces (zone + 2)))
     → ((zone : ℕ) (d : Ref) → zone < zones → slice_index_or map zone d ≡ leaf_ref zone (block_at pieces (zone + 2)))
-    → ((slot : ℕ) (d : Ref) → zones ≤ slot → slot < 8 → slice_index_or map slot d ≡ empty_ref)
+    → All IsValid map → ((slot : ℕ) (d : Ref) → zones ≤ slot → slot < 8 → slice_index_or map slot d ≡ empty_ref)
     → IsPlanned zones pieces (record { number = 1; zones = zones; map_number = 1; next_pfs = 2; root = pfs ∷ e ∷ f ∷ g ∷ []; map = map })
-volume_planned zones first pieces map pfs e f g zone_count size count inodes pfs_is e_is f_is g_is front leaves used unused = record {
+volume_planned zones first pieces map pfs e f g zone_count size count inodes pfs_is e_is f_is g_is front leaves used valid unused = record {
   zone_count = zone_count;
   count = count;
   inodes = inodes_stay first pieces front inodes;
   leaves = leaves;
+  map_valid = valid;
   header = rw (pfs_now, e_is, f_is, g_is, map_is zones map (λ zone. block_at pieces (zone + 2)) size used unused) refl;
 }
   where

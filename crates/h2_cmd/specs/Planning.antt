@@ -1,6 +1,7 @@
 -- The pieces of a new volume, and its header, before they are written.
-use Rattle.std.specs.Prelude.{◌≡◌, ◌<◌, ℕ, ◌+◌, List, [], length, slice_index_or}
+use Rattle.std.specs.Prelude.{◌≡◌, ◌<◌, ℕ, ◌+◌, List, [], length, slice_index_or, All}
 use Rattle.h2_num.specs.Places.{Places, places}
+use Rattle.h2_ref.specs.Ref.{IsValid}
 use Rattle.h2_header.specs.declared.header.Header.{Header}
 use Rattle.h2_header.specs.Map.{leaf_place}
 use Rattle.h2_checkpoint.specs.declared.piece.Piece.{Piece}
@@ -38,4 +39,5 @@ pub record IsPlanned (zones : ℕ) (pieces : List Piece) (h : Header) : Type 0 w
   pub count : length pieces ≡ zones + 2
   pub inodes : HasInodes pieces
   pub leaves : (zone : ℕ) → zone < zones → IsLeafPiece zone (piece_at pieces (zone + 2))
+  pub map_valid : All IsValid h.map
   pub header : h ≡ new_header zones (block_at pieces 1) (λ zone. block_at pieces (zone + 2))

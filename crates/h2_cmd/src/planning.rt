@@ -1,4 +1,4 @@
-ghost use Rattle.std.specs.Prelude.{◌≡◌, ◌≤◌, ◌<◌, ◌+◌, ◌++◌, ◌∷◌, [], ℕ, IfOk, OnOk, length, slice_index_or};
+ghost use Rattle.std.specs.Prelude.{◌≡◌, ◌≤◌, ◌<◌, ◌+◌, ◌++◌, ◌∷◌, [], ℕ, All, IfOk, OnOk, length, slice_index_or};
 ghost use Rattle.h2_num.specs.Places.{places};
 ghost use Rattle.h2_ref.specs.Ref.{IsValid, empty_ref};
 ghost use Rattle.h2_ref.specs.declared.reference.Ref.{Ref};
@@ -56,7 +56,8 @@ fn make_inode_ref(place: u64, block: &[u8; SMALL_BLOCK_BYTES]) -> Ref
 // The reference to the leaf of a zone.
 fn make_leaf_ref(zone: u32, block: &[u8; SMALL_BLOCK_BYTES]) -> Ref
     requires { zone < 8 }
-    ensures { result ≡ leaf_ref zone (places block.now) }
+    ensures is { result ≡ leaf_ref zone (places block.now) }
+    ensures valid { IsValid result }
 {
     Ref {
         kind: Kind::MapLeaf,
@@ -101,7 +102,7 @@ fn plan_inodes(alloc: Global, pieces: &mut Vec<Piece>) -> Result<Ref, NoMemory>
 // The piece of the leaf of a zone, and the reference to it.
 fn plan_leaf(alloc: Global, pieces: &mut Vec<Piece>, zone: u32) -> Result<Ref, NoMemory>
     requires { zone < 8 }
-    ensures { IfOk result (λ r. (piece : Piece) × IsLeafPiece zone piece × (r ≡ leaf_ref zone (places piece.bytes)) × (pieces.new.items ≡ pieces.old.items ++ piece ∷ [])) }
+    ensures { IfOk result (λ r. (piece : Piece) × IsLeafPiece zone piece × (r ≡ leaf_ref zone (places piece.bytes)) × IsValid r × (pieces.new.items ≡ pieces.old.items ++ piece ∷ [])) }
 {
     let leaf = leaf_block(zone);
     push_block(alloc, pieces, ZONE_BYTES * zone as u64 + FIRST_COPY, &leaf)?;
@@ -116,6 +117,7 @@ fn plan_leaves(alloc: Global, pieces: &mut Vec<Piece>, zones: u32) -> Result<[Re
     ensures front { OnOk result ((i : ℕ) → i < 2 → piece_at pieces.new.items i ≡ piece_at pieces.old.items i) }
     ensures leaves { OnOk result ((zone : ℕ) → zone < zones → IsLeafPiece zone (piece_at pieces.new.items (zone + 2))) }
     ensures map { IfOk result (λ map. (zone : ℕ) (d : Ref) → zone < zones → slice_index_or map zone d ≡ leaf_ref zone (block_at pieces.new.items (zone + 2))) }
+    ensures valid { IfOk result (λ map. All IsValid map) }
     ensures unused { IfOk result (λ map. (slot : ℕ) (d : Ref) → zones ≤ slot → slot < 8 → slice_index_or map slot d ≡ empty_ref) }
 {
     let mut map = [Ref::empty(); 8];
