@@ -1,0 +1,4 @@
+pub mod Map
+pub mod Header
+pub mod HeaderLaws
+pub mod Newest

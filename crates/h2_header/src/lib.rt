@@ -1,0 +1,26 @@
+//! Volume headers, and their blocks of 64 KiB.
+//!
+//! A volume has four slots for headers. A checkpoint writes the header of its number into the slot whose
+//! turn it is, and the newest header says what the volume is: its zones, and the references of the
+//! super-root and of the freemap. What a header may hold is one relation (`specs/Header`), the geometry
+//! of its map another (`specs/Map`), and its bytes a third, with a clause for each field and each gap
+//! between (`specs/Header`). A header has one spelling, and a block spells one header at most
+//! (`specs/HeaderLaws`).
+#![tactic(auto)]
+
+mod choosing;
+mod header;
+mod laws;
+mod layout;
+mod reading;
+mod rules;
+mod writing;
+
+pub use choosing::newest;
+pub use header::{HEADER_BYTES, Header, SLOTS};
+pub use laws::header_law;
+pub use reading::read_from;
+pub use writing::write_into;
+
+#[cfg(test)]
+mod tests;

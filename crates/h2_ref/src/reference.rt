@@ -1,0 +1,78 @@
+ghost use Rattle.std.specs.Prelude.{◌≡◌, ◌<◌, ◌↔◌, IsTrue};
+
+use crate::rules::is_valid;
+
+/// What a reference names.
+#[derive(Clone, Copy, Debug, PartialEq, Eq)]
+pub enum Kind {
+    /// Nothing: all its bytes are zero.
+    Empty,
+    /// An inode's block of 1 KiB.
+    Inode,
+    /// The leaf of a zone in the freemap, a block of 1 KiB.
+    MapLeaf,
+}
+
+/// The check of the bytes of a block.
+#[derive(Clone, Copy, Debug, PartialEq, Eq)]
+pub enum Check {
+    /// There is none.
+    Nothing,
+    /// CRC-32C.
+    Crc(u32),
+    /// XXH64 with seed 0.
+    Xx(u64),
+}
+
+/// A reference to a block.
+#[derive(Clone, Copy, Debug, PartialEq, Eq)]
+pub struct Ref {
+    /// What the block is.
+    pub kind: Kind,
+    /// The first key of its range.
+    pub key: u64,
+    /// The base-2 logarithm of the number of keys in its range.
+    pub keybits: u8,
+    /// The place of the block's first byte on the disk.
+    pub place: u64,
+    /// The base-2 logarithm of the block's size in bytes, or 0 where there is no block.
+    pub radix: u8,
+    /// The number of the checkpoint that wrote the block.
+    pub id: u64,
+    /// The check of the block's bytes.
+    pub check: Check,
+}
+
+impl Ref {
+    ghost use Rattle.h2_ref.specs.Ref.{empty_ref, size_of, IsValid};
+
+    /// The empty reference.
+    pub fn empty() -> Ref
+        ensures { result ≡ empty_ref }
+    {
+        Ref {
+            kind: Kind::Empty,
+            key: 0,
+            keybits: 0,
+            place: 0,
+            radix: 0,
+            id: 0,
+            check: Check::Nothing,
+        }
+    }
+
+    /// Whether the rules of its kind hold.
+    pub fn valid(&self) -> bool
+        ensures { IsTrue result ↔ IsValid self.now }
+    {
+        is_valid(self)
+    }
+
+    /// The size of the block in bytes, or 0 where there is no block. The radix is below 32.
+    pub fn size(&self) -> u32
+        requires { self.now.radix < 32 }
+        ensures { result ≡ size_of self.now }
+    {
+        if self.radix == 0 { 0 } else { 1 << self.radix }
+    }
+}
