@@ -22,14 +22,17 @@ even_step a e = rw e refl
 odd_step : (a : ℕ) → a % 2 ≡ 1 → after_bit a ≡ bit_xor (a / 2) polynomial
 odd_step a e = rw e refl
 
+-- the last of three may come second
 swap_last : (a b p : ℕ) → bit_xor (bit_xor a b) p ≡ bit_xor (bit_xor a p) b
 swap_last a b p = xor_assoc a b p ∙ ap (bit_xor a) (xor_comm b p) ∙ sym (xor_assoc a p b)
 
+-- what is xored into both falls out
 twice_gone : (a b p : ℕ) → bit_xor (bit_xor a p) (bit_xor b p) ≡ bit_xor a b
 twice_gone a b p =
     xor_assoc a p (bit_xor b p)
     ∙ ap (bit_xor a) (ap (bit_xor p) (xor_comm b p) ∙ sym (xor_assoc p p b) ∙ ap (λ x. bit_xor x b) (xor_self p) ∙ xor_zero_l b)
 
+-- one bit of a xor is the xor of one bit of each
 pub after_bit-xor : (a b : ℕ) → after_bit (bit_xor a b) ≡ bit_xor (after_bit a) (after_bit b)
 after_bit-xor a b = split (last_bit a) (last_bit b)
   where
@@ -45,6 +48,7 @@ after_bit-xor a b = split (last_bit a) (last_bit b)
     split (inr x) (inl y) = odd_step (bit_xor a b) (last ∙ rw (x, y) refl) ∙ rw (half, odd_step a x, even_step b y) (swap_last (a / 2) (b / 2) polynomial)
     split (inr x) (inr y) = even_step (bit_xor a b) (last ∙ rw (x, y) refl) ∙ half ∙ rw (odd_step a x, odd_step b y) (sym (twice_gone (a / 2) (b / 2) polynomial))
 
+-- so are many bits
 pub after_bits-xor : (a b n : ℕ) → after_bits (bit_xor a b) n ≡ bit_xor (after_bits a n) (after_bits b n)
 unfolding after_bits
 after_bits-xor a b zero = refl

@@ -13,6 +13,7 @@ unfoldable are_entries_from : ℕ → List ℕ → Bool
 are_entries_from place [] = true
 are_entries_from place (x ∷ xs) = nat_eq x (entry_at place) && are_entries_from (suc place) xs
 
+-- what the test says of one entry
 entry_from : (place : ℕ) (xs : List ℕ) (k : ℕ) → are_entries_from place xs ≡ true → k < length xs → get_or xs k 0 ≡ entry_at (place + k)
 unfolding are_entries_from
 entry_from place [] k h lt = absurd (omega arith)
@@ -23,10 +24,12 @@ entry_from place (x ∷ xs) (suc k) h lt =
     let e : place + suc k ≡ suc place + k = omega arith in
     rw e (entry_from (suc place) xs k (and_parts (nat_eq x (entry_at place)) _ h).1 (omega arith))
 
+-- the table passes the test
 table_is_right : are_entries_from 0 TABLE ≡ true
 unfolding are_entries_from after_bits
 table_is_right = refl
 
+-- the entry of a row and a byte
 pub TABLE-at : (row byte : ℕ) → row < 8 → byte < 256 → get_or TABLE (256 * row + byte) 0 ≡ after_bits byte (8 * row + 8)
 TABLE-at row byte row_in byte_in =
     let column : (0 + (256 * row + byte)) % 256 ≡ byte = omega arith in

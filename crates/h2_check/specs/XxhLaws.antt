@@ -7,11 +7,13 @@ use Rattle.h2_num.specs.Places.{Places, SameBelow}
 use Rattle.h2_num.specs.PlaceLaws.{number_same}
 use Rattle.h2_check.specs.Xxh.{Lanes, times, plus, prime2, prime3, lanes_step, lanes_after, eights_after, bytes_after, avalanche, start_of, fours_after, xxh64_of}
 
+-- each part of the check depends on its own bytes alone: the lanes over one step
 lanes_step-same : (v : Lanes) (a b : Places) (at n : ℕ) → at + 32 ≤ n → SameBelow n a b → lanes_step v b at ≡ lanes_step v a at
 unfolding lanes_step
 lanes_step-same v a b at n le same =
     rw (number_same at 8 n a b (omega arith) same, number_same (at + 8) 8 n a b (omega arith) same, number_same (at + 16) 8 n a b (omega arith) same, number_same (at + 24) 8 n a b (omega arith) same) refl
 
+-- the lanes over many steps
 lanes_after-same : (a b : Places) (m n : ℕ) → 32 * m ≤ n → SameBelow n a b → lanes_after b m ≡ lanes_after a m
 unfolding lanes_after
 lanes_after-same a b zero n le same = refl
@@ -19,12 +21,14 @@ lanes_after-same a b (suc m) n le same =
     let before = lanes_after-same a b m n (omega arith) same in
     ap (λ v. lanes_step v b (32 * m)) before ∙ lanes_step-same (lanes_after a m) a b (32 * m) n (omega arith) same
 
+-- the steps of eight bytes
 eights_after-same : (a b : Places) (at h m n : ℕ) → at + 8 * m ≤ n → SameBelow n a b → eights_after b at h m ≡ eights_after a at h m
 unfolding eights_after
 eights_after-same a b at h zero n le same = refl
 eights_after-same a b at h (suc m) n le same =
     rw (eights_after-same a b at h m n (omega arith) same, number_same (at + 8 * m) 8 n a b (omega arith) same) refl
 
+-- the steps of one byte
 bytes_after-same : (a b : Places) (at h m n : ℕ) → at + m ≤ n → SameBelow n a b → bytes_after b at h m ≡ bytes_after a at h m
 unfolding bytes_after
 bytes_after-same a b at h zero n le same = refl
@@ -32,6 +36,7 @@ bytes_after-same a b at h (suc m) n le same =
     let byte : b (at + m) ≡ a (at + m) = same (at + m) (omega arith) in
     rw (bytes_after-same a b at h m n (omega arith) same, byte) refl
 
+-- the step of four bytes
 fours_after-same : (a b : Places) (h n : ℕ) → SameBelow n a b → fours_after b (n / 8 * 8) h n ≡ fours_after a (n / 8 * 8) h n
 unfolding fours_after
 fours_after-same a b h n same = elim (cases_lt (n % 8) 4) [
@@ -39,10 +44,12 @@ fours_after-same a b h n same = elim (cases_lt (n % 8) 4) [
   | inr enough ↦ rw (le-ltb (n % 8) 4 enough, number_same (n / 8 * 8) 4 n a b (omega arith) same) refl
 ]
 
+-- what the lanes join to
 start_of-same : (a b : Places) (n : ℕ) → SameBelow n a b → start_of b n ≡ start_of a n
 unfolding start_of
 start_of-same a b n same = rw (lanes_after-same a b (n / 32) n (omega arith) same) refl
 
+-- so does the check
 pub xxh64_of-same : (a b : Places) (n : ℕ) → SameBelow n a b → xxh64_of b n ≡ xxh64_of a n
 unfolding xxh64_of
 xxh64_of-same a b n same =
@@ -53,10 +60,12 @@ xxh64_of-same a b n same =
       bytes_after-same a b (n / 4 * 4) (fours_after a (n / 8 * 8) (eights_after a (n / 32 * 32) (plus (start_of a n) n) (n % 32 / 8)) n) (n % 4) n (omega arith) same,
     ) refl
 
+-- a product has 64 bits
 times-lt : (a b : ℕ) → times a b < 2 ^ 64
 unfolding times
 times-lt a b = omega arith
 
+-- what the mixing gives has 64 bits
 avalanche-lt : (h : ℕ) → avalanche h < 2 ^ 64
 unfolding avalanche
 avalanche-lt h =

@@ -9,9 +9,9 @@ ghost use Rattle.std.specs.Prelude.{◌<◌};
 
 use h2_check::{crc32c, xxh64};
 use std::alloc::{AllocError, Global};
-use std::env;
 use std::process::ExitCode;
 use std::time::Instant;
+use std::{env, io};
 
 /// The bytes of the buffer that is timed: 64 MiB.
 const BUFFER_BYTES: usize = 67_108_864;
@@ -29,6 +29,27 @@ fn algorithm_named(word: &str) -> Option<Algorithm> {
     match word {
         "crc32c" => Some(Algorithm::Crc32c),
         "xxh64" => Some(Algorithm::Xxh64),
+        _ => None,
+    }
+}
+
+#[derive(Clone, Copy)]
+enum Command {
+    Check,
+    // The bytes of a piece, and how often the buffer is gone over.
+    Time(Algorithm, usize, u32),
+}
+
+// The words of the command line, of which the first is the program's name.
+fn command_of(words: &[String]) -> Option<Command> {
+    match words {
+        [_, command] if command.as_str() == "check" => Some(Command::Check),
+        [_, command, algorithm, piece, passes] if command.as_str() == "time" => {
+            let algorithm = algorithm_named(algorithm.as_str())?;
+            let piece = piece.as_str().parse().ok()?;
+            let passes = passes.as_str().parse().ok()?;
+            Some(Command::Time(algorithm, piece, passes))
+        }
         _ => None,
     }
 }
@@ -77,7 +98,7 @@ fn check_of_pieces(algorithm: Algorithm, bytes: &[u8], piece: usize, start: u64)
     }
 }
 
-fn print_checks_in(rt: &HostRuntime, bytes: &[u8], piece: usize) -> anyhow::Result<()>
+fn print_checks_in(rt: &HostRuntime, bytes: &[u8], piece: usize) -> io::Result<()>
     requires { 0 < piece }
 {
     let crc = check_of_pieces(Algorithm::Crc32c, bytes, piece, 0);
@@ -86,7 +107,7 @@ fn print_checks_in(rt: &HostRuntime, bytes: &[u8], piece: usize) -> anyhow::Resu
     Ok(())
 }
 
-fn print_checks(rt: &HostRuntime) -> anyhow::Result<()> {
+fn print_checks(rt: &HostRuntime) -> io::Result<()> {
     let bytes = sample_bytes(rt.alloc(), SMALL_BUFFER_BYTES)?;
     print_checks_in(rt, &bytes, 65_536)?;
     print_checks_in(rt, &bytes, 1024)?;
@@ -94,12 +115,7 @@ fn print_checks(rt: &HostRuntime) -> anyhow::Result<()> {
     print_checks_in(rt, &bytes, 7)
 }
 
-fn print_time(
-    rt: &HostRuntime,
-    algorithm: Algorithm,
-    piece: usize,
-    passes: u32,
-) -> anyhow::Result<()>
+fn print_time(rt: &HostRuntime, algorithm: Algorithm, piece: usize, passes: u32) -> io::Result<()>
     requires { 0 < piece }
 {
     let bytes = sample_bytes(rt.alloc(), BUFFER_BYTES)?;
@@ -113,22 +129,17 @@ fn print_time(
     Ok(())
 }
 
-fn main(rt: HostRuntime) -> anyhow::Result<ExitCode> {
+fn main(rt: HostRuntime) -> io::Result<ExitCode> {
     let words: Vec<String> = env::args(&rt)?.collect(rt.alloc())?;
-    if words.len() == 2 && words[1].as_str() == "check" {
-        print_checks(&rt)?;
-        return Ok(ExitCode::SUCCESS);
-    }
-    if words.len() == 5 && words[1].as_str() == "time" {
-        let piece: usize = words[3].as_str().parse()?;
-        let passes: u32 = words[4].as_str().parse()?;
-        if let Some(algorithm) = algorithm_named(words[2].as_str()) {
-            if piece > 0 {
-                print_time(&rt, algorithm, piece, passes)?;
-                return Ok(ExitCode::SUCCESS);
-            }
+    match command_of(&words) {
+        Some(Command::Check) => print_checks(&rt)?,
+        Some(Command::Time(algorithm, piece, passes)) if piece > 0 => {
+            print_time(&rt, algorithm, piece, passes)?
+        }
+        _ => {
+            eprintln!(rt; "usage: h2_check_bench check | time crc32c|xxh64 PIECE PASSES")?;
+            return Ok(ExitCode::from(2));
         }
     }
-    eprintln!(rt; "usage: h2_check_bench check | time crc32c|xxh64 PIECE PASSES")?;
-    Ok(ExitCode::from(2))
+    Ok(ExitCode::SUCCESS)
 }
