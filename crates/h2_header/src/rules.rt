@@ -14,8 +14,14 @@ const ZONES_MOST: u32 = 512;
 /// Up to so many zones the slots of the map name leaves.
 const LEAF_ZONES: u32 = 8;
 
-/// Numbers and ids are up to this one, and keys of the super-root below it.
+/// Numbers and ids are up to this one.
 const LAST_NUMBER: u64 = 1 << 62;
+
+/// The keys of the super-root are below this.
+const ROOT_KEYS_END: u64 = 1 << 62;
+
+/// The turns of checkpoints.
+const TURNS: u64 = 4;
 
 /// The bytes of a zone, and their base-2 logarithm.
 const ZONE_BYTES: u64 = 1 << ZONE_BITS;
@@ -32,7 +38,7 @@ pub fn turn_of(number: u64) -> u64
     requires { 1 ≤ number }
     ensures { result ≡ turn_of number }
 {
-    (number - 1) % 4
+    (number - 1) % TURNS
 }
 
 fn has_ranges(h: &Header) -> bool
@@ -60,7 +66,7 @@ fn is_root_ref(r: &Ref) -> bool
     requires { IsValid r.now }
     ensures { IsTrue result ↔ IsRootRef r.now }
 {
-    is_root_kind(r.kind) && r.key < LAST_NUMBER
+    is_root_kind(r.kind) && r.key < ROOT_KEYS_END
 }
 
 fn are_root_refs(refs: &[Ref]) -> bool

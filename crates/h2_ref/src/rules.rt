@@ -9,8 +9,11 @@ const SMALL_RADIX: u8 = 10;
 /// Places and keys of the disk are below this.
 const DISK_BYTES: u64 = 1 << 34;
 
-/// Ids are up to this one, and the keys of inodes below it.
+/// Ids are up to this one.
 const LAST_ID: u64 = 1 << 62;
+
+/// The numbers of inodes, which are their keys, are below this.
+const INODE_END: u64 = 1 << 62;
 
 /// The base-2 logarithm of the bytes of a zone.
 const ZONE_KEYBITS: u8 = 25;
@@ -42,7 +45,7 @@ fn has_small_block(r: &Ref) -> bool
 fn is_inode(r: &Ref) -> bool
     ensures { IsTrue result ↔ IsInodeRef r.now }
 {
-    r.keybits == 0 && r.key > 0 && r.key < LAST_ID && has_small_block(r) && is_xx(r.check)
+    r.keybits == 0 && r.key > 0 && r.key < INODE_END && has_small_block(r) && is_xx(r.check)
 }
 
 fn is_map_leaf(r: &Ref) -> bool
