@@ -1,10 +1,10 @@
 -- The bits of several bytes go in at once: the step of one bit is linear over xor, and zeros fall out.
-use Rattle.std.proofs.Common.{◌≡◌, ◌⊎◌, ℕ, zero, suc, ◌+◌, ◌*◌, ◌/◌, ◌%◌, ◌^◌, ◌<◌, Bool, true, false, ◌==◌, if◌then◌else◌, refl, sym, ap, ◌∙◌, arith, inl, inr}
+use Rattle.std.proofs.Common.{◌≡◌, ◌⊎◌, ℕ, zero, suc, ◌+◌, ◌*◌, ◌/◌, ◌%◌, ◌^◌, ◌<◌, refl, sym, ap, ◌∙◌, arith, inl, inr}
 use Rattle.std.proofs.Math.Nat.{pow-suc}
-use Rattle.std.proofs.lemmas.Nat.{xor_shr, xor_mod, xor_block, xor_comm, xor_lt, pow_pos}
+use Rattle.std.proofs.lemmas.Nat.{xor_shr, xor_mod, xor_block, xor_comm, pow_pos}
 use Rattle.std.specs.Int.Bits.{bit_xor, xor_assoc, xor_self, xor_zero_l, xor_zero_r}
 use Rattle.h2_num.specs.Places.{Places, AreBytes, number_at}
-use Rattle.h2_check.specs.Crc.{after_bit, after_bits, after_byte, register_after}
+use Rattle.h2_check.specs.Crc.{polynomial, after_bit, after_bits, after_byte, register_after}
 
 -- a last bit is 0 or 1
 last_bit : (a : ℕ) → (a % 2 ≡ 0) ⊎ (a % 2 ≡ 1)
@@ -19,7 +19,7 @@ last_bit a = split (a % 2) (omega arith)
 even_step : (a : ℕ) → a % 2 ≡ 0 → after_bit a ≡ a / 2
 even_step a e = rw e refl
 
-odd_step : (a : ℕ) → a % 2 ≡ 1 → after_bit a ≡ bit_xor (a / 2) 2197175160
+odd_step : (a : ℕ) → a % 2 ≡ 1 → after_bit a ≡ bit_xor (a / 2) polynomial
 odd_step a e = rw e refl
 
 swap_last : (a b p : ℕ) → bit_xor (bit_xor a b) p ≡ bit_xor (bit_xor a p) b
@@ -35,13 +35,15 @@ after_bit-xor a b = split (last_bit a) (last_bit b)
   where
     half : bit_xor a b / 2 ≡ bit_xor (a / 2) (b / 2)
     half = xor_shr a b 1
+
     last : bit_xor a b % 2 ≡ bit_xor (a % 2) (b % 2)
     last = xor_mod a b 1
+
     split : (a % 2 ≡ 0) ⊎ (a % 2 ≡ 1) → (b % 2 ≡ 0) ⊎ (b % 2 ≡ 1) → after_bit (bit_xor a b) ≡ bit_xor (after_bit a) (after_bit b)
     split (inl x) (inl y) = even_step (bit_xor a b) (last ∙ rw (x, y) refl) ∙ half ∙ rw (even_step a x, even_step b y) refl
-    split (inl x) (inr y) = odd_step (bit_xor a b) (last ∙ rw (x, y) refl) ∙ rw (half, even_step a x, odd_step b y) (xor_assoc (a / 2) (b / 2) 2197175160)
-    split (inr x) (inl y) = odd_step (bit_xor a b) (last ∙ rw (x, y) refl) ∙ rw (half, odd_step a x, even_step b y) (swap_last (a / 2) (b / 2) 2197175160)
-    split (inr x) (inr y) = even_step (bit_xor a b) (last ∙ rw (x, y) refl) ∙ half ∙ rw (odd_step a x, odd_step b y) (sym (twice_gone (a / 2) (b / 2) 2197175160))
+    split (inl x) (inr y) = odd_step (bit_xor a b) (last ∙ rw (x, y) refl) ∙ rw (half, even_step a x, odd_step b y) (xor_assoc (a / 2) (b / 2) polynomial)
+    split (inr x) (inl y) = odd_step (bit_xor a b) (last ∙ rw (x, y) refl) ∙ rw (half, odd_step a x, even_step b y) (swap_last (a / 2) (b / 2) polynomial)
+    split (inr x) (inr y) = even_step (bit_xor a b) (last ∙ rw (x, y) refl) ∙ half ∙ rw (odd_step a x, odd_step b y) (sym (twice_gone (a / 2) (b / 2) polynomial))
 
 pub after_bits-xor : (a b n : ℕ) → after_bits (bit_xor a b) n ≡ bit_xor (after_bits a n) (after_bits b n)
 unfolding after_bits
@@ -91,9 +93,9 @@ bytes_at_once b at (suc n) bytes =
     let byte : b at < 256 = bytes at in
     let count : 8 * suc n ≡ 8 + 8 * n = omega arith in
     let step : bit_xor (register_after b (suc at)) more ≡ after_bits (bit_xor r (b at + 256 * more)) 8 =
-        ap (bit_xor (after_bits (bit_xor r (b at)) 8)) (sym (zeros_fall_out more 8))
-        ∙ sym (after_bits-xor (bit_xor r (b at)) (more * 256) 8)
-        ∙ ap (λ x. after_bits x 8) (xor_assoc r (b at) (more * 256) ∙ ap (bit_xor r) (beside 8 (b at) more byte)) in
+    ap (bit_xor (after_bits (bit_xor r (b at)) 8)) (sym (zeros_fall_out more 8))
+    ∙ sym (after_bits-xor (bit_xor r (b at)) (more * 256) 8)
+    ∙ ap (λ x. after_bits x 8) (xor_assoc r (b at) (more * 256) ∙ ap (bit_xor r) (beside 8 (b at) more byte)) in
     rw e (bytes_at_once b (suc at) n bytes ∙ ap (λ x. after_bits x (8 * n)) step ∙ sym (after_bits-add (bit_xor r (b at + 256 * more)) 8 (8 * n)) ∙ ap (after_bits (bit_xor r (b at + 256 * more))) (sym count))
 
 -- the lowest byte goes in by itself, and the others are that much further
@@ -123,21 +125,21 @@ four_apart x row lt =
     let c = after_bits (x / 65536 % 256) (8 * (row + 1) + 8) in
     let d = after_bits (x / 16777216 % 256) (8 * row + 8) in
     let step_0 : after_bits x (8 * row + 32) ≡ bit_xor a (after_bits (x / 256) (8 * row + 24)) =
-        ap (after_bits x) bits_0 ∙ lowest_apart x (8 * row + 24) ∙ ap (λ n. bit_xor (after_bits (x % 256) n) (after_bits (x / 256) (8 * row + 24))) first in
+    ap (after_bits x) bits_0 ∙ lowest_apart x (8 * row + 24) ∙ ap (λ n. bit_xor (after_bits (x % 256) n) (after_bits (x / 256) (8 * row + 24))) first in
     let step_1 : after_bits (x / 256) (8 * row + 24) ≡ bit_xor b (after_bits (x / 65536) (8 * row + 16)) =
-        ap (after_bits (x / 256)) bits_1
-        ∙ lowest_apart (x / 256) (8 * row + 16)
-        ∙ ap (λ n. bit_xor (after_bits (x / 256 % 256) n) (after_bits (x / 256 / 256) (8 * row + 16))) second
-        ∙ ap (λ y. bit_xor b (after_bits y (8 * row + 16))) byte_2 in
+    ap (after_bits (x / 256)) bits_1
+    ∙ lowest_apart (x / 256) (8 * row + 16)
+    ∙ ap (λ n. bit_xor (after_bits (x / 256 % 256) n) (after_bits (x / 256 / 256) (8 * row + 16))) second
+    ∙ ap (λ y. bit_xor b (after_bits y (8 * row + 16))) byte_2 in
     let step_2 : after_bits (x / 65536) (8 * row + 16) ≡ bit_xor c d =
-        ap (after_bits (x / 65536)) bits_2
-        ∙ lowest_apart (x / 65536) (8 * row + 8)
-        ∙ ap (λ n. bit_xor (after_bits (x / 65536 % 256) n) (after_bits (x / 65536 / 256) (8 * row + 8))) third
-        ∙ ap (λ y. bit_xor c (after_bits y (8 * row + 8))) byte_3 in
+    ap (after_bits (x / 65536)) bits_2
+    ∙ lowest_apart (x / 65536) (8 * row + 8)
+    ∙ ap (λ n. bit_xor (after_bits (x / 65536 % 256) n) (after_bits (x / 65536 / 256) (8 * row + 8))) third
+    ∙ ap (λ y. bit_xor c (after_bits y (8 * row + 8))) byte_3 in
     step_0 ∙ ap (bit_xor a) (step_1 ∙ ap (bit_xor b) step_2) ∙ ap (bit_xor a) (sym (xor_assoc b c d)) ∙ sym (xor_assoc a (bit_xor b c) d) ∙ ap (λ y. bit_xor y d) (sym (xor_assoc a b c))
 
 -- a number of 64 bits goes in as its two halves
-pub halves_apart : (x : ℕ) → after_bits x 64 ≡ bit_xor (after_bits (x % 2 ^ 32) 64) (after_bits (x / 2 ^ 32) 32)
+pub halves_apart : (x : ℕ) → after_bits x 64 ≡ bit_xor (after_bits (x / 2 ^ 32) 32) (after_bits (x % 2 ^ 32) 64)
 halves_apart x =
     let low = x % 2 ^ 32 in
     let high = x / 2 ^ 32 in
@@ -145,6 +147,7 @@ halves_apart x =
     ap (λ y. after_bits y 64) parts
     ∙ after_bits-xor low (high * 2 ^ 32) 64
     ∙ ap (bit_xor (after_bits low 64)) (after_bits-add (high * 2 ^ 32) 32 32 ∙ ap (λ x. after_bits x 32) (zeros_fall_out high 32))
+    ∙ xor_comm (after_bits low 64) (after_bits high 32)
 
 -- one byte goes in by the entry of the low byte
 pub one_apart : (r byte : ℕ) → byte < 256 → after_byte r byte ≡ bit_xor (after_bits (bit_xor r byte % 256) 8) (r / 256)

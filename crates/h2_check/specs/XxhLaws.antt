@@ -1,11 +1,11 @@
 -- The check depends on the bytes that it covers alone, and is a number of 64 bits.
-use Rattle.std.specs.Prelude.{◌≡◌, ◌<◌, ◌≤◌, ℕ, zero, suc, ◌+◌, ◌*◌, ◌/◌, ◌%◌, ◌^◌, nat_lt, Bool, true, false, cond, refl, bit_xor}
+use Rattle.std.specs.Prelude.{◌≡◌, ◌<◌, ◌≤◌, ℕ, zero, suc, ◌+◌, ◌*◌, ◌/◌, ◌%◌, ◌^◌, refl, bit_xor}
 use Rattle.std.proofs.Common.{ap, ◌∙◌, arith, inl, inr}
 use Rattle.std.proofs.lemmas.Bool.{cases_lt, lt-ltb, le-ltb}
 use Rattle.std.proofs.lemmas.Nat.{xor_lt}
-use Rattle.h2_num.specs.Places.{Places, SameBelow, number_at}
+use Rattle.h2_num.specs.Places.{Places, SameBelow}
 use Rattle.h2_num.specs.PlaceLaws.{number_same}
-use Rattle.h2_check.specs.Xxh.{Lanes, round, times, plus, rotl, prime1, prime2, prime3, prime4, prime5, lanes_step, lanes_after, joined, eights_after, four_step, bytes_after, avalanche, start_of, fours_after, xxh64_of}
+use Rattle.h2_check.specs.Xxh.{Lanes, times, plus, prime2, prime3, lanes_step, lanes_after, eights_after, bytes_after, avalanche, start_of, fours_after, xxh64_of}
 
 lanes_step-same : (v : Lanes) (a b : Places) (at n : ℕ) → at + 32 ≤ n → SameBelow n a b → lanes_step v b at ≡ lanes_step v a at
 unfolding lanes_step

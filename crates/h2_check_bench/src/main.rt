@@ -10,16 +10,14 @@ ghost use Rattle.std.specs.Prelude.{◌<◌};
 use h2_check::{crc32c, xxh64};
 use std::alloc::{AllocError, Global};
 use std::env;
+use std::process::ExitCode;
 use std::time::Instant;
 
-/// The bytes of the buffer that is timed.
+/// The bytes of the buffer that is timed: 64 MiB.
 const BUFFER_BYTES: usize = 67_108_864;
 
 /// The bytes of the buffer of `check`.
 const SMALL_BUFFER_BYTES: usize = 200_000;
-
-/// The sizes of pieces, in bytes, that `check` takes.
-const PIECE_SIZES: [usize; 4] = [65_536, 1024, 63, 7];
 
 #[derive(Clone, Copy)]
 enum Algorithm {
@@ -79,19 +77,29 @@ fn check_of_pieces(algorithm: Algorithm, bytes: &[u8], piece: usize, start: u64)
     }
 }
 
-fn print_checks(rt: &HostRuntime) -> anyhow::Result<()> {
-    let bytes = sample_bytes(rt.alloc(), SMALL_BUFFER_BYTES)?;
-    for piece in PIECE_SIZES {
-        if piece > 0 {
-            let crc = check_of_pieces(Algorithm::Crc32c, &bytes, piece, 0);
-            let xxh = check_of_pieces(Algorithm::Xxh64, &bytes, piece, 0);
-            println!(rt; "{piece} crc32c {crc:016x} xxh64 {xxh:016x}")?;
-        }
-    }
+fn print_checks_in(rt: &HostRuntime, bytes: &[u8], piece: usize) -> anyhow::Result<()>
+    requires { 0 < piece }
+{
+    let crc = check_of_pieces(Algorithm::Crc32c, bytes, piece, 0);
+    let xxh = check_of_pieces(Algorithm::Xxh64, bytes, piece, 0);
+    println!(rt; "{piece} crc32c {crc:016x} xxh64 {xxh:016x}")?;
     Ok(())
 }
 
-fn print_time(rt: &HostRuntime, algorithm: Algorithm, piece: usize, passes: u32) -> anyhow::Result<()>
+fn print_checks(rt: &HostRuntime) -> anyhow::Result<()> {
+    let bytes = sample_bytes(rt.alloc(), SMALL_BUFFER_BYTES)?;
+    print_checks_in(rt, &bytes, 65_536)?;
+    print_checks_in(rt, &bytes, 1024)?;
+    print_checks_in(rt, &bytes, 63)?;
+    print_checks_in(rt, &bytes, 7)
+}
+
+fn print_time(
+    rt: &HostRuntime,
+    algorithm: Algorithm,
+    piece: usize,
+    passes: u32,
+) -> anyhow::Result<()>
     requires { 0 < piece }
 {
     let bytes = sample_bytes(rt.alloc(), BUFFER_BYTES)?;
@@ -105,20 +113,22 @@ fn print_time(rt: &HostRuntime, algorithm: Algorithm, piece: usize, passes: u32)
     Ok(())
 }
 
-fn main(rt: HostRuntime) -> anyhow::Result<()> {
+fn main(rt: HostRuntime) -> anyhow::Result<ExitCode> {
     let words: Vec<String> = env::args(&rt)?.collect(rt.alloc())?;
     if words.len() == 2 && words[1].as_str() == "check" {
-        return print_checks(&rt);
+        print_checks(&rt)?;
+        return Ok(ExitCode::SUCCESS);
     }
     if words.len() == 5 && words[1].as_str() == "time" {
         let piece: usize = words[3].as_str().parse()?;
         let passes: u32 = words[4].as_str().parse()?;
         if let Some(algorithm) = algorithm_named(words[2].as_str()) {
             if piece > 0 {
-                return print_time(&rt, algorithm, piece, passes);
+                print_time(&rt, algorithm, piece, passes)?;
+                return Ok(ExitCode::SUCCESS);
             }
         }
     }
     eprintln!(rt; "usage: h2_check_bench check | time crc32c|xxh64 PIECE PASSES")?;
-    Ok(())
+    Ok(ExitCode::from(2))
 }

@@ -1,2 +1,12 @@
 pub mod Trace
+pub mod TraceLaws
 pub mod Disk
+pub mod Faults
+pub mod Laid
+pub mod Pages
+pub mod Record
+pub mod Sure
+pub mod Cut
+pub mod CutLaws
+pub mod Mem
+pub mod File

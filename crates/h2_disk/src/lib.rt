@@ -4,6 +4,20 @@
 //! cut may leave at each moment is a definition over the trace (`specs/Trace`).
 #![tactic(auto)]
 
+mod choice;
 mod disk;
+mod entry;
+mod file;
+mod mem;
+mod pages;
+mod recording;
+mod sure;
 
+pub use choice::Choice;
 pub use disk::{Disk, DiskFault};
+pub use file::FileDisk;
+pub use mem::MemDisk;
+pub use sure::SureDisk;
+
+#[cfg(test)]
+mod tests;

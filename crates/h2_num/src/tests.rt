@@ -18,7 +18,7 @@ fn fields_lie_low_byte_first(rt: HostRuntime) -> Result<(), Fail> {
     assert_eq!(rt; first_nonzero(&b, 0, 16), Some(1));
     assert_eq!(rt; first_nonzero(&b, 1, 1), None);
     put_bytes(&mut b, 3, b"name");
-    assert_eq!(rt; b[3..7], b"name".as_slice());
+    assert_eq!(rt; &b[3..7], b"name".as_slice());
     clear(&mut b);
     assert_eq!(rt; first_nonzero(&b, 0, 16), None);
     Ok(())

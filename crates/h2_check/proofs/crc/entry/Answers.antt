@@ -1,6 +1,5 @@
 use Rattle.std.proofs.Common.{arith}
 use Rattle.h2_check.proofs.TableLemmas.{TABLE-at}
-use Rattle.h2_check.proofs.Slicing.{lowest_apart}
 use Rattle.h2_check.proofs.crc.entry.Goals as goal
 
 pub returns : goal.returns

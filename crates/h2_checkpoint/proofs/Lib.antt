@@ -1,0 +1,14 @@
+pub mod Parts
+pub mod Steps
+pub mod Landing
+pub mod Runs
+pub mod Overlay
+pub mod Calls
+pub mod Pieces
+pub mod Driving
+pub mod Cuts
+pub mod Making
+pub mod Nexts
+pub mod View
+pub mod Toy
+pub mod Rows

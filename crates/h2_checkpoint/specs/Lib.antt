@@ -1,0 +1,10 @@
+pub mod Slots
+pub mod Format
+pub mod Queue
+pub mod Checkpoint
+pub mod Marks
+pub mod Runs
+pub mod Stands
+pub mod Steps
+pub mod Making
+pub mod Toy

@@ -1,0 +1,50 @@
+-- Where a volume stands on its disk, and what a power cut leaves of it.
+use Rattle.std.specs.Prelude.{◌≡◌, ◌≤◌, ℕ, List}
+use Rattle.h2_num.specs.Places.{Places}
+use Rattle.h2_disk.specs.Trace.{Trace, Opened, Call, after, latest, up_to, LeftAt, KeepsDurable, IsDurable}
+use Rattle.h2_checkpoint.specs.Format.{Format, SameReached, IsLawful}
+use Rattle.h2_checkpoint.specs.Checkpoint.{Newest, base_of, HasOldHeaders}
+use Rattle.h2_checkpoint.specs.Marks.{Mark}
+use Rattle.h2_checkpoint.specs.Runs.{Flush, State, MayBeLeft, Mounts, Survives}
+
+-- what a disk tells of itself at one time
+pub record DiskState : Type 0 where
+  pub image : Places
+  pub moment : ℕ
+  pub trace : Trace
+
+-- a disk by its trait's members
+abbrev pub disk_state : {D : Type 0} → (D → Places) → (D → ℕ) → (D → Trace) → D → DiskState
+disk_state image moment trace disk = record { image = image disk; moment = moment disk; trace = trace disk }
+
+module _ (v : Format) where
+  -- the volume's state after these calls since its opening
+  abbrev pub state_since : Newest v → List Call → Places → ℕ → Newest v → Flush v → List (Mark v.Forest) → State v
+  state_since opening since image moment newest flush marks = record { trace = after since (Opened (base_of v opening)); image = image; moment = moment; newest = newest; flush = flush; marks = marks }
+
+  -- A volume was opened at a moment on a disk with a trace. Since then the disk made calls, and a cut at each moment leaves what may be landed on; this is where the volume stands.
+  pub record StandsAt (start : ℕ) (opening : Newest v) (before : Trace) (disk : DiskState) (newest : Newest v) (flush : Flush v) (marks : List (Mark v.Forest)) : Type 0 where
+    pub since : List Call
+    pub trace_is : disk.trace ≡ after since before
+    pub survives : Survives v start opening (state_since opening since disk.image disk.moment newest flush marks)
+
+  -- A cut at a moment may leave the image of a disk with this trace, where the volume was opened on an image and the disk made calls since: headers are torn into no others, and durable bytes that are written again stay.
+  pub record MayBeCut (opened : Places) (since : List Call) (trace : Trace) (m : ℕ) (image : Places) : Type 0 where
+    pub left : LeftAt trace m image
+    pub headers : HasOldHeaders v (up_to m (after since (Opened opened))) image
+    pub kept : KeepsDurable (up_to m (after since (Opened opened))) image
+
+  -- at each moment from the start to the disk's a cut leaves what mounts a checkpoint that may be landed on
+  pub record CutsMount (start : ℕ) (opening : Newest v) (before : Trace) (disk : DiskState) (marks : List (Mark v.Forest)) : Type 0 where
+    pub since : List Call
+    pub trace_is : disk.trace ≡ after since before
+    pub each : (m : ℕ) (image : Places) → start ≤ m → m ≤ disk.moment → MayBeCut (base_of v opening) since disk.trace m image → Mounts v opening marks m image
+
+  -- The law of cuts: of a disk that was durable at the opening, a cut at any moment since leaves what mounts a checkpoint that may be landed on.
+  abbrev pub CutLaw : Type 0
+  CutLaw = IsLawful v → (start : ℕ) (opening : Newest v) (before : Trace) (disk : DiskState) (newest : Newest v) (flush : Flush v) (marks : List (Mark v.Forest))
+      → IsDurable before (base_of v opening) → latest before ≤ start → StandsAt start opening before disk newest flush marks → CutsMount start opening before disk marks
+
+  -- a property of the blocks that are reached: what holds in each image in which they are the same
+  abbrev pub Locally : (Places → v.Header → v.Forest → Type 0) → Places → v.Header → v.Forest → Type 0
+  Locally P image h forest = (other : Places) → SameReached v image (v.roots h) other → P other h forest

@@ -1,0 +1,9 @@
+use h2_num::Bytes;
+
+/// Bytes that a flush writes to a place of the disk.
+#[derive(Drop)]
+pub struct Piece {
+    /// The place of the first byte.
+    pub at: u64,
+    pub bytes: Bytes,
+}

@@ -1,0 +1,2 @@
+pub mod DecimalNumber
+pub mod CommandLine

@@ -1,0 +1,77 @@
+ghost use Rattle.std.specs.Prelude.{◌≡◌, ◌+◌, ◌-◌, ◌^◌, ◌≤◌, IsOk, IfOk, OnOk, IsTrue, IfErr, length, true};
+ghost use Rattle.h2_num.specs.Places.{places, from_place, SameBelow};
+ghost use Rattle.h2_disk.specs.Trace.{Opened};
+ghost use Rattle.h2_disk.specs.Disk.{Keeps};
+ghost use Rattle.h2_disk.specs.Sure.{sure_image, sure_trace, sure_moment};
+
+use crate::recording::Recording;
+use crate::{Disk, DiskFault};
+use h2_num::NoMemory;
+use std::alloc::Global;
+
+/// A disk in memory that never fails. It takes 16 KiB for each page that was written, and room for a
+/// copy of each write. Want of memory refuses a write or a sync, and so does each from moment
+/// 2^64 - 2 on.
+#[derive(Drop)]
+pub struct SureDisk {
+    recording: Recording,
+}
+
+impl SureDisk {
+    /// An empty disk at moment 0.
+    pub fn new(alloc: Global) -> Result<SureDisk, NoMemory>
+        ensures image { IfOk result (λ disk. sure_image disk ≡ (λ k. 0)) }
+        ensures trace { IfOk result (λ disk. sure_trace disk ≡ Opened (λ k. 0)) }
+        ensures moment { IfOk result (λ disk. sure_moment disk ≡ 0) }
+    {
+        Ok(SureDisk {
+            recording: Recording::new(alloc),
+        })
+    }
+}
+
+impl Disk for SureDisk {
+    ghost tells = { true };
+
+    ghost image = { sure_image };
+
+    ghost trace = { sure_trace };
+
+    ghost faults = { λ disk. 0 };
+
+    ghost moment = { sure_moment };
+
+    ghost moment_fits = { λ disk. disk.recording.fits };
+
+    ghost trace_past = { λ disk. disk.recording.past };
+
+    /// Fills the buffer with the image's bytes from the place on.
+    fn read(&mut self, at: u64, buf: &mut [u8]) -> Result<(), DiskFault>
+        requires { at + length buf.old ≤ 2 ^ 34 }
+        ensures ok { IsOk result }
+        ensures bytes { SameBelow (length buf.new) (from_place (sure_image self.old) at) (places buf.new) }
+        ensures keeps { Keeps (sure_image self.old) (sure_image self.new) (sure_trace self.old) (sure_trace self.new) }
+        ensures time { sure_moment self.new ≡ sure_moment self.old }
+    {
+        self.recording.read(at, buf);
+        Ok(())
+    }
+
+    fn write(&mut self, at: u64, bytes: &[u8]) -> Result<(), DiskFault> {
+        let Ok(()) = self.recording.write(at, bytes) else {
+            return Err(DiskFault::NoMemory);
+        };
+        Ok(())
+    }
+
+    fn sync(&mut self) -> Result<(), DiskFault> {
+        let Ok(()) = self.recording.sync() else {
+            return Err(DiskFault::NoMemory);
+        };
+        Ok(())
+    }
+
+    fn moment(&self) -> u64 {
+        self.recording.moment()
+    }
+}

@@ -1,0 +1,5 @@
+pub mod NewBlocks
+pub mod NewVolume
+pub mod VolumeFormat
+pub mod VolumeLaws
+pub mod NewVolumeLaws
