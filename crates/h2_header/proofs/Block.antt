@@ -1,9 +1,9 @@
 -- The block of a header, put in order.
-use Rattle.std.proofs.Common.{◌≡◌, ◌<◌, ◌≤◌, ℕ, suc, ◌+◌, ◌*◌, List, length, take, slice_index_or, refl, ap, sym, subst, ◌∙◌, arith, inl, inr}
+use Rattle.std.proofs.Common.{◌≡◌, ◌<◌, ◌≤◌, ℕ, ◌+◌, ◌*◌, List, length, take, slice_index_or, refl, ap, sym, ◌∙◌, arith, inl, inr}
 use Rattle.std.specs.Prelude.{slice_index}
 use Rattle.std.proofs.lemmas.Bool.{cases_lt}
 use Rattle.std.proofs.lemmas.List.{get_or-take}
-use Rattle.h2_num.specs.Places.{Places, places, number_at, from_place, SameOutside, SameBelow, ZeroIn, Puts, Lays}
+use Rattle.h2_num.specs.Places.{Places, places, from_place, SameOutside, ZeroIn, Puts, Lays}
 use Rattle.h2_num.specs.PlaceLaws.{number_stays, zeros_stay, zeros_within, outside_both, number_at-same}
 use Rattle.h2_check.specs.Crc.{crc32c_of}
 use Rattle.h2_check.specs.CrcLaws.{crc32c_of-same}

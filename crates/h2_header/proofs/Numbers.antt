@@ -1,7 +1,7 @@
 -- The fields of a header before its references, put from left to right.
-use Rattle.std.proofs.Common.{◌≡◌, ◌<◌, ◌≤◌, ℕ, ◌+◌, length, refl, ap, sym, ◌∙◌, arith}
-use Rattle.std.specs.Prelude.{codes, List}
-use Rattle.h2_num.specs.Places.{Places, places, number_at, SameBelow, SameOutside, ZeroIn, Puts, Lays}
+use Rattle.std.proofs.Common.{◌≡◌, ◌+◌, refl, ap, ◌∙◌, arith}
+use Rattle.std.specs.Prelude.{codes}
+use Rattle.h2_num.specs.Places.{Places, places, number_at, SameBelow, SameOutside, Puts, Lays}
 use Rattle.h2_num.specs.PlaceLaws.{number_stays, outside_both}
 use Rattle.h2_header.specs.Header.{NumberBytes}
 use Rattle.h2_header.specs.declared.header.Header.{Header}

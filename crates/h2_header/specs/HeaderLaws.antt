@@ -1,13 +1,11 @@
 -- The block of a header is seen by its 65536 places alone; it has one spelling, and spells one header at most.
-use Rattle.std.specs.Prelude.{◌≡◌, ◌<◌, ◌≤◌, ℕ, ◌+◌, ◌*◌, ◌-◌, length, List, All, refl}
-use Rattle.std.proofs.Common.{ap, sym, subst, ◌∙◌, arith, inl, inr}
+use Rattle.std.specs.Prelude.{◌≡◌, ◌<◌, ◌≤◌, ℕ, ◌+◌, ◌*◌, ◌-◌, length, List}
+use Rattle.std.proofs.Common.{ap, sym, ◌∙◌, arith, inl, inr}
 use Rattle.std.proofs.lemmas.Bool.{cases_lt}
-use Rattle.h2_num.specs.Places.{Places, AreBytes, number_at, SameBelow, ZeroIn, from_place}
+use Rattle.h2_num.specs.Places.{Places, AreBytes, SameBelow, from_place}
 use Rattle.h2_num.specs.PlaceLaws.{number_same, zeros_same, number_bytes, zero_bytes}
-use Rattle.h2_check.specs.Crc.{crc32c_of}
 use Rattle.h2_check.specs.CrcLaws.{crc32c_of-same}
 use Rattle.h2_ref.specs.declared.reference.Ref.{Ref}
-use Rattle.h2_ref.specs.Ref.{IsValid}
 use Rattle.h2_ref.specs.Set.{RefsBytes}
 use Rattle.h2_ref.specs.SetLaws.{RefsBytes-same, refs_spelling, refs_one}
 use Rattle.h2_header.specs.declared.header.Header.{Header}

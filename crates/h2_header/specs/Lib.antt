@@ -2,3 +2,4 @@ pub mod Map
 pub mod Header
 pub mod HeaderLaws
 pub mod Newest
+pub mod RootLaws

@@ -6,7 +6,10 @@ ghost use Rattle.h2_header.specs.declared.header.Header.{Header};
 /// A law: a header has one spelling, a block spells one header at most, and which one is seen by its
 /// 65536 bytes alone.
 pub fn header_law()
-    ensures one_spelling { (h : Header) (a b : Places) → AreBytes a → AreBytes b → IsHeader h → HeadBytes h a → HeadBytes h b → SameBelow 65536 a b }
-    ensures one_value { (g h : Header) (b : Places) → IsHeader g → IsHeader h → HeadBytes g b → HeadBytes h b → g ≡ h }
-    ensures local { (slot : ℕ) (h : Header) (a b : Places) → SameBelow 65536 a b → IsHeaderAt slot a h → IsHeaderAt slot b h }
+    ensures one_spelling { (h : Header) (a b : Places) → AreBytes a → AreBytes b → IsHeader h
+        → HeadBytes h a → HeadBytes h b → SameBelow 65536 a b }
+    ensures one_value { (g h : Header) (b : Places) → IsHeader g → IsHeader h
+        → HeadBytes g b → HeadBytes h b → g ≡ h }
+    ensures local { (slot : ℕ) (h : Header) (a b : Places) → SameBelow 65536 a b
+        → IsHeaderAt slot a h → IsHeaderAt slot b h }
 {}

@@ -16,6 +16,7 @@ use crate::rules::{is_header, turn_of};
 use h2_num::{first_nonzero, get32, get64};
 use h2_ref::{REF_BYTES, Ref, decode};
 
+/// Whether the block begins with the magic.
 fn has_magic(b: &[u8]) -> bool
     requires { length b.now ≡ 65536 }
     ensures { IsTrue result ↔ SameBelow 8 (places (codes "H2VOLUME")) (places b.now) }
@@ -23,6 +24,7 @@ fn has_magic(b: &[u8]) -> bool
     b.starts_with(MAGIC)
 }
 
+/// Whether the block ends with its check.
 fn has_check(b: &[u8]) -> bool
     requires { length b.now ≡ 65536 }
     ensures { IsTrue result ↔ (number_at (places b.now) 65532 4 ≡ crc32c_of (places b.now) 65532) }
@@ -30,6 +32,7 @@ fn has_check(b: &[u8]) -> bool
     get32(b, CHECK_AT) == check_of(b)
 }
 
+/// Whether zeros stand in the range.
 fn is_zero(b: &[u8], from: usize, to: usize) -> bool
     requires ordered { from ≤ to }
     requires within { to ≤ length b.now }
@@ -65,8 +68,10 @@ fn ref_at(b: &[u8], at: usize) -> Option<Ref>
 /// The N valid references from a place on; None where one isn't spelled.
 fn refs_at<const N: usize>(b: &[u8], at: usize) -> Option<[Ref; N]>
     requires { at + 128 * N ≤ length b.now }
-    ensures found { IfSome result (λ refs. (length refs ≡ N) × All IsValid refs × RefsBytes refs (from_place (places b.now) at)) }
-    ensures none { IfNone result ((refs : List Ref) → length refs ≡ N → All IsValid refs → RefsBytes refs (from_place (places b.now) at) → ⊥) }
+    ensures found { IfSome result (λ refs. (length refs ≡ N) × All IsValid refs
+        × RefsBytes refs (from_place (places b.now) at)) }
+    ensures none { IfNone result ((refs : List Ref) → length refs ≡ N → All IsValid refs
+        → RefsBytes refs (from_place (places b.now) at) → ⊥) }
 {
     let mut refs = [Ref::empty(); N];
     for i in 0..N {

@@ -6,25 +6,34 @@ ghost use Rattle.h2_header.specs.Header.{HasRanges, HasRefs, IsHeader, IsRoot, I
 use crate::header::Header;
 use h2_ref::{Kind, Ref, is_set};
 
-/// The least and the greatest number of zones.
+/// The least number of zones.
 const ZONES_LEAST: u32 = 4;
 
+/// The greatest number of zones.
 const ZONES_MOST: u32 = 512;
 
 /// Up to so many zones the slots of the map name leaves.
 const LEAF_ZONES: u32 = 8;
 
-/// Numbers and ids are up to this one, and keys of the super-root below it.
+/// Numbers and ids are up to this one.
 const LAST_NUMBER: u64 = 1 << 62;
 
-/// The bytes of a zone, and their base-2 logarithm.
-const ZONE_BYTES: u64 = 1 << ZONE_BITS;
+/// The keys of the super-root are below this.
+const ROOT_KEYS_END: u64 = 1 << 62;
 
+/// How many turns checkpoints have.
+const TURNS: u64 = 4;
+
+/// The base-2 logarithm of the bytes of a zone.
 const ZONE_BITS: u8 = 25;
 
-/// The copies of the map begin here in a zone, in bytes, and each takes so many.
+/// The bytes of a zone.
+const ZONE_BYTES: u64 = 1 << ZONE_BITS;
+
+/// Where the copies of the map begin in a zone, in bytes.
 const COPIES_AT: u64 = 65536;
 
+/// The bytes of a copy of the map in a zone.
 const COPY_BYTES: u64 = 16384;
 
 /// The turn of a checkpoint: the slot of its header, and its copy of the map. The number isn't 0.
@@ -32,9 +41,10 @@ pub fn turn_of(number: u64) -> u64
     requires { 1 ≤ number }
     ensures { result ≡ turn_of number }
 {
-    (number - 1) % 4
+    (number - 1) % TURNS
 }
 
+/// Whether the numbers are in their ranges.
 fn has_ranges(h: &Header) -> bool
     ensures { IsTrue result ↔ HasRanges h.now }
 {
@@ -47,6 +57,7 @@ fn has_ranges(h: &Header) -> bool
         && h.next_pfs <= LAST_NUMBER
 }
 
+/// Whether the super-root may hold references of the kind.
 fn is_root_kind(kind: Kind) -> bool
     ensures { IsTrue result ↔ IsRootKind kind }
 {
@@ -56,13 +67,15 @@ fn is_root_kind(kind: Kind) -> bool
     }
 }
 
+/// Whether the super-root may hold the reference.
 fn is_root_ref(r: &Ref) -> bool
     requires { IsValid r.now }
     ensures { IsTrue result ↔ IsRootRef r.now }
 {
-    is_root_kind(r.kind) && r.key < LAST_NUMBER
+    is_root_kind(r.kind) && r.key < ROOT_KEYS_END
 }
 
+/// Whether the super-root may hold each of the references.
 fn are_root_refs(refs: &[Ref]) -> bool
     requires { All IsValid refs.now }
     ensures { IsTrue result ↔ All IsRootRef refs.now }
@@ -75,6 +88,7 @@ fn are_root_refs(refs: &[Ref]) -> bool
     true
 }
 
+/// Whether the references are a super-root.
 fn is_root(refs: &[Ref; 4]) -> bool
     requires { All IsValid refs.now }
     ensures { IsTrue result ↔ IsRoot refs.now }
@@ -110,6 +124,7 @@ fn is_map_slot(zones: u32, number: u64, slot: u32, r: &Ref) -> bool
     }
 }
 
+/// Whether the references are those to the map of a checkpoint.
 fn is_map(zones: u32, number: u64, refs: &[Ref; 8]) -> bool
     requires valid { All IsValid refs.now }
     requires number { 1 ≤ number }

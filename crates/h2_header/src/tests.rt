@@ -131,7 +131,11 @@ fn a_header_is_spelled_both_ways(rt: HostRuntime) -> Result<(), Fail> {
     assert_eq!(rt; block.len(), HEADER_BYTES);
     for slot in 0..4u32 {
         let read = read_from(&block, slot);
-        assert_eq!(rt; read, if slot == 1 { Some(header()) } else { None }, "slot {slot}");
+        assert_eq!(rt;
+            read,
+            if slot == 1 { Some(header()) } else { None },
+            "slot {slot}"
+        );
     }
     let Some(read) = read_from(&block, 1) else {
         return Err("no header")?;
@@ -161,10 +165,7 @@ fn the_greatest_number_is_the_newest(rt: HostRuntime) -> Result<(), Fail> {
         if number == 0 {
             None
         } else {
-            Some(Header {
-                number,
-                ..header()
-            })
+            Some(Header { number, ..header() })
         }
     };
     let rows = [

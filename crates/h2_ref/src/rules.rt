@@ -9,25 +9,30 @@ const SMALL_RADIX: u8 = 10;
 /// Places and keys of the disk are below this.
 const DISK_BYTES: u64 = 1 << 34;
 
-/// Ids are up to this one, and the keys of inodes below it.
+/// Ids are up to this one.
 const LAST_ID: u64 = 1 << 62;
+
+/// The numbers of inodes, which are their keys, are below this.
+const INODE_END: u64 = 1 << 62;
 
 /// The base-2 logarithm of the bytes of a zone.
 const ZONE_KEYBITS: u8 = 25;
 
+/// Whether the check is an XXH64.
 fn is_xx(check: Check) -> bool
     ensures { IsTrue result ↔ IsXx check }
 {
     matches!(check, Check::Xx(_))
 }
 
+/// Whether the check is a CRC-32C.
 fn is_crc(check: Check) -> bool
     ensures { IsTrue result ↔ IsCrc check }
 {
     matches!(check, Check::Crc(_))
 }
 
-// Whether it names a block of 1 KiB.
+/// Whether it names a block of 1 KiB.
 fn has_small_block(r: &Ref) -> bool
     ensures { IsTrue result ↔ HasBlock 10 r.now }
 {
@@ -39,12 +44,14 @@ fn has_small_block(r: &Ref) -> bool
         && r.id <= LAST_ID
 }
 
+/// Whether the rules of an inode's reference hold.
 fn is_inode(r: &Ref) -> bool
     ensures { IsTrue result ↔ IsInodeRef r.now }
 {
-    r.keybits == 0 && r.key > 0 && r.key < LAST_ID && has_small_block(r) && is_xx(r.check)
+    r.keybits == 0 && r.key > 0 && r.key < INODE_END && has_small_block(r) && is_xx(r.check)
 }
 
+/// Whether the rules of a map leaf's reference hold.
 fn is_map_leaf(r: &Ref) -> bool
     ensures { IsTrue result ↔ IsMapLeafRef r.now }
 {

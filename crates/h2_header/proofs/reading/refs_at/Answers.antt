@@ -1,6 +1,5 @@
 use Rattle.std.proofs.Common.{◌≡◌, ◌<◌, length, ◌∙◌, arith, length-set}
 use Rattle.h2_num.specs.Places.{places}
-use Rattle.h2_ref.specs.declared.reference.Ref.{Ref}
 use Rattle.h2_header.proofs.Pieces.{none_there, valid_more, bytes_more}
 use Rattle.h2_header.proofs.reading.refs_at.Goals as goal
 

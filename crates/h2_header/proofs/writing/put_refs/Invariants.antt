@@ -1,4 +1,4 @@
-use Rattle.std.proofs.Common.{◌≡◌, ℕ, ◌<◌, ◌≤◌, ◌*◌, slice_index_or}
+use Rattle.std.proofs.Common.{ℕ, ◌<◌, ◌*◌, slice_index_or}
 use Rattle.h2_num.specs.Places.{places, from_place, SameOutside}
 use Rattle.h2_ref.specs.declared.reference.Ref.{Ref}
 use Rattle.h2_ref.specs.Ref.{RefBytes}
