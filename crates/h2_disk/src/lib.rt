@@ -12,6 +12,7 @@ mod mem;
 mod pages;
 mod recording;
 mod sure;
+mod zeros;
 
 pub use choice::Choice;
 pub use disk::{Disk, DiskFault};
