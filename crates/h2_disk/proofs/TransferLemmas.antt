@@ -9,8 +9,8 @@ use Rattle.h2_num.specs.Places.{places, ZeroIn, SameBelow, SameOutside}
 take_both : (done n : ℕ) (xs : List ℕ) → take (done + n) xs ≡ take done xs ++ take n (drop done xs)
 take_both done n xs =
     sym (take-append-drop done (take (done + n) xs))
-      ∙ ap (λ front. front ++ drop done (take (done + n) xs)) (take-take done (done + n) xs (omega arith))
-      ∙ ap (λ rest. take done xs ++ rest) (drop-take done n xs)
+    ∙ ap (λ front. front ++ drop done (take (done + n) xs)) (take-take done (done + n) xs (omega arith))
+    ∙ ap (λ rest. take done xs ++ rest) (drop-take done n xs)
 
 pub appends-kept : (a b c : Option (List ℕ)) (bytes : List ℕ) → Appends a b bytes → Keeps b c → Appends a c bytes
 appends-kept None b c bytes h k = tt
@@ -37,4 +37,4 @@ consumes-more (Some xs) None c old new done n h same k = absurd h
 consumes-more (Some xs) (Some ys) None old new done n h same k = absurd k
 consumes-more (Some xs) (Some ys) (Some zs) old new done n h same k =
     h ∙ ap (λ rest. take done old ++ rest) k ∙ ap (λ front. front ++ (take n (drop done new) ++ zs)) (sym same)
-      ∙ sym (append_assoc (take done new) (take n (drop done new)) zs) ∙ ap (λ front. front ++ zs) (sym (take_both done n new))
+    ∙ sym (append_assoc (take done new) (take n (drop done new)) zs) ∙ ap (λ front. front ++ zs) (sym (take_both done n new))
