@@ -1,9 +1,9 @@
 -- Bytes are read and laid piece by piece.
-use Rattle.std.proofs.Common.{◌≡◌, ◌≢◌, ◌⊎◌, ℕ, ◌+◌, ◌-◌, ◌/◌, ◌%◌, ◌<◌, ◌≤◌, List, length, take, drop, slice_index, Option, Some, None, IsSome, refl, sym, ap, subst, ◌∙◌, arith, inl, inr}
-use Rattle.std.proofs.lemmas.Bool.{cases_lt, cases_eq}
+use Rattle.std.proofs.Common.{◌≡◌, ◌⊎◌, ℕ, ◌+◌, ◌-◌, ◌<◌, ◌≤◌, List, length, take, drop, slice_index, sym, ap, ◌∙◌, arith, inl, inr}
+use Rattle.std.proofs.lemmas.Bool.{cases_lt}
 use Rattle.std.proofs.lemmas.List.{get_or-take, get_or-drop, length-take, length-drop}
-use Rattle.h2_num.specs.Places.{Places, places, from_place, InRange, Same, SameBelow, SameOutside, Holds, Lays}
-use Rattle.h2_disk.specs.Pages.{byte_in, page_byte, IsTable, HasPages, HasPagesBetween, Fills}
+use Rattle.h2_num.specs.Places.{Places, from_place, SameBelow, Lays}
+use Rattle.h2_disk.specs.Pages.{Fills}
 
 -- one piece after another
 pub pieces_laid : (at done n : ℕ) (bytes : List ℕ) (a b c : Places) → done + n ≤ length bytes → Lays at (take done bytes) a b

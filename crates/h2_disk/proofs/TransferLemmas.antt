@@ -1,10 +1,7 @@
 -- One piece after another of known bytes is read or written.
-use Rattle.std.proofs.Common.{◌≡◌, ℕ, ◌+◌, ◌-◌, ◌<◌, ◌≤◌, ◌⊎◌, List, [], ◌++◌, length, take, drop, slice_index, Option, Some, None, append_assoc, refl, sym, ap, ◌∙◌, arith, inl, inr}
-use Rattle.std.specs.Prelude.{IfSome}
-use Rattle.std.specs.Io.KnownBytes.{Keeps, Appends, Consumes, IsAtEnd}
-use Rattle.std.proofs.lemmas.Bool.{cases_lt}
-use Rattle.std.proofs.lemmas.List.{append-nil, take-append-drop, take-take, drop-take, take_all, length-take, get_or-take, get_or_past, get_or_append_left}
-use Rattle.h2_num.specs.Places.{places, ZeroIn, SameBelow, SameOutside}
+use Rattle.std.proofs.Common.{◌≡◌, ℕ, ◌+◌, List, ◌++◌, take, drop, Option, Some, None, append_assoc, sym, ap, ◌∙◌, arith}
+use Rattle.std.specs.Io.KnownBytes.{Keeps, Appends, Consumes}
+use Rattle.std.proofs.lemmas.List.{take-append-drop, take-take, drop-take}
 
 take_both : (done n : ℕ) (xs : List ℕ) → take (done + n) xs ≡ take done xs ++ take n (drop done xs)
 take_both done n xs =

@@ -4,8 +4,8 @@ use std::test::Fail;
 
 #[test]
 fn a_file_keeps_what_was_written(rt: HostRuntime) -> Result<(), Fail> {
-    let alloc = rt.alloc();
-    let mut disk = FileDisk::new(rt.clone()?, String::from_str(alloc, "image")?);
+    let _ = fs::remove_file(&rt, "image");
+    let mut disk = FileDisk::new(rt.clone()?, String::from_str(rt.alloc(), "image")?);
     assert_eq!(rt; disk.sync(), Ok(()), "nothing is opened yet");
     assert!(rt; fs::read(&rt, "image").is_err());
     disk.write(3, b"abc")?;

@@ -1,4 +1,4 @@
-use Rattle.std.proofs.Common.{ℕ, length, take, sym, subst, arith}
+use Rattle.std.proofs.Common.{ℕ, take, sym, subst, arith}
 use Rattle.std.specs.Io.KnownBytes.{Appends}
 use Rattle.std.proofs.lemmas.List.{length-drop, take_rest}
 use Rattle.h2_disk.proofs.TransferLemmas.{appends-kept, appends-more}
