@@ -1,24 +1,15 @@
 -- What a record holds after one entry more, and what its last write leaves of itself.
-use Rattle.std.proofs.Common.{◌≡◌, ℕ, ◌+◌, ◌-◌, ◌<◌, ◌≤◌, List, [], ◌∷◌, ◌++◌, length, take, get_or, refl, sym, ap, ◌∙◌, arith}
+use Rattle.std.proofs.Common.{◌≡◌, ℕ, ◌+◌, ◌-◌, ◌<◌, ◌≤◌, List, [], ◌∷◌, ◌++◌, length, take, get_or, sym, ap, ◌∙◌, arith}
 use Rattle.std.specs.Prelude.{reverse}
 use Rattle.std.proofs.lemmas.List.{reverse-append, take_more}
 use Rattle.h2_num.specs.Places.{Places}
 use Rattle.h2_disk.specs.Laid.{laid}
 use Rattle.h2_disk.specs.Trace.{Opened}
-use Rattle.h2_disk.specs.Cut.{newest, torn}
+use Rattle.h2_disk.specs.Cut.{torn}
 use Rattle.h2_disk.specs.Record.{image_after, image_of, trace_after, trace_of, StartsWith}
+use Rattle.h2_disk.specs.RecordLaws.{newest-after}
 use Rattle.h2_disk.specs.declared.entry.Entry.{Entry}
-use Rattle.h2_disk.specs.declared.entry.Entry.TheVariants.{Laid, Write, Sync}
-
--- all writes of a record were done
-newest-after : (entries : List Entry) → newest (trace_after entries) ≡ image_after entries
-newest-after [] = refl
-newest-after (Laid at bytes ∷ older) = refl
-newest-after (Write began at bytes ∷ older) = ap (laid at bytes) (newest-after older)
-newest-after (Sync done ∷ older) = refl
-
-pub newest-of : (entries : List Entry) → newest (trace_of entries) ≡ image_of entries
-newest-of entries = newest-after (reverse entries)
+use Rattle.h2_disk.specs.declared.entry.Entry.TheVariants.{Laid, Write}
 
 -- the newest of the first entries
 newest_first : (entries : List Entry) (count : ℕ) (e : Entry) → 0 < count → count ≤ length entries → e ≡ get_or entries (count - 1) e

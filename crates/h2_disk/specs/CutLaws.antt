@@ -3,7 +3,7 @@ use Rattle.std.specs.Prelude.{◌≡◌, ◌≢◌, ◌⊎◌, ◌<◌, ◌≤�
 use Rattle.std.proofs.Common.{ap, sym, ◌∙◌, arith, inl, inr}
 use Rattle.std.proofs.lemmas.Bool.{cases_eq}
 use Rattle.std.proofs.lemmas.List.{length-take, get_or-take, take_all}
-use Rattle.h2_num.specs.Places.{Places, InRange, Holds}
+use Rattle.h2_num.specs.Places.{InRange}
 use Rattle.h2_num.specs.PlaceLaws.{in_range, outside, held}
 use Rattle.h2_disk.specs.Laid.{laid, laid_inside, laid_elsewhere}
 use Rattle.h2_disk.specs.Trace.{Trace, Opened, Wrote, Synced, up_to, durable, IsWritten, IsChanged, LeftAt, KeepsDurable}
@@ -41,6 +41,7 @@ newest_same (Wrote began at bytes t) k same =
     ap (λ b. laid at b (newest t) k) (sym whole) ∙ laid_same (length bytes) began at bytes t k same (newest_same t k (λ c. same (inr c)))
 newest_same (Synced done image t) k same = refl
 
+-- a byte that no write was to change is durable after a cut by any choice
 pub cut_same : (choice : Choice) (t : Trace) (k : ℕ) → (IsChanged t k → ⊥) → image_cut choice t k ≡ durable t k
 cut_same Old t k same = refl
 cut_same New t k same = newest_same t k same

@@ -8,5 +8,6 @@ pub mod Record
 pub mod Sure
 pub mod Cut
 pub mod CutLaws
+pub mod RecordLaws
 pub mod Mem
 pub mod File

@@ -16,6 +16,7 @@ mem_image disk = image_of disk.recording.entries.items
 abbrev pub mem_trace : MemDisk → Trace
 mem_trace disk = trace_of disk.recording.entries.items
 
+-- the writes and syncs begun, and the syncs that succeeded
 abbrev pub mem_moment : MemDisk → ℕ
 mem_moment disk = disk.recording.moment
 

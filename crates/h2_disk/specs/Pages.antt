@@ -1,5 +1,5 @@
 -- Bytes by their places, kept in pages of 16 KiB that lie one after another in one vector.
-use Rattle.std.specs.Prelude.{◌≡◌, ◌≢◌, ◌<◌, ◌≤◌, ℕ, ◌+◌, ◌/◌, ◌%◌, List, slice_index, length, Option, None, Some, IsSome}
+use Rattle.std.specs.Prelude.{◌≡◌, ◌≢◌, ◌<◌, ◌≤◌, ℕ, ◌+◌, ◌/◌, ◌%◌, List, slice_index, Option, None, Some, IsSome}
 use Rattle.h2_num.specs.Places.{Places, InRange, SameOutside}
 
 -- a byte of the page that begins at a place of the vector; a page that isn't kept is zeros

@@ -13,5 +13,6 @@ sure_image disk = image_of disk.recording.entries.items
 abbrev pub sure_trace : SureDisk → Trace
 sure_trace disk = trace_of disk.recording.entries.items
 
+-- the writes and syncs begun, and the syncs that succeeded
 abbrev pub sure_moment : SureDisk → ℕ
 sure_moment disk = disk.recording.moment

@@ -1,9 +1,10 @@
 ghost use Rattle.std.specs.Prelude.{◌≡◌, ◌+◌, ◌/◌, ◌%◌, ◌^◌, ◌≤◌, ◌<◌, ℕ, length, vec_len, OnOk, IsSome};
 ghost use Rattle.std.specs.Ordering.{nat_cmp};
 ghost use Rattle.std.specs.BTreeMap.{get};
-ghost use Rattle.h2_num.specs.Places.{Places, places, from_place, Same, SameBelow, SameOutside, ZeroIn, Lays};
+ghost use Rattle.h2_num.specs.Places.{Places, places, from_place, Same, SameBelow, Lays};
 ghost use Rattle.h2_disk.specs.Pages.{IsTable, page_byte, HasPages, HasPagesBetween, Fills};
 
+use crate::zeros::clear_range;
 use h2_num::{NoMemory, put_bytes};
 use std::alloc::Global;
 use std::collections::BTreeMap;
@@ -57,7 +58,7 @@ impl Pages {
                 let place = start + offset;
                 put_bytes(buf, from, &self.bytes[place..place + n]);
             }
-            None => clear_piece(buf, from, n),
+            None => clear_range(buf, from, n),
         }
     }
 
@@ -139,15 +140,4 @@ fn piece_len(at: u64, rest: usize) -> usize
     ensures some { 0 < rest → 0 < result }
 {
     rest.min((PAGE_BYTES - at % PAGE_BYTES) as usize)
-}
-
-// Zeros in n places, from one on.
-fn clear_piece(buf: &mut [u8], from: usize, n: usize)
-    requires { from + n ≤ length buf.old }
-    ensures zeros { ZeroIn from (from + n) (places buf.new) }
-    ensures others { SameOutside from n (places buf.old) (places buf.new) }
-{
-    for k in from..from + n {
-        buf[k] = 0;
-    }
 }

@@ -46,7 +46,9 @@ impl Recording {
     }
 
     /// The allocator.
-    pub fn alloc(&self) -> Global {
+    pub fn alloc(&self) -> Global
+        ensures { result ≡ self.now.alloc }
+    {
         self.alloc
     }
 

@@ -4,10 +4,10 @@ use std::test::Fail;
 
 #[test]
 fn a_file_keeps_what_was_written(rt: HostRuntime) -> Result<(), Fail> {
-    let alloc = rt.alloc();
-    let mut disk = FileDisk::new(rt.clone()?, String::from_str(alloc, "image")?);
+    let _ = fs::remove_file(&rt, "disk.img");
+    let mut disk = FileDisk::new(rt.clone()?, String::from_str(rt.alloc(), "disk.img")?);
     assert_eq!(rt; disk.sync(), Ok(()), "nothing is opened yet");
-    assert!(rt; fs::read(&rt, "image").is_err());
+    assert!(rt; fs::read(&rt, "disk.img").is_err());
     disk.write(3, b"abc")?;
     disk.sync()?;
     assert_eq!(rt; disk.moment(), 5);
@@ -16,7 +16,11 @@ fn a_file_keeps_what_was_written(rt: HostRuntime) -> Result<(), Fail> {
     assert_eq!(rt; buf.as_slice(), b"\0\0abc\0\0\0".as_slice());
     disk.read(1 << 33, &mut buf)?;
     assert_eq!(rt; buf, [0; 8]);
-    assert_eq!(rt; fs::read(&rt, "image")?.as_slice(), b"\0\0\0abc".as_slice());
+    assert_eq!(rt;
+        fs::read(&rt, "disk.img")?.as_slice(),
+        b"\0\0\0abc".as_slice()
+    );
+    fs::remove_file(&rt, "disk.img")?;
     Ok(())
 }
 

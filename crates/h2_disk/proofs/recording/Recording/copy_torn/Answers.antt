@@ -1,4 +1,4 @@
-use Rattle.std.proofs.Common.{◌≡◌, ◌-◌, sym, ap, ◌∙◌, subst, take, get_or, arith}
+use Rattle.std.proofs.Common.{◌-◌, sym, ap, ◌∙◌, subst, take, get_or, arith}
 use Rattle.h2_num.specs.Places.{Places}
 use Rattle.h2_disk.specs.Laid.{laid}
 use Rattle.h2_disk.specs.Record.{image_of, StartsWith}

@@ -1,10 +1,10 @@
-use Rattle.std.proofs.Common.{◌≡◌, sym, ap, ◌∙◌, subst, take}
+use Rattle.std.proofs.Common.{sym, ap, ◌∙◌, subst, take}
 use Rattle.std.specs.Prelude.{IfOk}
 use Rattle.h2_num.specs.Places.{Places}
 use Rattle.h2_disk.specs.Trace.{up_to}
 use Rattle.h2_disk.specs.Cut.{newest, image_cut}
-use Rattle.h2_disk.specs.Record.{image_of, trace_of, StartsWith}
-use Rattle.h2_disk.proofs.RecordLemmas.{newest-of}
+use Rattle.h2_disk.specs.Record.{trace_of, StartsWith}
+use Rattle.h2_disk.specs.RecordLaws.{newest-of}
 use Rattle.h2_disk.proofs.recording.Recording.cut.Goals as goal
 
 pub returns-in-New : goal.returns-in-New

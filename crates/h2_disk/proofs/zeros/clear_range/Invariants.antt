@@ -1,6 +1,6 @@
 use Rattle.h2_num.specs.Places.{places, SameOutside, ZeroIn}
 use Rattle.std.proofs.Common.{◌-◌}
-use Rattle.h2_disk.proofs.pages.clear_piece.Given as goal
+use Rattle.h2_disk.proofs.zeros.clear_range.Given as goal
 
 abbrev pub invariant-loop-k : goal.invariant-loop-k
 invariant-loop-k l = record {
