@@ -16,3 +16,6 @@ pub use new_volume::make;
 pub use next::{Next, Stepped};
 pub use piece::Piece;
 pub use whole_flush::drive;
+
+#[cfg(test)]
+mod tests;
