@@ -1,7 +1,7 @@
 ghost use Rattle.std.specs.Prelude.{◌≡◌, ◌≤◌, ◌+◌, ◌^◌, ℕ, length, IsTrue, IfErr, OnOk, OnErr, All};
 ghost use Rattle.h2_num.specs.Places.{Same, SameOutside};
 ghost use Rattle.h2_num.specs.Causes.{one_more};
-ghost use Rattle.h2_disk.specs.Disk.{HasCause, Syncs, Writes};
+ghost use Rattle.h2_disk.specs.Disk.{HasCause, Keeps, Syncs, Writes};
 ghost use Rattle.h2_checkpoint.specs.Queue.{InEntries, overlay_all};
 ghost use Rattle.h2_checkpoint.specs.Stands.{disk_state};
 ghost use Rattle.h2_checkpoint.specs.Steps.{queue_of, WritesPieces, FailsToWritePieces, SecuresBlocks, FailsToSync, SendsHeader, FailsToSend, CompletesCheckpoint};
@@ -36,6 +36,20 @@ pub(crate) fn write_pieces<D: Disk, V: VolumeFormat>(
     Ok(())
 }
 
+// Makes all that was written durable.
+fn settle<D: Disk>(disk: &mut D) -> Result<(), DiskFault>
+    ensures synced { OnOk result (IsTrue D.tells → Syncs (D.moment disk.new)
+        (D.image disk.old) (D.image disk.new) (D.trace disk.old) (D.trace disk.new)) }
+    ensures failed { OnErr result (IsTrue D.tells → Keeps
+        (D.image disk.old) (D.image disk.new) (D.trace disk.old) (D.trace disk.new)) }
+    ensures time { OnOk result (D.moment disk.new ≡ D.moment disk.old + 2) }
+    ensures time_failed { OnErr result (D.moment disk.new ≡ one_more (D.moment disk.old)) }
+    ensures later { D.faults disk.old ≤ D.faults disk.new }
+    ensures cause { IfErr result (λ fault. HasCause (D.faults disk.old) (D.faults disk.new) fault) }
+{
+    disk.sync()
+}
+
 // Makes the pieces that were written durable.
 pub(crate) fn sync_blocks<D: Disk, V: VolumeFormat>(disk: &mut D) -> Result<(), DiskFault>
     ensures secures { OnOk result (IsTrue D.tells → SecuresBlocks V.format
@@ -48,7 +62,7 @@ pub(crate) fn sync_blocks<D: Disk, V: VolumeFormat>(disk: &mut D) -> Result<(), 
     ensures later { D.faults disk.old ≤ D.faults disk.new }
     ensures cause { IfErr result (λ fault. HasCause (D.faults disk.old) (D.faults disk.new) fault) }
 {
-    if let Err(fault) = disk.sync() {
+    if let Err(fault) = settle(disk) {
         return Err(fault);
     }
     Ok(())
@@ -93,7 +107,7 @@ pub(crate) fn sync_header<D: Disk, V: VolumeFormat>(disk: &mut D) -> Result<(), 
     ensures later { D.faults disk.old ≤ D.faults disk.new }
     ensures cause { IfErr result (λ fault. HasCause (D.faults disk.old) (D.faults disk.new) fault) }
 {
-    if let Err(fault) = disk.sync() {
+    if let Err(fault) = settle(disk) {
         return Err(fault);
     }
     Ok(())

@@ -1,4 +1,5 @@
 ghost use Rattle.std.specs.Prelude.{◌≡◌, ◌+◌, ◌≤◌, ◌^◌, length, IfOk, All};
+ghost use Rattle.h2_checkpoint.specs.Fits.{FitsDisk};
 
 use super::*;
 use h2_disk::{Choice, Disk, DiskFault, MemDisk};
@@ -48,19 +49,24 @@ fn seen(disk: &mut MemDisk) -> Result<(u8, u8), DiskFault> {
     Ok((number[0], byte[0]))
 }
 
+// A disk on which the volume was made.
+fn made(alloc: Global) -> Result<MemDisk, Fail> {
+    let mut disk = MemDisk::new(alloc, Vec::new(alloc), Vec::new(alloc))?;
+    let pieces = block(alloc)?;
+    let header = first_header(alloc)?;
+    make::<MemDisk, Toy>(&mut disk, pieces.as_slice(), 0, header.as_slice())?;
+    Ok(disk)
+}
+
 // The block's write begins at moment 1, its sync at 2 and is done at 3; the header's write begins at 4,
 // its sync at 5 and is done at 6.
 #[test]
 fn a_cut_leaves_no_header_or_all(rt: HostRuntime) -> Result<(), Fail> {
     crash_law::<Toy>();
     cut_law::<Toy>();
-    let alloc = rt.alloc();
-    let mut disk = MemDisk::new(alloc, Vec::new(alloc), Vec::new(alloc))?;
-    let pieces = block(alloc)?;
-    let header = first_header(alloc)?;
-    assert_eq!(rt; make::<MemDisk, Toy>(&mut disk, pieces.as_slice(), 0, header.as_slice()), Ok(()));
+    let mut disk = made(rt.alloc())?;
     assert_eq!(rt; disk.moment(), 6);
-    assert_eq!(rt; seen(&mut disk), Ok((1, 7)));
+    assert_eq!(rt; seen(&mut disk)?, (1, 7));
     let cuts = [
         (0, Choice::New, (0, 0)),
         (1, Choice::Old, (0, 0)),
@@ -74,9 +80,30 @@ fn a_cut_leaves_no_header_or_all(rt: HostRuntime) -> Result<(), Fail> {
     ];
     for (moment, choice, left) in cuts {
         let mut cut = disk.cut(moment, choice)?;
-        assert_eq!(rt; seen(&mut cut), Ok(left), "cut at {moment}");
+        assert_eq!(rt; seen(&mut cut)?, left, "cut at {moment}");
     }
     Ok(())
+}
+
+// A flush of the block and the first header.
+fn flush(alloc: Global) -> Result<Flushing, NoMemory>
+    ensures { IfOk result FitsDisk }
+{
+    Ok(Flushing {
+        pieces: block(alloc)?,
+        place: 0,
+        header: first_header(alloc)?,
+        next: Next::Pieces(0),
+    })
+}
+
+// A step's answer, what comes next, and the disk's moment.
+fn stepped(flush: &mut Flushing, disk: &mut MemDisk) -> (Result<Stepped, DiskFault>, Next, u64)
+    requires { FitsDisk flush.old }
+    ensures { FitsDisk flush.new }
+{
+    let answer = flush.step::<MemDisk, Toy>(disk);
+    (answer, flush.next, disk.moment())
 }
 
 // A header's sync at moment 5 fails, and the flush is made again from its first piece.
@@ -84,12 +111,7 @@ fn a_cut_leaves_no_header_or_all(rt: HostRuntime) -> Result<(), Fail> {
 fn a_fault_sets_the_flush_back(rt: HostRuntime) -> Result<(), Fail> {
     let alloc = rt.alloc();
     let mut disk = MemDisk::new(alloc, vec![in alloc; 5]?, Vec::new(alloc))?;
-    let mut flush = Flushing {
-        pieces: block(alloc)?,
-        place: 0,
-        header: first_header(alloc)?,
-        next: Next::Pieces(0),
-    };
+    let mut flush = flush(alloc)?;
     let steps = [
         (Ok(Stepped::Wrote), Next::Pieces(1), 1),
         (Ok(Stepped::Synced), Next::Header, 3),
@@ -100,11 +122,9 @@ fn a_fault_sets_the_flush_back(rt: HostRuntime) -> Result<(), Fail> {
         (Ok(Stepped::Out), Next::Finish, 9),
         (Ok(Stepped::Done), Next::Finish, 11),
     ];
-    for (answer, next, moment) in steps {
-        assert_eq!(rt; flush.step::<MemDisk, Toy>(&mut disk), answer);
-        assert_eq!(rt; flush.next, next);
-        assert_eq!(rt; disk.moment(), moment);
+    for step in steps {
+        assert_eq!(rt; stepped(&mut flush, &mut disk), step);
     }
-    assert_eq!(rt; seen(&mut disk), Ok((1, 7)));
+    assert_eq!(rt; seen(&mut disk)?, (1, 7));
     Ok(())
 }
