@@ -1,11 +1,11 @@
 -- A whole flush from the relations of its calls.
-use Rattle.std.proofs.Common.{◌≡◌, ◌⊎◌, ◌≤◌, ℕ, List, [], ◌∷◌, length, refl, sym, ◌∙◌, subst, inl, inr, arith}
-use Rattle.h2_num.specs.Places.{Holds, InRange, Places, Same, SameOutside}
+use Rattle.std.proofs.Common.{◌≡◌, ◌≤◌, ℕ, List, [], ◌∷◌, length, refl, sym, ◌∙◌, subst, inl, inr, arith}
+use Rattle.h2_num.specs.Places.{Holds, Places, Same, SameOutside}
 use Rattle.h2_num.specs.PlaceLaws.{outside}
 use Rattle.h2_disk.specs.Trace.{IsDurable, Synced, Trace}
-use Rattle.h2_checkpoint.specs.Format.{Format, IsLawful}
-use Rattle.h2_checkpoint.specs.Queue.{Entry, InEntries, overlay, overlay_all}
-use Rattle.h2_checkpoint.specs.Checkpoint.{Blocks_synced, Frozen, Header_written, Newest, Progress, Sent, Writing, progress_after_sync}
+use Rattle.h2_checkpoint.specs.Format.{Format}
+use Rattle.h2_checkpoint.specs.Queue.{Entry, InEntries, overlay_all}
+use Rattle.h2_checkpoint.specs.Checkpoint.{Frozen, Header_written, Newest, Progress, Sent, Writing, progress_after_sync}
 use Rattle.h2_checkpoint.specs.Marks.{Header_done, Header_out, Mark}
 use Rattle.h2_checkpoint.specs.Runs.{UnderWay}
 use Rattle.h2_checkpoint.specs.Stands.{DiskState, StandsAt}

@@ -1,7 +1,5 @@
 -- What the proofs of several steps share.
-use Rattle.std.proofs.Common.{◌≡◌, ◌≢◌, ◌⊎◌, ◌<◌, ◌≤◌, ℕ, zero, suc, ◌+◌, ◌-◌, ◌*◌, List, length, sym, ap, ◌∙◌, inl, inr, arith}
-use Rattle.std.specs.Prelude.{slice_index}
-use Rattle.std.proofs.lemmas.Bool.{cases_lt, cases_eq}
+use Rattle.std.proofs.Common.{◌≡◌, ◌≢◌, ◌⊎◌, ◌<◌, ◌≤◌, ℕ, suc, ◌+◌, length, inl, inr, arith}
 use Rattle.h2_num.specs.Places.{InRange, Places}
 use Rattle.h2_num.specs.PlaceLaws.{in_range}
 use Rattle.h2_disk.specs.Trace.{IsChanged, IsWritten, KeepsDurable, MayLeave, Opened, Synced, Trace, Wrote, durable}

@@ -10,7 +10,7 @@ use crate::format::VolumeFormat;
 use crate::piece::Piece;
 use h2_disk::{Disk, DiskFault};
 
-// Writes the pieces in their order.
+/// Writes the pieces in their order.
 pub(crate) fn write_pieces<D: Disk, V: VolumeFormat>(
     disk: &mut D,
     pieces: &[Piece],
@@ -50,7 +50,7 @@ fn settle<D: Disk>(disk: &mut D) -> Result<(), DiskFault>
     disk.sync()
 }
 
-// Makes the pieces that were written durable.
+/// Makes the pieces that were written durable.
 pub(crate) fn sync_blocks<D: Disk, V: VolumeFormat>(disk: &mut D) -> Result<(), DiskFault>
     ensures secures { OnOk result (IsTrue D.tells → SecuresBlocks V.format
         (disk_state D.image D.moment D.trace disk.old) (disk_state D.image D.moment D.trace disk.new)) }
@@ -68,7 +68,7 @@ pub(crate) fn sync_blocks<D: Disk, V: VolumeFormat>(disk: &mut D) -> Result<(), 
     Ok(())
 }
 
-// Writes the header.
+/// Writes the header.
 pub(crate) fn write_header<D: Disk, V: VolumeFormat>(
     disk: &mut D,
     place: u64,
@@ -93,7 +93,7 @@ pub(crate) fn write_header<D: Disk, V: VolumeFormat>(
     Ok(())
 }
 
-// Makes the header that was written durable, and so completes its checkpoint.
+/// Makes the header that was written durable, and so completes its checkpoint.
 pub(crate) fn sync_header<D: Disk, V: VolumeFormat>(disk: &mut D) -> Result<(), DiskFault>
     ensures completes { OnOk result (IsTrue D.tells → CompletesCheckpoint V.format
         (disk_state D.image D.moment D.trace disk.old) (disk_state D.image D.moment D.trace disk.new)) }
