@@ -22,7 +22,7 @@ next_slot_apart n m le e same = absurd (omega arith)
 pub in_slot : (s k : ℕ) → k < header_length → InSlot s (slot_place s + k)
 in_slot s k lt = (omega arith, omega arith)
 
--- the image is as the lasting one where no write was to change it
+-- the image is as the durable one where no write was to change it
 abbrev pub IsIntact : Trace → Places → Type 0
 IsIntact p image = (k : ℕ) → (IsChanged p k → ⊥) → image k ≡ durable p k
 
