@@ -1,8 +1,8 @@
 -- Where a volume stands after each call of its disk.
-use Rattle.std.proofs.Common.{map, drop, slice_index_or, ◌≡◌, ◌⊎◌, ◌<◌, ◌≤◌, ℕ, suc, ◌+◌, List, [], ◌∷◌, length, refl, sym, ap, ◌∙◌, subst, inl, inr, arith}
+use Rattle.std.proofs.Common.{drop, slice_index_or, ◌≡◌, ◌<◌, ◌≤◌, ℕ, suc, ◌+◌, List, [], ◌∷◌, length, refl, sym, ap, ◌∙◌, subst, inl, inr, arith}
 use Rattle.std.proofs.Math.Seq.{drop-cons}
 use Rattle.std.proofs.lemmas.List.{drop_all}
-use Rattle.h2_num.specs.Places.{Places, Same, SameOutside}
+use Rattle.h2_num.specs.Places.{Places, SameOutside}
 use Rattle.h2_disk.specs.Trace.{Trace, Opened, Wrote, Synced, Call, Write, Sync, after, Tried}
 use Rattle.h2_disk.specs.Disk.{Keeps, Writes, FailsToWrite, Syncs}
 use Rattle.h2_checkpoint.specs.Slots.{slot_place}

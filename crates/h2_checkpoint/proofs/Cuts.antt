@@ -1,10 +1,10 @@
 -- What a cut leaves of a disk that was durable at an opening, by the calls since.
-use Rattle.std.proofs.Common.{◌≡◌, ◌⊎◌, ◌<◌, ◌≤◌, ℕ, List, [], ◌∷◌, refl, sym, ◌∙◌, subst, inl, inr, arith}
-use Rattle.std.specs.Prelude.{nat_le, true, false, max, if◌then◌else◌}
+use Rattle.std.proofs.Common.{◌≡◌, ◌≤◌, ℕ, List, [], ◌∷◌, refl, sym, ◌∙◌, subst, inl, inr, arith}
+use Rattle.std.specs.Prelude.{nat_le, true, false, if◌then◌else◌}
 use Rattle.std.proofs.lemmas.Bool.{cases_lt, le-leb, lt-leb}
 use Rattle.h2_num.specs.Places.{Places}
 use Rattle.h2_disk.specs.Trace.{Call, IsDurable, IsWritten, LeftAt, MayLeave, Opened, Sync, Synced, Trace, Write, Wrote, after, durable, latest, up_to}
-use Rattle.h2_checkpoint.specs.Format.{Format, IsLawful}
+use Rattle.h2_checkpoint.specs.Format.{Format}
 use Rattle.h2_checkpoint.specs.Checkpoint.{base_of}
 use Rattle.h2_checkpoint.specs.Runs.{MayBeLeft}
 use Rattle.h2_checkpoint.specs.Stands.{CutLaw, MayBeCut}

@@ -1,11 +1,11 @@
 -- A whole flush from the relations of its calls.
-use Rattle.std.proofs.Common.{◌≡◌, ◌⊎◌, ◌≤◌, ℕ, List, [], ◌∷◌, length, refl, sym, ◌∙◌, subst, inl, inr, arith}
-use Rattle.h2_num.specs.Places.{Holds, InRange, Places, Same, SameOutside}
+use Rattle.std.proofs.Common.{◌≡◌, ◌≤◌, ℕ, List, [], ◌∷◌, length, refl, sym, ◌∙◌, subst, inl, inr, arith}
+use Rattle.h2_num.specs.Places.{Holds, Places, Same, SameOutside}
 use Rattle.h2_num.specs.PlaceLaws.{outside}
 use Rattle.h2_disk.specs.Trace.{IsDurable, Synced, Trace}
-use Rattle.h2_checkpoint.specs.Format.{Format, IsLawful}
-use Rattle.h2_checkpoint.specs.Queue.{Entry, InEntries, overlay, overlay_all}
-use Rattle.h2_checkpoint.specs.Checkpoint.{Blocks_synced, Frozen, Header_written, Newest, Progress, Sent, Writing, progress_after_sync}
+use Rattle.h2_checkpoint.specs.Format.{Format}
+use Rattle.h2_checkpoint.specs.Queue.{Entry, InEntries, overlay_all}
+use Rattle.h2_checkpoint.specs.Checkpoint.{Frozen, Header_written, Newest, Progress, Sent, Writing, progress_after_sync}
 use Rattle.h2_checkpoint.specs.Marks.{Header_done, Header_out, Mark}
 use Rattle.h2_checkpoint.specs.Runs.{UnderWay}
 use Rattle.h2_checkpoint.specs.Stands.{DiskState, StandsAt}
@@ -24,9 +24,9 @@ module _ (v : Format) (pieces : List Piece) (place : ℕ) (header : List ℕ) wh
     Header_done (v.number f.checkpoint.header) e.moment ∷ Header_out (v.number f.checkpoint.header) d.moment ∷ marks,
     (d.moment, le, later, refl),
     completes laws start opening newest before f Sent (Header_out (v.number f.checkpoint.header) d.moment ∷ marks)
-    (sends laws start opening newest before f (progress_after_sync g) marks plan.place_is plan.header_is
-    (secures laws start opening newest before f g marks
-    (writes laws start opening newest before f g marks (by_pieces a start opening newest before f g marks plan s)))),
+        (sends laws start opening newest before f (progress_after_sync g) marks plan.place_is plan.header_is
+        (secures laws start opening newest before f g marks
+        (writes laws start opening newest before f g marks (by_pieces a start opening newest before f g marks plan s)))),
   )
 
   pub pieces_set_back : (a b : DiskState) → FailsToWritePieces v pieces a b → IsSetBack v pieces place header a b
@@ -46,8 +46,8 @@ module _ (v : Format) (pieces : List Piece) (place : ℕ) (header : List ℕ) wh
     Header_out (v.number f.checkpoint.header) d.moment ∷ marks,
     inr (d.moment, le, omega arith, refl),
     fails laws start opening newest before f (progress_after_sync g) marks plan.place_is plan.header_is
-    (secures laws start opening newest before f g marks
-    (writes laws start opening newest before f g marks (by_pieces a start opening newest before f g marks plan s))),
+        (secures laws start opening newest before f g marks
+        (writes laws start opening newest before f g marks (by_pieces a start opening newest before f g marks plan s))),
   )
 
   pub last_set_back : (a b c d e : DiskState) → WritesPieces v pieces a b → SecuresBlocks v b c → SendsHeader v place header c d → FailsToSync v d e → a.moment ≤ d.moment → d.moment ≤ e.moment → IsSetBack v pieces place header a e
@@ -56,9 +56,9 @@ module _ (v : Format) (pieces : List Piece) (place : ℕ) (header : List ℕ) wh
     Header_out (v.number f.checkpoint.header) d.moment ∷ marks,
     inr (d.moment, le, later, refl),
     fails laws start opening newest before f Sent Header_written (Header_out (v.number f.checkpoint.header) d.moment ∷ marks)
-    (sends laws start opening newest before f (progress_after_sync g) marks plan.place_is plan.header_is
-    (secures laws start opening newest before f g marks
-    (writes laws start opening newest before f g marks (by_pieces a start opening newest before f g marks plan s)))),
+        (sends laws start opening newest before f (progress_after_sync g) marks plan.place_is plan.header_is
+        (secures laws start opening newest before f g marks
+        (writes laws start opening newest before f g marks (by_pieces a start opening newest before f g marks plan s)))),
   )
 
 -- the image at the end

@@ -1,5 +1,5 @@
 -- What a cut leaves: the newest completed header, or the one under way.
-use Rattle.std.proofs.Common.{◌≡◌, ◌≢◌, ◌⊎◌, ◌<◌, ◌≤◌, ℕ, suc, ◌+◌, ◌*◌, List, refl, sym, ◌∙◌, subst, inl, inr, arith}
+use Rattle.std.proofs.Common.{◌≡◌, ◌≢◌, ◌⊎◌, ◌≤◌, ℕ, suc, ◌+◌, List, refl, sym, ◌∙◌, subst, inl, inr, arith}
 use Rattle.h2_num.specs.Places.{Places, SameBelow, from_place, places}
 use Rattle.h2_num.specs.PlaceLaws.{same_below}
 use Rattle.h2_disk.specs.Trace.{Trace, durable}

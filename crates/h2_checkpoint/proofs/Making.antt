@@ -1,11 +1,9 @@
 -- A volume that is being made.
-use Rattle.std.proofs.Common.{◌≡◌, ◌≢◌, ◌⊎◌, ◌<◌, ◌≤◌, ℕ, ◌+◌, List, [], ◌∷◌, length, refl, sym, ap, ◌∙◌, subst, inl, inr, arith}
-use Rattle.std.specs.Prelude.{Result, Ok, Err, OnOk, OnErr}
+use Rattle.std.proofs.Common.{◌≡◌, ◌≢◌, ◌<◌, ◌≤◌, ℕ, ◌+◌, List, [], ◌∷◌, length, refl, sym, ap, ◌∙◌, subst, inl, inr, arith}
 use Rattle.std.proofs.lemmas.Bool.{cases_eq}
 use Rattle.h2_num.specs.Places.{InRange, Places, Same, SameBelow}
 use Rattle.h2_num.specs.PlaceLaws.{outside}
 use Rattle.h2_disk.specs.Trace.{Call, Opened, after, latest}
-use Rattle.h2_disk.specs.declared.disk.DiskFault.{DiskFault}
 use Rattle.h2_checkpoint.specs.Slots.{InSlot, IsSlot, header_length, slot_bytes, slot_place}
 use Rattle.h2_checkpoint.specs.Format.{Format, HasNoHeader, IsLawful, SameReached}
 use Rattle.h2_checkpoint.specs.Queue.{Entry, InEntries, overlay_all}
@@ -14,7 +12,7 @@ use Rattle.h2_checkpoint.specs.Marks.{Froze, IsFrozenForest, Mark}
 use Rattle.h2_checkpoint.specs.Runs.{Flush, Idle, IsOpeningForest, Mounts, UnderWay}
 use Rattle.h2_checkpoint.specs.Stands.{DiskState, StandsAt}
 use Rattle.h2_checkpoint.specs.Steps.{Finishes, IsOutAndDone, IsSetBack, MayBeOut, SameElsewhere, image_with, queue_of}
-use Rattle.h2_checkpoint.specs.Making.{CutsMake, IsFirstPlan, IsMade, IsNoneOrMade, Makes, MakesSafely}
+use Rattle.h2_checkpoint.specs.Making.{CutsMake, IsFirstPlan, IsMade, IsNoneOrMade}
 use Rattle.h2_checkpoint.specs.declared.piece.Piece.{Piece}
 use Rattle.h2_checkpoint.proofs.Parts.{in_slot, slots_apart}
 use Rattle.h2_checkpoint.proofs.Overlay.{overlay_others, overlay_outside}

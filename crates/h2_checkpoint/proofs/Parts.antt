@@ -1,7 +1,5 @@
 -- What the proofs of several steps share.
-use Rattle.std.proofs.Common.{◌≡◌, ◌≢◌, ◌⊎◌, ◌<◌, ◌≤◌, ℕ, zero, suc, ◌+◌, ◌-◌, ◌*◌, List, length, sym, ap, ◌∙◌, inl, inr, arith}
-use Rattle.std.specs.Prelude.{slice_index}
-use Rattle.std.proofs.lemmas.Bool.{cases_lt, cases_eq}
+use Rattle.std.proofs.Common.{◌≡◌, ◌≢◌, ◌⊎◌, ◌<◌, ◌≤◌, ℕ, suc, ◌+◌, length, inl, inr, arith}
 use Rattle.h2_num.specs.Places.{InRange, Places}
 use Rattle.h2_num.specs.PlaceLaws.{in_range}
 use Rattle.h2_disk.specs.Trace.{IsChanged, IsWritten, KeepsDurable, MayLeave, Opened, Synced, Trace, Wrote, durable}
@@ -24,7 +22,7 @@ next_slot_apart n m le e same = absurd (omega arith)
 pub in_slot : (s k : ℕ) → k < header_length → InSlot s (slot_place s + k)
 in_slot s k lt = (omega arith, omega arith)
 
--- the image is as the lasting one where no write was to change it
+-- the image is as the durable one where no write was to change it
 abbrev pub IsIntact : Trace → Places → Type 0
 IsIntact p image = (k : ℕ) → (IsChanged p k → ⊥) → image k ≡ durable p k
 

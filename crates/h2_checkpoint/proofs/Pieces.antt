@@ -1,11 +1,11 @@
 -- Pieces one by one, and what the causes and moments of calls add up to.
-use Rattle.std.proofs.Common.{drop, slice_index_or, ◌≡◌, ◌⊎◌, ◌<◌, ◌≤◌, ℕ, zero, suc, ◌+◌, ◌-◌, ◌^◌, List, [], ◌∷◌, length, refl, sym, ap, ◌∙◌, subst, inl, inr, arith}
+use Rattle.std.proofs.Common.{drop, slice_index_or, ◌≡◌, ◌<◌, ◌≤◌, ℕ, zero, suc, ◌+◌, ◌-◌, ◌^◌, List, [], ◌∷◌, length, sym, ap, ◌∙◌, subst, inl, inr, arith}
 use Rattle.std.specs.Prelude.{IsTrue, true, false}
 use Rattle.std.proofs.lemmas.Bool.{cases_lt}
 use Rattle.std.proofs.lemmas.List.{drop_all}
 use Rattle.h2_num.specs.Places.{Holds, Places, Same, SameOutside}
 use Rattle.h2_num.specs.PlaceLaws.{outside}
-use Rattle.h2_num.specs.Causes.{one_more, Rose}
+use Rattle.h2_num.specs.Causes.{one_more}
 use Rattle.h2_disk.specs.Disk.{HasCause}
 use Rattle.h2_disk.specs.declared.disk.DiskFault.{DiskFault}
 use Rattle.h2_disk.specs.declared.disk.DiskFault.TheVariants.{Failed, NoMemory}

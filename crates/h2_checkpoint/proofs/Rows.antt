@@ -1,5 +1,5 @@
 -- A run in numbers: header 1 stands, header 2 goes out at moment 10 and is done at 12, header 3 at 19 and 21.
-use Rattle.std.proofs.Common.{◌≡◌, ◌⊎◌, ◌≤◌, ℕ, suc, List, [], ◌∷◌, refl, sym, ◌∙◌, inl, inr, arith}
+use Rattle.std.proofs.Common.{◌≡◌, ◌≤◌, ℕ, List, [], ◌∷◌, refl, inl, inr, arith}
 use Rattle.h2_num.specs.Places.{Places}
 use Rattle.h2_disk.specs.Trace.{Opened}
 use Rattle.h2_checkpoint.specs.Format.{Format}

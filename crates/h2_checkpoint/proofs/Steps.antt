@@ -1,5 +1,5 @@
 -- The steps of a flush, and the writes beside it.
-use Rattle.std.proofs.Common.{◌≡◌, ◌≢◌, ◌⊎◌, ◌<◌, ◌≤◌, ℕ, suc, ◌+◌, ◌*◌, List, [], ◌∷◌, length, refl, sym, ap, ◌∙◌, subst, inl, inr, arith}
+use Rattle.std.proofs.Common.{◌≡◌, ◌≢◌, ◌⊎◌, ◌<◌, ◌≤◌, ℕ, suc, ◌+◌, List, [], ◌∷◌, length, refl, sym, ap, ◌∙◌, subst, inl, inr, arith}
 use Rattle.h2_num.specs.Places.{Holds, InRange, Places, Same, SameOutside, places}
 use Rattle.h2_num.specs.PlaceLaws.{holds_too, in_range, outside, same_held}
 use Rattle.h2_disk.specs.Trace.{Appeared, Synced, Trace, Wrote, durable}
@@ -271,7 +271,7 @@ module _ (v : Format) (laws : IsLawful v) where
         sent = λ e. (refl, stands);
       }
 
-  -- the sync after the header: the frozen root is the completed one
+  -- the sync after the header: the frozen checkpoint is the completed one
   pub header_done : (t : ℕ) (p : Trace) (i j : Places) (d : Newest v) (f : Frozen v) (g : Progress) → IsFlushing v p i d f g Header_written → Same i j → IsAtRest v (Synced t j p) j (Completed f.checkpoint)
   header_done t p i j d f g x same = record {
     guards = record {

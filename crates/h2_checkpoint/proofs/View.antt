@@ -1,5 +1,5 @@
 -- What a core that runs flushes lays over its image, and how its facts become those of the law.
-use Rattle.std.proofs.Common.{◌≡◌, ◌⊎◌, ◌<◌, ◌≤◌, ℕ, ◌+◌, List, refl, ◌∙◌, inl, inr, arith}
+use Rattle.std.proofs.Common.{◌<◌, ◌≤◌, ℕ, ◌+◌, List, refl, ◌∙◌, inl, inr, arith}
 use Rattle.h2_num.specs.Places.{InRange, Places}
 use Rattle.h2_disk.specs.Trace.{Trace}
 use Rattle.h2_checkpoint.specs.Format.{Format, IsLawful, Reach, SameReached}

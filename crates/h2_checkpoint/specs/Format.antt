@@ -1,5 +1,5 @@
 -- A format of volumes: blocks that lead to blocks, from a header that stands in one of four slots.
-use Rattle.std.specs.Prelude.{◌≡◌, ◌<◌, ◌≤◌, ℕ, List}
+use Rattle.std.specs.Prelude.{◌≡◌, ◌≤◌, ℕ, List}
 use Rattle.std.specs.List.{Contains}
 use Rattle.h2_num.specs.Places.{Places, from_place, InRange, SameBelow}
 use Rattle.h2_checkpoint.specs.Slots.{header_length, IsSlot, slot_bytes, slot_of_number}

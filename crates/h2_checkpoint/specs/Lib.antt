@@ -8,3 +8,4 @@ pub mod Stands
 pub mod Steps
 pub mod Making
 pub mod Toy
+pub mod Fits

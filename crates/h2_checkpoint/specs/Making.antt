@@ -1,10 +1,9 @@
 -- A volume that is being made where there is none.
 use Rattle.std.specs.Prelude.{◌≡◌, ◌⊎◌, ◌≤◌, ℕ, List}
-use Rattle.h2_num.specs.Places.{Places, InRange, Same, Holds}
+use Rattle.h2_num.specs.Places.{Places}
 use Rattle.h2_disk.specs.Trace.{Opened, Call, after, IsDurable}
 use Rattle.h2_checkpoint.specs.Slots.{IsSlot, slot_bytes}
 use Rattle.h2_checkpoint.specs.Format.{Format, IsLawful, IsNewest, HasNoHeader}
-use Rattle.h2_checkpoint.specs.Queue.{Entry, IsAmong}
 use Rattle.h2_checkpoint.specs.Checkpoint.{Blank, slot_of_checkpoint, Frozen, IsPlanned, IsQueuedOrThere}
 use Rattle.h2_checkpoint.specs.Runs.{MayBeLeft}
 use Rattle.h2_checkpoint.specs.Stands.{DiskState, MayBeCut}

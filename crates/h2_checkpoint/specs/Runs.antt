@@ -1,5 +1,5 @@
 -- A volume from its opening on: writes beside a flush, the steps of the flush, and what a cut at each moment leaves.
-use Rattle.std.specs.Prelude.{◌≡◌, ◌⊎◌, ◌<◌, ◌≤◌, ℕ, List, [], ◌∷◌, length}
+use Rattle.std.specs.Prelude.{◌≡◌, ◌⊎◌, ◌≤◌, ℕ, List, [], ◌∷◌, length}
 use Rattle.h2_num.specs.Places.{Places, InRange, SameOutside, Same, Holds}
 use Rattle.h2_disk.specs.Trace.{Trace, Opened, Wrote, Synced, up_to, LeftAt, KeepsDurable, Tried}
 use Rattle.h2_checkpoint.specs.Slots.{IsSlot, slot_place, InSlot}

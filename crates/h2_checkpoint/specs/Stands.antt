@@ -5,7 +5,7 @@ use Rattle.h2_disk.specs.Trace.{Trace, Opened, Call, after, latest, up_to, LeftA
 use Rattle.h2_checkpoint.specs.Format.{Format, SameReached, IsLawful}
 use Rattle.h2_checkpoint.specs.Checkpoint.{Newest, base_of, HasOldHeaders}
 use Rattle.h2_checkpoint.specs.Marks.{Mark}
-use Rattle.h2_checkpoint.specs.Runs.{Flush, State, MayBeLeft, Mounts, Survives}
+use Rattle.h2_checkpoint.specs.Runs.{Flush, State, Mounts, Survives}
 
 -- what a disk tells of itself at one time
 pub record DiskState : Type 0 where

@@ -1,6 +1,6 @@
 -- What the calls of a flush do to where a volume stands.
-use Rattle.std.specs.Prelude.{◌≡◌, ◌⊎◌, ◌<◌, ◌≤◌, ◌+◌, ℕ, List, [], ◌∷◌, map, drop, length, Result, Ok, Err}
-use Rattle.h2_num.specs.Places.{Places, InRange, Same}
+use Rattle.std.specs.Prelude.{◌≡◌, ◌⊎◌, ◌<◌, ◌≤◌, ◌+◌, ℕ, List, [], ◌∷◌, map, drop, Result, Ok, Err}
+use Rattle.h2_num.specs.Places.{Places, InRange}
 use Rattle.h2_num.specs.Causes.{one_more}
 use Rattle.h2_disk.specs.Trace.{Trace, IsDurable}
 use Rattle.h2_disk.specs.declared.disk.DiskFault.{DiskFault}

@@ -1,7 +1,7 @@
 ghost use Rattle.std.specs.Prelude.{◌≡◌, ◌≤◌, ◌+◌, ◌^◌, ℕ, length, IsTrue, IfErr, OnOk, OnErr, All};
 ghost use Rattle.h2_num.specs.Places.{Same, SameOutside};
 ghost use Rattle.h2_num.specs.Causes.{one_more};
-ghost use Rattle.h2_disk.specs.Disk.{HasCause, Syncs, Writes};
+ghost use Rattle.h2_disk.specs.Disk.{HasCause, Keeps, Syncs, Writes};
 ghost use Rattle.h2_checkpoint.specs.Queue.{InEntries, overlay_all};
 ghost use Rattle.h2_checkpoint.specs.Stands.{disk_state};
 ghost use Rattle.h2_checkpoint.specs.Steps.{queue_of, WritesPieces, FailsToWritePieces, SecuresBlocks, FailsToSync, SendsHeader, FailsToSend, CompletesCheckpoint};
@@ -10,7 +10,7 @@ use crate::format::VolumeFormat;
 use crate::piece::Piece;
 use h2_disk::{Disk, DiskFault};
 
-// Writes the pieces in their order.
+/// Writes the pieces in their order.
 pub(crate) fn write_pieces<D: Disk, V: VolumeFormat>(
     disk: &mut D,
     pieces: &[Piece],
@@ -36,7 +36,21 @@ pub(crate) fn write_pieces<D: Disk, V: VolumeFormat>(
     Ok(())
 }
 
-// Makes the pieces that were written durable.
+// Makes all that was written durable.
+fn settle<D: Disk>(disk: &mut D) -> Result<(), DiskFault>
+    ensures synced { OnOk result (IsTrue D.tells → Syncs (D.moment disk.new)
+        (D.image disk.old) (D.image disk.new) (D.trace disk.old) (D.trace disk.new)) }
+    ensures failed { OnErr result (IsTrue D.tells → Keeps
+        (D.image disk.old) (D.image disk.new) (D.trace disk.old) (D.trace disk.new)) }
+    ensures time { OnOk result (D.moment disk.new ≡ D.moment disk.old + 2) }
+    ensures time_failed { OnErr result (D.moment disk.new ≡ one_more (D.moment disk.old)) }
+    ensures later { D.faults disk.old ≤ D.faults disk.new }
+    ensures cause { IfErr result (λ fault. HasCause (D.faults disk.old) (D.faults disk.new) fault) }
+{
+    disk.sync()
+}
+
+/// Makes the pieces that were written durable.
 pub(crate) fn sync_blocks<D: Disk, V: VolumeFormat>(disk: &mut D) -> Result<(), DiskFault>
     ensures secures { OnOk result (IsTrue D.tells → SecuresBlocks V.format
         (disk_state D.image D.moment D.trace disk.old) (disk_state D.image D.moment D.trace disk.new)) }
@@ -48,13 +62,13 @@ pub(crate) fn sync_blocks<D: Disk, V: VolumeFormat>(disk: &mut D) -> Result<(), 
     ensures later { D.faults disk.old ≤ D.faults disk.new }
     ensures cause { IfErr result (λ fault. HasCause (D.faults disk.old) (D.faults disk.new) fault) }
 {
-    if let Err(fault) = disk.sync() {
+    if let Err(fault) = settle(disk) {
         return Err(fault);
     }
     Ok(())
 }
 
-// Writes the header.
+/// Writes the header.
 pub(crate) fn write_header<D: Disk, V: VolumeFormat>(
     disk: &mut D,
     place: u64,
@@ -79,7 +93,7 @@ pub(crate) fn write_header<D: Disk, V: VolumeFormat>(
     Ok(())
 }
 
-// Makes the header that was written durable, and so completes its checkpoint.
+/// Makes the header that was written durable, and so completes its checkpoint.
 pub(crate) fn sync_header<D: Disk, V: VolumeFormat>(disk: &mut D) -> Result<(), DiskFault>
     ensures completes { OnOk result (IsTrue D.tells → CompletesCheckpoint V.format
         (disk_state D.image D.moment D.trace disk.old) (disk_state D.image D.moment D.trace disk.new)) }
@@ -93,7 +107,7 @@ pub(crate) fn sync_header<D: Disk, V: VolumeFormat>(disk: &mut D) -> Result<(), 
     ensures later { D.faults disk.old ≤ D.faults disk.new }
     ensures cause { IfErr result (λ fault. HasCause (D.faults disk.old) (D.faults disk.new) fault) }
 {
-    if let Err(fault) = disk.sync() {
+    if let Err(fault) = settle(disk) {
         return Err(fault);
     }
     Ok(())

@@ -35,7 +35,7 @@ impl Flushing {
         ensures advances { Advances self.old.next (length self.old.pieces.items) self.new.next result }
         ensures steps { IsTrue D.tells
             → StepsFlush V.format self.old.pieces.items self.old.place self.old.header self.old.next self.new.next
-                (disk_state D.image D.moment D.trace disk.old) (disk_state D.image D.moment D.trace disk.new) result }
+            (disk_state D.image D.moment D.trace disk.old) (disk_state D.image D.moment D.trace disk.new) result }
         ensures elsewhere { IsTrue D.tells → SameElsewhere self.old.pieces.items self.old.place
             (length self.old.header) (D.image disk.old) (D.image disk.new) }
         ensures durable { IsTrue D.tells → EndsDurable result (disk_state D.image D.moment D.trace disk.new) }

@@ -1,4 +1,4 @@
-use Rattle.std.proofs.Common.{◌<◌, ◌≤◌, ◌+◌, ◌^◌, length, ◌∙◌, refl, arith, rules}
+use Rattle.std.proofs.Common.{◌<◌, ◌^◌, ◌∙◌, refl, arith, rules}
 use Rattle.h2_checkpoint.specs.Stands.{disk_state}
 use Rattle.h2_checkpoint.proofs.Calls.{wrote_piece, failed_piece, all_pieces, tried_outside}
 use Rattle.h2_checkpoint.proofs.Pieces.{ticked, cause_since, piece_elsewhere, piece_overlay, last_overlay}

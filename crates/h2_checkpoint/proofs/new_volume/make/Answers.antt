@@ -1,4 +1,3 @@
-use Rattle.std.proofs.Common.{length}
 use Rattle.h2_checkpoint.specs.Stands.{disk_state}
 use Rattle.h2_checkpoint.proofs.Making.{finished_safely, set_back_safely, is_made, image_elsewhere}
 use Rattle.h2_checkpoint.proofs.new_volume.make.Goals as goal

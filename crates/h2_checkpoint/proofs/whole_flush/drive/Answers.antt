@@ -1,4 +1,4 @@
-use Rattle.std.proofs.Common.{◌<◌, ◌≤◌, ◌^◌, ℕ, length, refl, ◌∙◌, arith}
+use Rattle.std.proofs.Common.{◌<◌, ◌^◌, length, refl, ◌∙◌, arith}
 use Rattle.h2_checkpoint.specs.Stands.{disk_state}
 use Rattle.h2_checkpoint.proofs.Pieces.{cause_since}
 use Rattle.h2_checkpoint.proofs.Driving.{finishes, pieces_set_back, blocks_set_back, header_set_back, last_set_back, image_after, durable_after, pieces_elsewhere, elsewhere_after}

@@ -11,10 +11,12 @@ use Rattle.h2_checkpoint.proofs.flushing.Flushing.step.Goals as goal
 pub returns-in-Err-clause-steps : goal.returns-in-Err-clause-steps
 returns-in-Err-clause-steps g c =
     let fits : g.D.Disk.moment c.args.disk.now < 2 ^ 64 = g.met.D.Disk.moment_fits c.args.disk.now in
-    λ tells laws start opening newest before f p marks plan s.
-    (p, to_fault g.V.VolumeFormat.format start opening before marks (disk_state g.D.Disk.image g.D.Disk.moment g.D.Disk.trace c.write.new.self) newest f p c.args.self.now.pieces.items c.args.self.now.place c.args.self.now.header c.args.self.now.next (Pieces c.in-Pieces.k) c.in-Pieces.is plan
-    (failed_piece g.V.VolumeFormat.format laws start opening before marks (disk_state g.D.Disk.image g.D.Disk.moment g.D.Disk.trace c.args.disk.now) (disk_state g.D.Disk.image g.D.Disk.moment g.D.Disk.trace c.write.new.self) newest f p c.args.self.now.pieces.items c.in-Pieces.k c.index-piece.result.now c.as_slice.result.now (omega (arith, c.in-Err.ensures.time)) (let lt : c.in-Pieces.k < length c.args.self.now.pieces.items = search rules in lt) c.index-piece.ensures c.as_slice.ensures (c.in-Err.ensures.failed tells)
-    (from_next g.V.VolumeFormat.format start opening before marks (disk_state g.D.Disk.image g.D.Disk.moment g.D.Disk.trace c.args.disk.now) newest f p c.args.self.now.pieces.items c.args.self.now.next (Pieces c.in-Pieces.k) c.in-Pieces.is s)))
+    λ tells laws start opening newest before f p marks plan s. (
+      p,
+      to_fault g.V.VolumeFormat.format start opening before marks (disk_state g.D.Disk.image g.D.Disk.moment g.D.Disk.trace c.write.new.self) newest f p c.args.self.now.pieces.items c.args.self.now.place c.args.self.now.header c.args.self.now.next (Pieces c.in-Pieces.k) c.in-Pieces.is plan
+          (failed_piece g.V.VolumeFormat.format laws start opening before marks (disk_state g.D.Disk.image g.D.Disk.moment g.D.Disk.trace c.args.disk.now) (disk_state g.D.Disk.image g.D.Disk.moment g.D.Disk.trace c.write.new.self) newest f p c.args.self.now.pieces.items c.in-Pieces.k c.index-piece.result.now c.as_slice.result.now (omega (arith, c.in-Err.ensures.time)) (let lt : c.in-Pieces.k < length c.args.self.now.pieces.items = search rules in lt) c.index-piece.ensures c.as_slice.ensures (c.in-Err.ensures.failed tells)
+          (from_next g.V.VolumeFormat.format start opening before marks (disk_state g.D.Disk.image g.D.Disk.moment g.D.Disk.trace c.args.disk.now) newest f p c.args.self.now.pieces.items c.args.self.now.next (Pieces c.in-Pieces.k) c.in-Pieces.is s)),
+    )
 
 pub returns-in-Err-clause-elsewhere : goal.returns-in-Err-clause-elsewhere
 returns-in-Err-clause-elsewhere g c =
@@ -23,9 +25,11 @@ returns-in-Err-clause-elsewhere g c =
 pub returns-then-k-len-clause-steps : goal.returns-then-k-len-clause-steps
 returns-then-k-len-clause-steps g c =
     let tick = ticked (g.D.Disk.moment c.args.disk.now) (g.D.Disk.moment c.write.new.self) c.in_default.ensures.time c.in_default.ensures.end in
-    λ tells laws start opening newest before f p marks plan s.
-    (p, wrote_piece g.V.VolumeFormat.format laws start opening before marks (disk_state g.D.Disk.image g.D.Disk.moment g.D.Disk.trace c.args.disk.now) (disk_state g.D.Disk.image g.D.Disk.moment g.D.Disk.trace c.write.new.self) newest f p c.args.self.now.pieces.items c.in-Pieces.k c.index-piece.result.now c.as_slice.result.now (omega (arith, tick)) (let lt : c.in-Pieces.k < length c.args.self.now.pieces.items = search rules in lt) c.index-piece.ensures c.as_slice.ensures (c.in_default.ensures.wrote tells)
-    (from_next g.V.VolumeFormat.format start opening before marks (disk_state g.D.Disk.image g.D.Disk.moment g.D.Disk.trace c.args.disk.now) newest f p c.args.self.now.pieces.items c.args.self.now.next (Pieces c.in-Pieces.k) c.in-Pieces.is s))
+    λ tells laws start opening newest before f p marks plan s. (
+      p,
+      wrote_piece g.V.VolumeFormat.format laws start opening before marks (disk_state g.D.Disk.image g.D.Disk.moment g.D.Disk.trace c.args.disk.now) (disk_state g.D.Disk.image g.D.Disk.moment g.D.Disk.trace c.write.new.self) newest f p c.args.self.now.pieces.items c.in-Pieces.k c.index-piece.result.now c.as_slice.result.now (omega (arith, tick)) (let lt : c.in-Pieces.k < length c.args.self.now.pieces.items = search rules in lt) c.index-piece.ensures c.as_slice.ensures (c.in_default.ensures.wrote tells)
+          (from_next g.V.VolumeFormat.format start opening before marks (disk_state g.D.Disk.image g.D.Disk.moment g.D.Disk.trace c.args.disk.now) newest f p c.args.self.now.pieces.items c.args.self.now.next (Pieces c.in-Pieces.k) c.in-Pieces.is s),
+    )
 
 pub returns-then-k-len-clause-elsewhere : goal.returns-then-k-len-clause-elsewhere
 returns-then-k-len-clause-elsewhere g c =
@@ -37,21 +41,27 @@ returns-then-k-len-clause-time g c =
 
 pub returns-in-Err-sync_blocks-clause-steps : goal.returns-in-Err-sync_blocks-clause-steps
 returns-in-Err-sync_blocks-clause-steps g c =
-    λ tells laws start opening newest before f p marks plan s.
-    (p, to_fault g.V.VolumeFormat.format start opening before marks (disk_state g.D.Disk.image g.D.Disk.moment g.D.Disk.trace c.sync_blocks.new.disk) newest f p c.args.self.now.pieces.items c.args.self.now.place c.args.self.now.header c.args.self.now.next (Pieces c.in-Pieces.k) c.in-Pieces.is plan
-    (c.in-Err-sync_blocks.ensures.set_back tells laws start opening newest before f p (stage_of (Pieces c.in-Pieces.k) c.args.self.now.pieces.items) marks (from_next g.V.VolumeFormat.format start opening before marks (disk_state g.D.Disk.image g.D.Disk.moment g.D.Disk.trace c.args.disk.now) newest f p c.args.self.now.pieces.items c.args.self.now.next (Pieces c.in-Pieces.k) c.in-Pieces.is s)))
+    λ tells laws start opening newest before f p marks plan s. (
+      p,
+      to_fault g.V.VolumeFormat.format start opening before marks (disk_state g.D.Disk.image g.D.Disk.moment g.D.Disk.trace c.sync_blocks.new.disk) newest f p c.args.self.now.pieces.items c.args.self.now.place c.args.self.now.header c.args.self.now.next (Pieces c.in-Pieces.k) c.in-Pieces.is plan
+          (c.in-Err-sync_blocks.ensures.set_back tells laws start opening newest before f p (stage_of (Pieces c.in-Pieces.k) c.args.self.now.pieces.items) marks (from_next g.V.VolumeFormat.format start opening before marks (disk_state g.D.Disk.image g.D.Disk.moment g.D.Disk.trace c.args.disk.now) newest f p c.args.self.now.pieces.items c.args.self.now.next (Pieces c.in-Pieces.k) c.in-Pieces.is s)),
+    )
 
 pub returns-in_default-sync_blocks-clause-steps : goal.returns-in_default-sync_blocks-clause-steps
 returns-in_default-sync_blocks-clause-steps g c =
-    λ tells laws start opening newest before f p marks plan s.
-    (progress_after_sync p, c.in_default-sync_blocks.ensures.secures tells laws start opening newest before f p marks
-    (all_pieces g.V.VolumeFormat.format laws start opening before marks (disk_state g.D.Disk.image g.D.Disk.moment g.D.Disk.trace c.args.disk.now) newest f p c.args.self.now.pieces.items c.in-Pieces.k (let le : length c.args.self.now.pieces.items ≤ c.in-Pieces.k = search rules in le) (from_next g.V.VolumeFormat.format start opening before marks (disk_state g.D.Disk.image g.D.Disk.moment g.D.Disk.trace c.args.disk.now) newest f p c.args.self.now.pieces.items c.args.self.now.next (Pieces c.in-Pieces.k) c.in-Pieces.is s)))
+    λ tells laws start opening newest before f p marks plan s. (
+      progress_after_sync p,
+      c.in_default-sync_blocks.ensures.secures tells laws start opening newest before f p marks
+          (all_pieces g.V.VolumeFormat.format laws start opening before marks (disk_state g.D.Disk.image g.D.Disk.moment g.D.Disk.trace c.args.disk.now) newest f p c.args.self.now.pieces.items c.in-Pieces.k (let le : length c.args.self.now.pieces.items ≤ c.in-Pieces.k = search rules in le) (from_next g.V.VolumeFormat.format start opening before marks (disk_state g.D.Disk.image g.D.Disk.moment g.D.Disk.trace c.args.disk.now) newest f p c.args.self.now.pieces.items c.args.self.now.next (Pieces c.in-Pieces.k) c.in-Pieces.is s)),
+    )
 
 pub returns-in-Err-write_header-clause-steps : goal.returns-in-Err-write_header-clause-steps
 returns-in-Err-write_header-clause-steps g c =
-    λ tells laws start opening newest before f p marks plan s.
-    (Sent, to_fault g.V.VolumeFormat.format start opening before marks (disk_state g.D.Disk.image g.D.Disk.moment g.D.Disk.trace c.write_header.new.disk) newest f Sent c.args.self.now.pieces.items c.args.self.now.place c.args.self.now.header c.args.self.now.next Header c.in-Header.is plan
-    (c.in-Err-write_header.ensures.set_back tells laws start opening newest before f p marks plan.place_is (plan.header_is ∙ sym c.as_slice-in-Header.ensures) (from_next g.V.VolumeFormat.format start opening before marks (disk_state g.D.Disk.image g.D.Disk.moment g.D.Disk.trace c.args.disk.now) newest f p c.args.self.now.pieces.items c.args.self.now.next Header c.in-Header.is s)))
+    λ tells laws start opening newest before f p marks plan s. (
+      Sent,
+      to_fault g.V.VolumeFormat.format start opening before marks (disk_state g.D.Disk.image g.D.Disk.moment g.D.Disk.trace c.write_header.new.disk) newest f Sent c.args.self.now.pieces.items c.args.self.now.place c.args.self.now.header c.args.self.now.next Header c.in-Header.is plan
+          (c.in-Err-write_header.ensures.set_back tells laws start opening newest before f p marks plan.place_is (plan.header_is ∙ sym c.as_slice-in-Header.ensures) (from_next g.V.VolumeFormat.format start opening before marks (disk_state g.D.Disk.image g.D.Disk.moment g.D.Disk.trace c.args.disk.now) newest f p c.args.self.now.pieces.items c.args.self.now.next Header c.in-Header.is s)),
+    )
 
 pub returns-in_default-write_header-clause-steps : goal.returns-in_default-write_header-clause-steps
 returns-in_default-write_header-clause-steps g c =
@@ -60,9 +70,11 @@ returns-in_default-write_header-clause-steps g c =
 
 pub returns-in-Err-sync_header-clause-steps : goal.returns-in-Err-sync_header-clause-steps
 returns-in-Err-sync_header-clause-steps g c =
-    λ tells laws start opening newest before f p marks plan s.
-    (p, to_fault g.V.VolumeFormat.format start opening before marks (disk_state g.D.Disk.image g.D.Disk.moment g.D.Disk.trace c.sync_header.new.disk) newest f p c.args.self.now.pieces.items c.args.self.now.place c.args.self.now.header c.args.self.now.next Finish c.in-Finish.is plan
-    (c.in-Err-sync_header.ensures.set_back tells laws start opening newest before f p Header_written marks (from_next g.V.VolumeFormat.format start opening before marks (disk_state g.D.Disk.image g.D.Disk.moment g.D.Disk.trace c.args.disk.now) newest f p c.args.self.now.pieces.items c.args.self.now.next Finish c.in-Finish.is s)))
+    λ tells laws start opening newest before f p marks plan s. (
+      p,
+      to_fault g.V.VolumeFormat.format start opening before marks (disk_state g.D.Disk.image g.D.Disk.moment g.D.Disk.trace c.sync_header.new.disk) newest f p c.args.self.now.pieces.items c.args.self.now.place c.args.self.now.header c.args.self.now.next Finish c.in-Finish.is plan
+          (c.in-Err-sync_header.ensures.set_back tells laws start opening newest before f p Header_written marks (from_next g.V.VolumeFormat.format start opening before marks (disk_state g.D.Disk.image g.D.Disk.moment g.D.Disk.trace c.args.disk.now) newest f p c.args.self.now.pieces.items c.args.self.now.next Finish c.in-Finish.is s)),
+    )
 
 pub returns-in_default-sync_header-clause-steps : goal.returns-in_default-sync_header-clause-steps
 returns-in_default-sync_header-clause-steps g c =
