@@ -2,3 +2,5 @@ pub mod Decimals
 pub mod Inodes
 pub mod Segments
 pub mod Planned
+pub mod FirstHeader
+pub mod FirstPlan

@@ -1,3 +1,7 @@
 pub mod DecimalNumber
 pub mod CommandLine
 pub mod Planning
+pub mod Formatting
+pub mod Status
+pub mod Lines
+pub mod Run

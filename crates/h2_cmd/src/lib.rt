@@ -1,14 +1,22 @@
 //! The commands of the program.
+//!
+//! A run reads its words (`command_line`), does what they ask for (`formatting`, with the blocks of
+//! `blocks` in the plan of `planning`), and ends with a line and a status (`run`). What a run does is the
+//! contract of [`run_alone`], clause by clause.
 #![tactic(auto)]
 
 mod blocks;
 mod command_line;
 mod decimal_number;
-//mod formatting;
+mod formatting;
 mod planning;
+mod run;
+mod status;
 
 pub use blocks::{SMALL_BLOCK_BYTES, leaf_block, root_directory_block, root_pfs_block};
 pub use command_line::{Request, read_words};
 pub use decimal_number::parse_decimal;
-//pub use formatting::{Formatting, find_newest, format_volume};
+pub use formatting::{Formatting, find_newest, format_volume};
 pub use planning::{Plan, plan_volume};
+pub use run::{Outcome, run_alone};
+pub use status::Status;

@@ -1,0 +1,82 @@
+-- The header of a planned volume keeps the rules of headers.
+use Rattle.std.proofs.Common.{◌≡◌, ◌⊎◌, ◌<◌, ◌≤◌, ℕ, zero, suc, ◌+◌, List, [], ◌∷◌, length, slice_index_or, refl, sym, ap, subst, ◌∙◌, inl, inr, arith}
+use Rattle.std.specs.Prelude.{All, nat_lt, true, false}
+use Rattle.std.proofs.lemmas.Bool.{lt-ltb, le-ltb}
+use Rattle.h2_num.specs.Places.{Places}
+use Rattle.h2_check.specs.XxhLaws.{xxh64_of-lt}
+use Rattle.h2_ref.specs.declared.reference.Kind.TheVariants.{Empty, Inode}
+use Rattle.h2_ref.specs.declared.reference.Ref.{Ref}
+use Rattle.h2_ref.specs.Ref.{IsValid, empty_ref}
+use Rattle.h2_ref.specs.Set.{IsSet}
+use Rattle.h2_header.specs.declared.header.Header.{Header}
+use Rattle.h2_header.specs.Map.{IsMapSlot, IsMap}
+use Rattle.h2_header.specs.Header.{IsRootRef, IsRoot, IsHeader}
+use Rattle.h2_checkpoint.specs.declared.piece.Piece.{Piece}
+use Rattle.h2_image.specs.NewVolume.{pfs_place, IsZoneCount, inode_ref, leaf_ref, map_slot, new_root, new_map, new_header}
+use Rattle.h2_image.specs.VolumeLaws.{slot_in_map}
+use Rattle.h2_cmd.specs.Planning.{block_at, IsPlanned}
+
+pfs_valid : (pfs : Places) → IsValid (inode_ref pfs_place pfs)
+pfs_valid pfs = record {
+  keybits = refl;
+  key_above = omega arith;
+  key_below = omega arith;
+  block = record { radix = refl; place_above = omega arith; place_below = omega arith; place_multiple = refl; id_above = omega arith; id_below = omega arith };
+  check = xxh64_of-lt pfs 1024;
+}
+
+pfs_root : (pfs : Places) → IsRootRef (inode_ref pfs_place pfs)
+pfs_root pfs = record { valid = pfs_valid pfs; kind = tt; key_below = omega arith }
+
+empty_root : IsRootRef empty_ref
+empty_root = record { valid = refl; kind = tt; key_below = omega arith }
+
+root_valid : (pfs : Places) → IsRoot (new_root pfs)
+root_valid pfs = record { length_is = refl; each = each; set = set }
+  where
+    each : All IsRootRef (new_root pfs)
+    each zero d lt = pfs_root pfs
+    each (suc zero) d lt = empty_root
+    each (suc (suc zero)) d lt = empty_root
+    each (suc (suc (suc zero))) d lt = empty_root
+    each (suc (suc (suc (suc k)))) d lt = absurd (omega arith)
+
+    set : IsSet (new_root pfs)
+    set zero d lt = inl refl
+    set (suc zero) d lt = inl refl
+    set (suc (suc zero)) d lt = inl refl
+    set (suc (suc (suc k))) d lt = absurd (omega arith)
+
+slot_valid : (zones : ℕ) (leaves : ℕ → Places) → IsZoneCount zones → (slot : ℕ) → IsMapSlot zones 1 slot (map_slot zones leaves slot)
+slot_valid zones leaves count slot = record {
+  leaf = λ few lt. let used : nat_lt slot zones ≡ true = lt-ltb slot zones lt in rw used (record { kind = refl; key = refl; keybits = refl; place = refl; id = refl });
+  node = λ many. let most : zones ≤ 8 = count.high in absurd (omega arith);
+  unused = λ le. let unused : nat_lt slot zones ≡ false = le-ltb slot zones le in rw unused refl;
+}
+
+map_valid : (zones : ℕ) (leaves : ℕ → Places) → IsZoneCount zones → All IsValid (new_map zones leaves) → IsMap zones 1 (new_map zones leaves)
+map_valid zones leaves count valid = record {
+  length_is = refl;
+  valid = valid;
+  slots = λ slot d lt. subst (IsMapSlot zones 1 slot) (sym (slot_in_map zones leaves slot d lt)) (slot_valid zones leaves count slot);
+}
+
+new_header_valid : (zones : ℕ) (pfs : Places) (leaves : ℕ → Places) → IsZoneCount zones → All IsValid (new_map zones leaves) → IsHeader (new_header zones pfs leaves)
+new_header_valid zones pfs leaves count valid = record {
+  ranges = record {
+    zones_low = count.low;
+    zones_high = let most : zones ≤ 8 = count.high in omega arith;
+    number_low = omega arith;
+    number_high = omega arith;
+    map_number = refl;
+    next_low = omega arith;
+    next_high = omega arith;
+  };
+  root = root_valid pfs;
+  map = map_valid zones leaves count valid;
+}
+
+pub planned_header_valid : (zones : ℕ) (pieces : List Piece) (h : Header) → IsPlanned zones pieces h → IsHeader h
+planned_header_valid zones pieces h p =
+    subst IsHeader (sym p.header) (new_header_valid zones (block_at pieces 1) (λ zone. block_at pieces (zone + 2)) p.zone_count
+    (subst (λ (x : Header). All IsValid x.map) p.header p.map_valid))

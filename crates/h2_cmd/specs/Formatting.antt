@@ -1,0 +1,60 @@
+-- What formatting does to a disk.
+use Rattle.std.specs.Prelude.{◌≡◌, ◌⊎◌, ◌<◌, ◌≤◌, ℕ, ◌+◌, List, Option, Some, None, MatchOption, slice_index_or}
+use Rattle.h2_num.specs.Places.{Places, Same}
+use Rattle.h2_disk.specs.Trace.{Call, after, IsDurable}
+use Rattle.h2_header.specs.declared.header.Header.{Header}
+use Rattle.h2_header.specs.Header.{IsHeaderAt, NoHeaderAt}
+use Rattle.h2_checkpoint.specs.Slots.{IsSlot, slot_bytes, InSlot}
+use Rattle.h2_checkpoint.specs.Stands.{DiskState, MayBeCut}
+use Rattle.h2_image.specs.NewVolume.{InNewBlocks}
+use Rattle.h2_image.specs.VolumeFormat.{volume, IsNewest, HasNoHeader, IsFormatted}
+use Rattle.h2_cmd.specs.declared.formatting.Formatting.{Formatting}
+use Rattle.h2_cmd.specs.declared.formatting.Formatting.TheVariants.{Made, Already}
+
+-- what a slot of the image was found to hold
+abbrev pub IsSlotHeader : Places → ℕ → Option Header → Type 0
+IsSlotHeader image slot found = MatchOption found (NoHeaderAt slot (slot_bytes image slot)) (λ h. IsHeaderAt slot (slot_bytes image slot) h)
+
+-- the headers of the first n slots
+abbrev pub AreSlotHeaders : ℕ → Places → List (Option Header) → Type 0
+AreSlotHeaders n image headers = (slot : ℕ) → slot < n → IsSlotHeader image slot (slice_index_or headers slot None)
+
+-- the number of the newest header, or that there is no header
+abbrev pub IsNewestNumber : Places → Option ℕ → Type 0
+IsNewestNumber image None = HasNoHeader image
+IsNewestNumber image (Some number) = (h : Header) × IsNewest image h × (h.number ≡ number)
+
+-- all bytes but those of the new volume's blocks and of its header's slot are as they were
+abbrev pub SameElsewhere : ℕ → Places → Places → Type 0
+SameElsewhere zones old new = (k : ℕ) → (InNewBlocks zones k → ⊥) → (InSlot 0 k → ⊥) → new k ≡ old k
+
+-- a volume was made where there was no header, and is durable
+pub record MakesVolume (zones : ℕ) (old new : DiskState) : Type 0 where
+  pub none : HasNoHeader old.image
+  pub formatted : IsFormatted zones new.image
+  pub durable : IsDurable new.trace new.image
+
+-- a header stood there already, and nothing was changed
+pub record FindsHeader (number : ℕ) (old new : DiskState) : Type 0 where
+  pub header : Header
+  pub newest : IsNewest old.image header
+  pub number_is : header.number ≡ number
+  pub image : Same old.image new.image
+  pub trace : new.trace ≡ old.trace
+
+-- what formatting answers says what it did
+abbrev pub DoesFormat : ℕ → DiskState → DiskState → Formatting → Type 0
+DoesFormat zones old new Made = MakesVolume zones old new
+DoesFormat zones old new (Already number) = FindsHeader number old new
+
+-- and how long it took: a write for each block and for the header, and two syncs
+abbrev pub TakesMoments : ℕ → ℕ → ℕ → Formatting → Type 0
+TakesMoments zones old new Made = new ≡ old + zones + 7
+TakesMoments zones old new (Already number) = new ≡ old
+
+-- At each moment from the old state to the new one a power cut leaves no header, or a new volume of so many zones, where
+-- headers are torn into no others and durable bytes that are written again stay.
+pub record CutsFormat (zones : ℕ) (old new : DiskState) : Type 0 where
+  pub since : List Call
+  pub trace_is : new.trace ≡ after since old.trace
+  pub each : (m : ℕ) (image : Places) → old.moment ≤ m → m ≤ new.moment → MayBeCut volume old.image since new.trace m image → HasNoHeader image ⊎ IsFormatted zones image

@@ -1,0 +1,39 @@
+-- How a run of `format` ends.
+use Rattle.std.specs.Prelude.{◌≡◌, ◌≤◌, ℕ, ◌+◌, Bool, IsTrue}
+use Rattle.h2_num.specs.Causes.{Rose}
+use Rattle.h2_checkpoint.specs.Stands.{DiskState}
+use Rattle.h2_cmd.specs.declared.status.Status.{Status}
+use Rattle.h2_cmd.specs.declared.status.Status.TheVariants.{Done, Usage, SinkFault, DiskFault, NoMemory, AlreadyFormatted}
+use Rattle.h2_cmd.specs.Formatting.{MakesVolume, FindsHeader}
+use Rattle.h2_cmd.specs.Lines.{SinkState, PrintsWhole, PrintsFront, Prints, formatted_line, disk_fault_line, already_line}
+
+-- the disk and the sink before a run and after it, and whether they tell what they hold
+pub record Run : Type 0 where
+  pub disk_tells : Bool
+  pub disk_old : DiskState
+  pub disk_new : DiskState
+  pub disk_faults_old : ℕ
+  pub disk_faults_new : ℕ
+  pub sink_tells : Bool
+  pub sink_old : SinkState
+  pub sink_new : SinkState
+
+-- the volume was made, in so many moments
+pub record HasMade (zones : ℕ) (run : Run) : Type 0 where
+  pub made : IsTrue run.disk_tells → MakesVolume zones run.disk_old run.disk_new
+  pub moments : run.disk_new.moment ≡ run.disk_old.moment + zones + 7
+
+-- the image has a header already, with this number, and the disk is as it was
+pub record HasFound (number : ℕ) (run : Run) : Type 0 where
+  pub found : IsTrue run.disk_tells → FindsHeader number run.disk_old run.disk_new
+  pub moments : run.disk_new.moment ≡ run.disk_old.moment
+  pub line : IsTrue run.sink_tells → Prints (already_line number) run.sink_old run.sink_new
+
+-- what each status says, a row for each; memory may be wanting at any time
+abbrev pub Ends : ℕ → Run → Status → Type 0
+Ends zones run Done = HasMade zones run × (IsTrue run.sink_tells → PrintsWhole (formatted_line zones) run.sink_old run.sink_new)
+Ends zones run Usage = ⊥
+Ends zones run SinkFault = HasMade zones run × Rose run.sink_old.faults run.sink_new.faults × (IsTrue run.sink_tells → PrintsFront (formatted_line zones) run.sink_old run.sink_new)
+Ends zones run DiskFault = Rose run.disk_faults_old run.disk_faults_new × (IsTrue run.sink_tells → Prints disk_fault_line run.sink_old run.sink_new)
+Ends zones run NoMemory = Unit {0}
+Ends zones run AlreadyFormatted = (number : ℕ) × HasFound number run
