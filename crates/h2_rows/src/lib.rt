@@ -1,0 +1,2 @@
+//! Tests over several crates.
+#![tactic(auto)]
