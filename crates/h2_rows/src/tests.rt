@@ -1,0 +1,9 @@
+mod checks;
+mod cuts;
+mod failing_disks;
+mod failing_sinks;
+mod files;
+mod formatting;
+mod hostile_images;
+mod running;
+mod usage;
