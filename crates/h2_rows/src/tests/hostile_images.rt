@@ -3,23 +3,20 @@ ghost use Rattle.std.specs.Prelude.{◌≡◌, length};
 use super::running::{FORMAT_4, FORMATTED_4, bytes_at, empty_disk, expect, newest_header};
 use h2_disk::SureDisk;
 use h2_header::HEADER_BYTES;
+use h2_num::put_bytes;
 use std::process::Abort;
 use std::test::Fail;
 
-// The places of the four slots.
-const SLOT_PLACES: [u64; 4] = [0, 33_554_432, 67_108_864, 100_663_296];
+// Slots are so many bytes apart.
+const SLOT_STRIDE: u64 = 33_554_432;
 
 // A disk with these bytes in the slots from one on has no header, and is formatted.
-fn check_image(
-    rt: &(impl Abort + AllocGlobal),
-    first: usize,
-    block: &[u8],
-) -> Result<(), Fail>
+fn check_image(rt: &(impl Abort + AllocGlobal), first: u32, block: &[u8]) -> Result<(), Fail>
     requires { length block.now ≡ 65536 }
 {
     let mut disk = empty_disk(rt.alloc(), &[], &[])?;
     for slot in first..4 {
-        disk.poke(SLOT_PLACES[slot], block)?;
+        disk.poke(SLOT_STRIDE * slot as u64, block)?;
     }
     assert_eq!(rt; newest_header(rt.alloc(), &mut disk)?, None);
     let mut disk = expect(rt, &FORMAT_4, disk, 0, FORMATTED_4)?;
@@ -31,9 +28,8 @@ fn check_image(
 fn garbage_is_no_header(rt: HostRuntime) -> Result<(), Fail> {
     let mut block = vec![in rt.alloc(); 0xFFu8; HEADER_BYTES]?;
     check_image(&rt, 0, &block)?;
-    for (k, byte) in b"H2VOLUME\x01\0\0\0\x04\0\0\0\x01".iter().enumerate() {
-        block[k] = *byte;
-    }
+    // the front of a header: the magic, version 1 and four zones
+    put_bytes(&mut block, 0, b"H2VOLUME\x01\0\0\0\x04\0\0\0");
     check_image(&rt, 0, &block)
 }
 

@@ -1,4 +1,5 @@
-ghost use Rattle.std.specs.Prelude.{◌≡◌, IfOk, vec_len};
+ghost use Rattle.std.specs.Prelude.{◌≡◌, ◌+◌, ◌≤◌, IfOk, vec_len};
+ghost use Rattle.h2_disk.specs.Mem.{mem_moment};
 
 use h2_cmd::{Outcome, find_newest, run_alone};
 use h2_disk::{Disk, MemDisk};
@@ -24,7 +25,9 @@ pub const ALREADY_1: &str = "already formatted: header 1\n";
 pub const FORMAT_4: [&str; 3] = ["format", "IMG", "4"];
 
 /// An empty disk that fails at these moments and at these reads.
-pub fn empty_disk(alloc: Global, moments: &[u64], reads: &[u64]) -> Result<MemDisk, Fail> {
+pub fn empty_disk(alloc: Global, moments: &[u64], reads: &[u64]) -> Result<MemDisk, Fail>
+    ensures { IfOk result (λ disk. mem_moment disk ≡ 0) }
+{
     let moments = Vec::from_slice(alloc, moments)?;
     let reads = Vec::from_slice(alloc, reads)?;
     Ok(MemDisk::new(alloc, moments, reads)?)
@@ -67,7 +70,12 @@ pub fn newest_header<D: Disk>(alloc: Global, disk: &mut D) -> Result<Option<u64>
 }
 
 /// The bytes of so many places of the disk, from a place on.
-pub fn bytes_at<D: Disk>(alloc: Global, disk: &mut D, at: u64, count: usize) -> Result<Vec<u8>, Fail>
+pub fn bytes_at<D: Disk>(
+    alloc: Global,
+    disk: &mut D,
+    at: u64,
+    count: usize,
+) -> Result<Vec<u8>, Fail>
     requires { at + count ≤ 17179869184 }
     ensures { IfOk result (λ bytes. vec_len bytes ≡ count) }
 {
