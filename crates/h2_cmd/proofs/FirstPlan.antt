@@ -50,12 +50,12 @@ apart_at (p ∷ pieces) h = (λ k r q. first k r (in_piece pieces k q), apart_at
 
 module _ (zones : ℕ) (pieces : List Piece) (h : Header) (p : IsPlanned zones pieces h) where
   -- where each piece lies
-  place_of : ℕ → ℕ
+  unfoldable pub place_of : ℕ → ℕ
   place_of zero = directory_place
   place_of (suc zero) = pfs_place
   place_of (suc (suc zone)) = leaf_place zone 0
 
-  lies_at : (i : ℕ) → i < zones + 2 → IsBlockAt (place_of i) (piece_at pieces i)
+  pub lies_at : (i : ℕ) → i < zones + 2 → IsBlockAt (place_of i) (piece_at pieces i)
   unfolding place_of
   lies_at zero lt = p.inodes.directory_at
   lies_at (suc zero) lt = p.inodes.pfs_at

@@ -4,3 +4,5 @@ pub mod Segments
 pub mod Planned
 pub mod FirstHeader
 pub mod FirstPlan
+pub mod Written
+pub mod Slots

@@ -79,10 +79,10 @@ fn newest_number(headers: &[Option<Header>; SLOTS]) -> Option<u64>
     let Some(slot) = newest(headers) else {
         return None;
     };
-    let Some(header) = &headers[slot] else {
-        unreachable!();
-    };
-    Some(header.number)
+    match headers[slot] {
+        Some(header) => Some(header.number),
+        None => None,
+    }
 }
 
 /// The number of the newest header of an image, or None where no slot has a header. The block has the
@@ -121,7 +121,10 @@ fn write_plan<D: Disk>(
     ensures cause { IfErr result (λ fault. HasCause (D.faults disk.old) (D.faults disk.new) fault) }
 {
     write_into(&plan.header, block);
-    make::<D, Volume>(disk, &plan.pieces, FIRST_SLOT_PLACE, block)
+    if let Err(fault) = make::<D, Volume>(disk, &plan.pieces, FIRST_SLOT_PLACE, block) {
+        return Err(fault);
+    }
+    Ok(())
 }
 
 /// Makes a volume of so many zones of 32 MiB where the image has no header.
@@ -147,11 +150,17 @@ pub fn format_volume<D: Disk>(
     let Ok(mut block) = vec![in alloc; 0u8; HEADER_BYTES] else {
         return Err(DiskFault::NoMemory);
     };
-    match find_newest(disk, &mut block) {
-        Ok(None) => make_volume(alloc, zones, disk, &mut block),
-        Ok(Some(number)) => Ok(Formatting::Already { number }),
-        Err(fault) => Err(fault),
+    let found = match find_newest(disk, &mut block) {
+        Ok(found) => found,
+        Err(fault) => return Err(fault),
+    };
+    if let Some(number) = found {
+        return Ok(Formatting::Already { number });
     }
+    if let Err(fault) = make_volume(alloc, zones, disk, &mut block) {
+        return Err(fault);
+    }
+    Ok(Formatting::Made)
 }
 
 // Plans the volume and writes it.
@@ -160,10 +169,9 @@ fn make_volume<D: Disk>(
     zones: u32,
     disk: &mut D,
     block: &mut [u8],
-) -> Result<Formatting, DiskFault>
+) -> Result<(), DiskFault>
     requires zones { IsZoneCount zones }
     requires size { length block.old ≡ 65536 }
-    ensures made { IfOk result (λ formatting. formatting ≡ Formatting.Made) }
     ensures makes { OnOk result (IsTrue D.tells → HasNoHeader (D.image disk.old)
         → MakesVolume zones (disk_state D.image D.moment D.trace disk.old) (disk_state D.image D.moment D.trace disk.new)) }
     ensures cuts { IsTrue D.tells → IsDurable (D.trace disk.old) (D.image disk.old) → HasNoHeader (D.image disk.old)
@@ -180,5 +188,5 @@ fn make_volume<D: Disk>(
     if let Err(fault) = write_plan(disk, &plan, zones, block) {
         return Err(fault);
     }
-    Ok(Formatting::Made)
+    Ok(())
 }
