@@ -6,3 +6,4 @@ pub mod FirstHeader
 pub mod FirstPlan
 pub mod Written
 pub mod Slots
+pub mod Kept
