@@ -5,5 +5,6 @@ mod failing_sinks;
 mod files;
 mod formatting;
 mod hostile_images;
+mod new_volumes;
 mod running;
 mod usage;
