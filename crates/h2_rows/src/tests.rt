@@ -1,0 +1,10 @@
+mod checks;
+mod cuts;
+mod failing_disks;
+mod failing_sinks;
+mod files;
+mod formatting;
+mod hostile_images;
+mod new_volumes;
+mod running;
+mod usage;
