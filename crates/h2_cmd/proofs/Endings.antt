@@ -1,5 +1,5 @@
 -- The statuses by their numbers.
-use Rattle.std.proofs.Common.{◌≡◌, ◌⊎◌, ℕ, ◌+◌, List, [], ◌∷◌, refl, subst, inl, inr, arith}
+use Rattle.std.proofs.Common.{◌≡◌, ◌⊎◌, ℕ, List, [], ◌∷◌, refl, subst, inl, inr, arith}
 use Rattle.std.specs.Prelude.{IsTrue, Contains}
 use Rattle.h2_cmd.specs.declared.status.Status.{Status}
 use Rattle.h2_cmd.specs.declared.status.Status.TheVariants.{Done, Usage, SinkFault, DiskFault, NoMemory, AlreadyFormatted}
@@ -9,7 +9,7 @@ use Rattle.h2_checkpoint.specs.Stands.{DiskState}
 use Rattle.h2_cmd.specs.declared.command_line.Request.{Request}
 use Rattle.h2_cmd.specs.declared.command_line.Request.TheVariants.{Format}
 use Rattle.h2_cmd.specs.Formatting.{SameElsewhere, CutsFormat}
-use Rattle.h2_cmd.specs.Lines.{SinkState, PrintsWhole, PrintsFront, Prints, formatted_line}
+use Rattle.h2_cmd.specs.Lines.{PrintsWhole, PrintsFront, formatted_line}
 use Rattle.h2_cmd.specs.Run.{Run, HasMade, Ends, IsServed, EndsAs, CutsAs, SameElsewhereAs}
 use Rattle.h2_cmd.specs.CommandLine.{Asks}
 use Rattle.h2_cmd.specs.CommandLineLaws.{one_request}

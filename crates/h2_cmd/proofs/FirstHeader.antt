@@ -1,18 +1,16 @@
 -- The header of a planned volume keeps the rules of headers.
-use Rattle.std.proofs.Common.{◌≡◌, ◌⊎◌, ◌<◌, ◌≤◌, ℕ, zero, suc, ◌+◌, List, [], ◌∷◌, length, slice_index_or, refl, sym, ap, subst, ◌∙◌, inl, inr, arith}
+use Rattle.std.proofs.Common.{◌≡◌, ◌≤◌, ℕ, zero, suc, ◌+◌, List, refl, sym, subst, inl, arith}
 use Rattle.std.specs.Prelude.{All, nat_lt, true, false}
 use Rattle.std.proofs.lemmas.Bool.{lt-ltb, le-ltb}
 use Rattle.h2_num.specs.Places.{Places}
 use Rattle.h2_check.specs.XxhLaws.{xxh64_of-lt}
-use Rattle.h2_ref.specs.declared.reference.Kind.TheVariants.{Empty, Inode}
-use Rattle.h2_ref.specs.declared.reference.Ref.{Ref}
 use Rattle.h2_ref.specs.Ref.{IsValid, empty_ref}
 use Rattle.h2_ref.specs.Set.{IsSet}
 use Rattle.h2_header.specs.declared.header.Header.{Header}
 use Rattle.h2_header.specs.Map.{IsMapSlot, IsMap}
 use Rattle.h2_header.specs.Header.{IsRootRef, IsRoot, IsHeader}
 use Rattle.h2_checkpoint.specs.declared.piece.Piece.{Piece}
-use Rattle.h2_image.specs.NewVolume.{pfs_place, IsZoneCount, inode_ref, leaf_ref, map_slot, new_root, new_map, new_header}
+use Rattle.h2_image.specs.NewVolume.{pfs_place, IsZoneCount, inode_ref, map_slot, new_root, new_map, new_header}
 use Rattle.h2_image.specs.VolumeLaws.{slot_in_map}
 use Rattle.h2_cmd.specs.Planning.{block_at, IsPlanned}
 

@@ -1,12 +1,12 @@
 -- Inodes whose fields are put in order over zeros.
-use Rattle.std.proofs.Common.{◌≡◌, ◌<◌, ◌≤◌, ℕ, zero, suc, ◌+◌, ◌*◌, List, length, replicate, slice_index, refl, sym, ap, ◌∙◌, arith}
+use Rattle.std.proofs.Common.{◌≡◌, ◌≤◌, ℕ, zero, suc, ◌+◌, List, length, replicate, refl, ◌∙◌, arith}
 use Rattle.std.proofs.lemmas.List.{get_or-replicate}
 use Rattle.h2_num.specs.Places.{Places, places, number_at, from_place, SameOutside, ZeroIn, Puts, Lays}
-use Rattle.h2_num.specs.PlaceLaws.{number_stays, zeros_stay, zeros_within, outside_both}
+use Rattle.h2_num.specs.PlaceLaws.{number_stays, zeros_within, outside_both}
 use Rattle.h2_ref.specs.declared.reference.Ref.{Ref}
 use Rattle.h2_ref.specs.Ref.{RefBytes}
 use Rattle.h2_ref.specs.RefLaws.{RefBytes-same}
-use Rattle.h2_image.specs.NewBlocks.{InodeHead, RootPfsBytes}
+use Rattle.h2_image.specs.NewBlocks.{InodeHead}
 
 -- a new array of zeros
 pub zeros_in_array : (n : ℕ) → ZeroIn 0 n (places (replicate n 0))

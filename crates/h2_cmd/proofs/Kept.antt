@@ -1,5 +1,5 @@
 -- What is said of a disk after its headers were read is said of it before.
-use Rattle.std.proofs.Common.{◌≡◌, ◌⊎◌, ◌<◌, ◌≤◌, ℕ, refl, sym, subst, arith}
+use Rattle.std.proofs.Common.{◌≡◌, ◌≤◌, ℕ, refl, subst, arith}
 use Rattle.std.specs.Prelude.{Option, Some, None}
 use Rattle.h2_num.specs.Places.{Places}
 use Rattle.h2_disk.specs.Trace.{Trace, latest, IsDurable}

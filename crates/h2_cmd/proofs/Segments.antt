@@ -1,11 +1,11 @@
 -- The segments of a leaf of a new volume.
-use Rattle.std.proofs.Common.{◌≡◌, ◌⊎◌, ◌<◌, ◌≤◌, ℕ, zero, suc, ◌+◌, ◌*◌, ◌/◌, ◌%◌, ◌^◌, List, length, slice_index, replicate, refl, sym, ap, ◌∙◌, subst, inl, inr, arith}
+use Rattle.std.proofs.Common.{◌≡◌, ◌⊎◌, ◌<◌, ◌≤◌, ℕ, zero, suc, ◌+◌, ◌/◌, ◌%◌, ◌^◌, length, replicate, refl, sym, ap, ◌∙◌, inl, inr, arith}
 use Rattle.std.specs.Prelude.{nat_eq, false}
 use Rattle.std.proofs.lemmas.Bool.{cases_lt, ne_eqb}
 use Rattle.std.proofs.lemmas.List.{get_or-replicate, length-replicate}
 use Rattle.h2_num.specs.Places.{Places, number_at, from_place, SameOutside, ZeroIn, Puts, Lays}
 use Rattle.h2_num.specs.PlaceLaws.{number_at-same}
-use Rattle.h2_image.specs.NewBlocks.{code_at, SegmentBytes, new_code, new_free}
+use Rattle.h2_image.specs.NewBlocks.{code_at, SegmentBytes, new_code}
 use Rattle.h2_cmd.proofs.Inodes.{number_of_zeros}
 
 -- a byte of four reserved chunks, of one used one, and of free ones

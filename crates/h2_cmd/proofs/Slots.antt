@@ -1,20 +1,20 @@
 -- The headers that are read from the slots of an image.
-use Rattle.std.proofs.Common.{◌≡◌, ◌⊎◌, ◌<◌, ◌≤◌, ℕ, ◌+◌, List, [], length, slice_index_or, slice_set, refl, sym, ap, subst, ◌∙◌, inl, inr, arith}
-use Rattle.std.specs.Prelude.{Option, Some, None, IfSome, IfNone, MatchOption}
+use Rattle.std.proofs.Common.{◌≡◌, ◌⊎◌, ◌<◌, ◌≤◌, ℕ, ◌+◌, List, [], length, slice_index_or, slice_set, refl, sym, subst, ◌∙◌, inl, inr, arith}
+use Rattle.std.specs.Prelude.{Option, Some, None, IfSome, IfNone}
 use Rattle.std.proofs.lemmas.Bool.{cases_lt}
-use Rattle.std.proofs.lemmas.List.{get_or-set_same, get_or-set_other, get_or_default}
+use Rattle.std.proofs.lemmas.List.{get_or-set_same, get_or-set_other}
 use mathlib.Core.Path.{fun_ext}
 use Rattle.h2_num.specs.Places.{Places, Same, SameBelow}
-use Rattle.h2_disk.specs.Trace.{Trace, Call, MayLeave, IsDurable, latest, up_to}
+use Rattle.h2_disk.specs.Trace.{Trace, MayLeave, IsDurable, latest, up_to}
 use Rattle.h2_disk.specs.TraceLaws.{up_to-all}
 use Rattle.h2_disk.specs.Disk.{Keeps}
 use Rattle.h2_header.specs.declared.header.Header.{Header}
 use Rattle.h2_header.specs.Header.{IsHeaderAt, NoHeaderAt}
 use Rattle.h2_header.specs.HeaderLaws.{IsHeaderAt-same, one_number}
 use Rattle.h2_header.specs.Newest.{NoneOf, IsNewestOf}
-use Rattle.h2_checkpoint.specs.Slots.{IsSlot, slot_bytes, slot_place}
+use Rattle.h2_checkpoint.specs.Slots.{slot_bytes, slot_place}
 use Rattle.h2_checkpoint.specs.Stands.{DiskState}
-use Rattle.h2_image.specs.VolumeFormat.{volume, HasNoHeader}
+use Rattle.h2_image.specs.VolumeFormat.{HasNoHeader}
 use Rattle.h2_cmd.specs.Formatting.{IsSlotHeader, AreSlotHeaders, IsNewestNumber, CutsFormat}
 
 pub slot_read : (image block : Places) (slot : ℕ) (found : Option Header) → SameBelow 65536 (slot_bytes image slot) block → IfSome found (IsHeaderAt slot block) → IfNone found (NoHeaderAt slot block) → IsSlotHeader image slot found
@@ -77,12 +77,15 @@ greater image slot (Some g) other n is at most =
 pub newest_some : (image : Places) (headers : List (Option Header)) (slot : ℕ) (h : Header) → IsNewestOf 4 headers slot → slice_index_or headers slot None ≡ Some h → AreSlotHeaders 4 image headers → IsNewestNumber image (Some h.number)
 newest_some image headers slot h newest is are =
     let here : newest.header ≡ h = let e = newest.here in cc in
-    let at : IsHeaderAt slot (slot_bytes image slot) h = slot_some image slot (slice_index_or headers slot None) h (are slot newest.below) is in
-    (h, record {
-      here = subst (λ (x : ℕ). IsHeaderAt x (slot_bytes image x) h) (sym at.in_turn) at;
-      greatest = λ s other s_slot other_at. greater image s (slice_index_or headers s None) other h.number (are s s_slot) other_at
-          (λ g g_is. subst (λ (x : Header). g.number ≤ x.number) here (newest.greatest s g s_slot g_is));
-    }, refl)
+    let at : IsHeaderAt slot (slot_bytes image slot) h = slot_some image slot (slice_index_or headers slot None) h (are slot newest.below) is in (
+      h,
+      record {
+        here = subst (λ (x : ℕ). IsHeaderAt x (slot_bytes image x) h) (sym at.in_turn) at;
+        greatest = λ s other s_slot other_at. greater image s (slice_index_or headers s None) other h.number (are s s_slot) other_at
+            (λ g g_is. subst (λ (x : Header). g.number ≤ x.number) here (newest.greatest s g s_slot g_is));
+      },
+      refl,
+    )
 
 -- Where nothing was written
 

@@ -1,5 +1,5 @@
 -- What the law of checkpoints says of a planned volume that is written.
-use Rattle.std.proofs.Common.{◌≡◌, ◌⊎◌, ◌<◌, ◌≤◌, ◌^◌, ℕ, zero, suc, ◌+◌, List, [], length, slice_index_or, refl, sym, ap, subst, ◌∙◌, inl, inr, arith}
+use Rattle.std.proofs.Common.{◌≡◌, ◌⊎◌, ◌<◌, ◌≤◌, ◌^◌, ℕ, zero, suc, ◌+◌, List, [], length, subst, inl, inr, arith}
 use Rattle.std.specs.Prelude.{All}
 use Rattle.std.proofs.lemmas.List.{get_or_default}
 use Rattle.h2_num.specs.Places.{Places, places, InRange}
@@ -7,11 +7,9 @@ use Rattle.h2_disk.specs.Trace.{IsDurable}
 use Rattle.h2_header.specs.declared.header.Header.{Header}
 use Rattle.h2_header.specs.Header.{HeadBytes}
 use Rattle.h2_checkpoint.specs.declared.piece.Piece.{Piece}
-use Rattle.h2_checkpoint.specs.Slots.{InSlot}
 use Rattle.h2_checkpoint.specs.Stands.{DiskState}
 use Rattle.h2_checkpoint.specs.Steps as steps
 use Rattle.h2_checkpoint.specs.Making.{IsNoneOrMade, MakesSafely, Makes}
-use Rattle.h2_image.specs.NewVolume.{InNewBlocks}
 use Rattle.h2_image.specs.VolumeFormat.{volume, HasNoHeader, IsFormatted}
 use Rattle.h2_image.specs.VolumeLaws.{volume_lawful}
 use Rattle.h2_cmd.specs.Planning.{piece_at, IsPlanned}

@@ -4,7 +4,7 @@ use Rattle.h2_num.specs.Places.{Places, Same}
 use Rattle.h2_disk.specs.Trace.{Call, after, IsDurable}
 use Rattle.h2_header.specs.declared.header.Header.{Header}
 use Rattle.h2_header.specs.Header.{IsHeaderAt, NoHeaderAt}
-use Rattle.h2_checkpoint.specs.Slots.{IsSlot, slot_bytes, InSlot}
+use Rattle.h2_checkpoint.specs.Slots.{slot_bytes, InSlot}
 use Rattle.h2_checkpoint.specs.Stands.{DiskState, MayBeCut}
 use Rattle.h2_image.specs.NewVolume.{InNewBlocks}
 use Rattle.h2_image.specs.VolumeFormat.{volume, IsNewest, HasNoHeader, IsFormatted}

@@ -1,5 +1,5 @@
 -- How a run of `format` ends.
-use Rattle.std.specs.Prelude.{◌≡◌, ◌≤◌, ℕ, ◌+◌, Bool, IsTrue}
+use Rattle.std.specs.Prelude.{◌≡◌, ℕ, ◌+◌, Bool, IsTrue}
 use Rattle.h2_num.specs.Causes.{Rose}
 use Rattle.h2_num.specs.Places.{Places}
 use Rattle.h2_checkpoint.specs.Stands.{DiskState}

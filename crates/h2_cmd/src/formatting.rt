@@ -51,10 +51,7 @@ fn read_slot<D: Disk>(
 }
 
 // The headers in the four slots.
-fn read_slots<D: Disk>(
-    disk: &mut D,
-    block: &mut [u8],
-) -> Result<[Option<Header>; SLOTS], DiskFault>
+fn read_slots<D: Disk>(disk: &mut D, block: &mut [u8]) -> Result<[Option<Header>; SLOTS], DiskFault>
     requires size { length block.old ≡ 65536 }
     ensures headers { IfOk result (λ headers. IsTrue D.tells → AreSlotHeaders 4 (D.image disk.old) headers) }
     ensures keeps { IsTrue D.tells → Keeps (D.image disk.old) (D.image disk.new) (D.trace disk.old) (D.trace disk.new) }

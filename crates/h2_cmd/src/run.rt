@@ -86,14 +86,14 @@ fn say_already<K: Sink>(alloc: Global, number: u64, out: &mut K) -> Status
 fn run_format<D: Disk, K: Sink>(alloc: Global, zones: u32, disk: &mut D, out: &mut K) -> Status
     requires { IsZoneCount zones }
     ensures ends { Ends zones (record {
-        disk_tells = D.tells;
-        disk_old = disk_state D.image D.moment D.trace disk.old;
-        disk_new = disk_state D.image D.moment D.trace disk.new;
-        disk_faults_old = D.faults disk.old;
-        disk_faults_new = D.faults disk.new;
-        sink_tells = K.tells;
-        sink_old = sink_state K.held K.faults out.old;
-        sink_new = sink_state K.held K.faults out.new;
+      disk_tells = D.tells;
+      disk_old = disk_state D.image D.moment D.trace disk.old;
+      disk_new = disk_state D.image D.moment D.trace disk.new;
+      disk_faults_old = D.faults disk.old;
+      disk_faults_new = D.faults disk.new;
+      sink_tells = K.tells;
+      sink_old = sink_state K.held K.faults out.old;
+      sink_new = sink_state K.held K.faults out.new;
     }) result }
     ensures cuts { IsTrue D.tells → IsDurable (D.trace disk.old) (D.image disk.old) → HasNoHeader (D.image disk.old)
         → CutsFormat zones (disk_state D.image D.moment D.trace disk.old) (disk_state D.image D.moment D.trace disk.new) }
@@ -119,14 +119,14 @@ fn run_request<D: Disk, K: Sink>(
 ) -> Status
     requires { IsServed request }
     ensures ends { EndsAs request (record {
-        disk_tells = D.tells;
-        disk_old = disk_state D.image D.moment D.trace disk.old;
-        disk_new = disk_state D.image D.moment D.trace disk.new;
-        disk_faults_old = D.faults disk.old;
-        disk_faults_new = D.faults disk.new;
-        sink_tells = K.tells;
-        sink_old = sink_state K.held K.faults out.old;
-        sink_new = sink_state K.held K.faults out.new;
+      disk_tells = D.tells;
+      disk_old = disk_state D.image D.moment D.trace disk.old;
+      disk_new = disk_state D.image D.moment D.trace disk.new;
+      disk_faults_old = D.faults disk.old;
+      disk_faults_new = D.faults disk.new;
+      sink_tells = K.tells;
+      sink_old = sink_state K.held K.faults out.old;
+      sink_new = sink_state K.held K.faults out.new;
     }) result }
     ensures cuts { IsTrue D.tells → IsDurable (D.trace disk.old) (D.image disk.old) → HasNoHeader (D.image disk.old)
         → CutsAs request (disk_state D.image D.moment D.trace disk.old) (disk_state D.image D.moment D.trace disk.new) }
@@ -211,11 +211,7 @@ pub fn run_alone<D: Disk, K: Sink>(
             }
         }
         None => {
-            let status = say_refusal(
-                out,
-                b"usage: h2 COMMAND IMAGE [ARGUMENTS]\n",
-                Status::Usage,
-            );
+            let status = say_refusal(out, b"usage: h2 COMMAND IMAGE [ARGUMENTS]\n", Status::Usage);
             Outcome {
                 status: status.code(),
                 disk,

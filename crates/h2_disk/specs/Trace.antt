@@ -1,5 +1,5 @@
 -- What a disk went through, and what a power cut may leave of it.
-use Rattle.std.specs.Prelude.{◌≡◌, ◌⊎◌, ◌≤◌, ℕ, List, [], ◌∷◌, length, nat_le, max, if◌then◌else◌}
+use Rattle.std.specs.Prelude.{◌≡◌, ◌⊎◌, ℕ, List, [], ◌∷◌, length, nat_le, max, if◌then◌else◌}
 use Rattle.h2_num.specs.Places.{Places, places, from_place, InRange, SameBelow, SameOutside, Same, Holds}
 
 -- An image, and then the writes that began, well or not, and the syncs that succeeded, the newest outermost, each with its moment.

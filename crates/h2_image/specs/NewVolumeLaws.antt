@@ -1,13 +1,13 @@
 -- What a new volume reaches: its two inodes and its leaves, off the slots of headers.
-use Rattle.std.specs.Prelude.{◌≡◌, ◌⊎◌, ◌<◌, ◌≤◌, ℕ, zero, suc, ◌+◌, ◌*◌, nat_lt, true, false, List, [], ◌∷◌, length, ◌++◌, slice_index_or, refl}
+use Rattle.std.specs.Prelude.{◌≡◌, ◌<◌, ◌≤◌, ℕ, zero, suc, ◌+◌, ◌*◌, nat_lt, true, false, ◌++◌, slice_index_or, refl}
 use Rattle.std.specs.List.{Contains}
 use Rattle.std.proofs.Common.{ap, sym, subst, ◌∙◌, arith, inl, inr}
 use Rattle.std.proofs.lemmas.Bool.{cases_lt, lt-ltb, le-ltb}
-use Rattle.h2_num.specs.Places.{Places, from_place, InRange, ZeroIn}
+use Rattle.h2_num.specs.Places.{Places, from_place, InRange}
 use Rattle.h2_ref.specs.declared.reference.Kind.{Kind}
 use Rattle.h2_ref.specs.declared.reference.Kind.TheVariants.{Empty, Inode, MapLeaf}
 use Rattle.h2_ref.specs.declared.reference.Ref.{Ref}
-use Rattle.h2_ref.specs.Ref.{RefBytes, IsValid, kind_number, size_of, empty_ref}
+use Rattle.h2_ref.specs.Ref.{RefBytes, kind_number, size_of, empty_ref}
 use Rattle.h2_ref.specs.Spelling.{one_value}
 use Rattle.h2_header.specs.declared.header.Header.{Header}
 use Rattle.h2_header.specs.Map.{leaf_place}

@@ -1,19 +1,19 @@
 -- The format of a volume is lawful: what it says of blocks, headers and volumes depends on their bytes alone.
-use Rattle.std.specs.Prelude.{◌≡◌, ◌≢◌, ◌⊎◌, ◌<◌, ◌≤◌, ℕ, zero, suc, ◌+◌, ◌*◌, ◌/◌, ◌%◌, ◌^◌, ◌==◌, ◌++◌, nat_lt, true, false, List, [], length, codes, if◌then◌else◌, slice_index_or, refl}
+use Rattle.std.specs.Prelude.{◌≡◌, ◌<◌, ◌≤◌, ℕ, zero, suc, ◌+◌, ◌*◌, ◌/◌, ◌%◌, ◌^◌, ◌==◌, ◌++◌, nat_lt, true, false, List, [], length, codes, if◌then◌else◌, slice_index_or, refl}
 use Rattle.std.specs.List.{Contains}
 use Rattle.std.proofs.Common.{ap, sym, subst, ◌∙◌, arith, inl, inr}
 use Rattle.std.proofs.lemmas.Bool.{cases_lt, lt-ltb, le-ltb}
-use Rattle.std.proofs.lemmas.List.Elements.{Contains-append_left, Contains-append_right}
-use Rattle.h2_num.specs.Places.{Places, from_place, number_at, SameBelow, InRange}
+use Rattle.std.proofs.lemmas.List.Elements.{Contains-append_right}
+use Rattle.h2_num.specs.Places.{Places, from_place, SameBelow}
 use Rattle.h2_num.specs.PlaceLaws.{number_same, zeros_same}
 use Rattle.h2_check.specs.Crc.{crc32c_of}
 use Rattle.h2_check.specs.CrcLaws.{crc32c_of-same}
 use Rattle.h2_check.specs.Xxh.{xxh64_of}
 use Rattle.h2_check.specs.XxhLaws.{xxh64_of-same, xxh64_of-lt}
-use Rattle.h2_ref.specs.declared.reference.Kind.TheVariants.{Empty, Inode, MapLeaf}
+use Rattle.h2_ref.specs.declared.reference.Kind.TheVariants.{Inode, MapLeaf}
 use Rattle.h2_ref.specs.declared.reference.Check.TheVariants.{Crc, Xx}
 use Rattle.h2_ref.specs.declared.reference.Ref.{Ref}
-use Rattle.h2_ref.specs.Ref.{RefBytes, IsValid, size_of, empty_ref}
+use Rattle.h2_ref.specs.Ref.{RefBytes, IsValid, size_of}
 use Rattle.h2_ref.specs.RefLaws.{RefBytes-same}
 use Rattle.h2_header.specs.declared.header.Header.{Header}
 use Rattle.h2_header.specs.Header.{IsHeaderAt}

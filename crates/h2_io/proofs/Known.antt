@@ -1,5 +1,5 @@
 -- Known bytes over several writes.
-use Rattle.std.proofs.Common.{◌≡◌, List, ℕ, ◌++◌, [], ap, ◌∙◌, refl}
+use Rattle.std.proofs.Common.{List, ℕ, ◌++◌, [], ap, ◌∙◌, refl}
 use Rattle.std.specs.Prelude.{Option, Some, None}
 use Rattle.std.proofs.lemmas.List.{append-nil}
 use Rattle.std.specs.Io.KnownBytes.{Keeps, Appends}

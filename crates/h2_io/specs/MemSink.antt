@@ -1,5 +1,5 @@
 -- What a sink in memory holds, and when it fails.
-use Rattle.std.specs.Prelude.{ℕ, zero, suc, ◌-◌, List, Option, Some, None}
+use Rattle.std.specs.Prelude.{ℕ, zero, suc, List, Option, Some, None}
 use Rattle.h2_io.specs.declared.memory.MemSink.{MemSink}
 
 abbrev pub bytes_of : MemSink → List ℕ

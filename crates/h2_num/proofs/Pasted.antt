@@ -1,10 +1,10 @@
 -- A number written into a slice by `write_u32(&mut b[at..], v)` and its kin.
-use Rattle.std.proofs.Common.{◌≡◌, ℕ, zero, suc, ◌+◌, ◌-◌, ◌*◌, ◌^◌, ◌<◌, ◌≤◌, List, [], ◌∷◌, ◌++◌, length, take, drop, slice_index, get_or, refl, sym, ap, subst, ◌∙◌, arith, inl, inr}
+use Rattle.std.proofs.Common.{◌≡◌, ℕ, zero, suc, ◌+◌, ◌-◌, ◌^◌, ◌<◌, ◌≤◌, List, ◌++◌, length, take, drop, slice_index, refl, sym, ap, subst, ◌∙◌, arith, inl, inr}
 use Rattle.std.proofs.lemmas.Bool.{cases_lt}
 use Rattle.std.proofs.lemmas.List.{get_or-take, get_or-drop, get_or_past, get_or_append_left, get_or-append_right, length-append, length-take, length-drop}
-use Rattle.byteorder.specs.Endian.{little_number, little_bytes, little_from}
+use Rattle.byteorder.specs.Endian.{little_bytes, little_from}
 use Rattle.byteorder.specs.Numbers.{little_number-reads_back, length-bytes_low_first}
-use Rattle.h2_num.specs.Places.{Places, places, number_at, SameOutside, Puts}
+use Rattle.h2_num.specs.Places.{places, number_at, Puts}
 use Rattle.h2_num.specs.PlaceLaws.{number_at-same}
 
 -- a byte of three parts

@@ -1,5 +1,5 @@
 -- Laws of bytes by their places.
-use Rattle.std.specs.Prelude.{◌≡◌, ◌≢◌, ◌⊎◌, ◌<◌, ◌≤◌, ℕ, zero, suc, ◌+◌, ◌-◌, ◌*◌, nat_le, ◌||◌, true, Bool, List, length, slice_index, refl}
+use Rattle.std.specs.Prelude.{◌≡◌, ◌≢◌, ◌⊎◌, ◌<◌, ◌≤◌, ℕ, zero, suc, ◌+◌, ◌-◌, nat_le, ◌||◌, true, Bool, List, length, slice_index, refl}
 use Rattle.std.proofs.Common.{ap, sym, ◌∙◌, arith, inl, inr}
 use Rattle.std.proofs.lemmas.Bool.{or_cases, leb-true, cases_lt, cases_eq}
 use Rattle.h2_num.specs.Places.{Places, AreBytes, number_at, InRange, SameOutside, SameBelow, ZeroIn, Holds}

@@ -1,4 +1,4 @@
-use Rattle.std.proofs.Common.{◌<◌, ◌≤◌, replicate}
+use Rattle.std.proofs.Common.{replicate}
 use Rattle.h2_num.specs.Places.{places, ZeroIn}
 use Rattle.h2_image.specs.NewBlocks.{InodeHead}
 use Rattle.h2_cmd.proofs.Inodes.{head_put, zeros_in_array}

@@ -1,7 +1,6 @@
 use Rattle.std.proofs.Common.{◌≡◌, ◌<◌, ◌≤◌, ◌⊎◌, ◌+◌, ◌*◌, ℕ, refl, ◌∙◌, subst, sym, inl, inr, arith}
 use Rattle.std.proofs.lemmas.Bool.{cases_lt}
-use Rattle.h2_num.specs.Places.{places, from_place, ZeroIn}
-use Rattle.h2_num.specs.PlaceLaws.{zeros_within}
+use Rattle.h2_num.specs.Places.{places, from_place}
 use Rattle.h2_image.specs.NewBlocks.{SegmentBytes, new_code, new_free}
 use Rattle.h2_cmd.proofs.Inodes.{zeros_in_array}
 use Rattle.h2_cmd.proofs.Segments.{segment_stays}

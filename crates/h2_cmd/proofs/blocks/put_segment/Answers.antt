@@ -1,4 +1,4 @@
-use Rattle.std.proofs.Common.{◌≡◌, ◌+◌, ◌*◌, ℕ, sym, ◌∙◌, subst, arith, rules}
+use Rattle.std.proofs.Common.{◌+◌, ◌*◌, ℕ, sym, ◌∙◌, subst, arith}
 use Rattle.h2_num.specs.Places.{places, from_place, ZeroIn}
 use Rattle.h2_image.specs.NewBlocks.{SegmentBytes, new_code, new_free}
 use Rattle.h2_cmd.proofs.Segments.{reserved_segment, free_segment, used_codes}

@@ -1,4 +1,4 @@
-use Rattle.std.proofs.Common.{◌≡◌, ◌≤◌, ◌<◌, ◌^◌, true, sym, subst, arith}
+use Rattle.std.proofs.Common.{◌≡◌, ◌≤◌, ◌<◌, ◌^◌, true, subst, arith}
 use Rattle.h2_image.specs.NewVolume.{IsZoneCount}
 use Rattle.h2_cmd.proofs.Decimals.{one_number}
 use Rattle.h2_cmd.proofs.command_line.zone_count.Goals as goal

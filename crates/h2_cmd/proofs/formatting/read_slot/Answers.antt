@@ -1,5 +1,5 @@
-use Rattle.std.proofs.Common.{◌≡◌, ◌*◌, length, ap, subst, rules}
-use Rattle.h2_num.specs.Places.{Places, places, from_place, SameBelow}
+use Rattle.std.proofs.Common.{◌≡◌, length, rules}
+use Rattle.h2_num.specs.Places.{places, SameBelow}
 use Rattle.h2_checkpoint.specs.Slots.{slot_bytes}
 use Rattle.h2_cmd.proofs.Slots.{slot_read}
 use Rattle.h2_cmd.proofs.formatting.read_slot.Goals as goal

@@ -1,4 +1,4 @@
-use Rattle.std.proofs.Common.{◌≡◌, List, ℕ, [], ◌∷◌, ◌++◌, length, ap, ◌∙◌, subst, rules}
+use Rattle.std.proofs.Common.{List, [], ◌∷◌, ◌++◌, ap, ◌∙◌, subst, rules}
 use Rattle.h2_num.specs.Places.{places}
 use Rattle.h2_ref.specs.declared.reference.Ref.{Ref}
 use Rattle.h2_checkpoint.specs.declared.piece.Piece.{Piece}

@@ -1,4 +1,4 @@
-use Rattle.std.proofs.Common.{◌<◌, arith}
+use Rattle.std.proofs.Common.{arith}
 use Rattle.h2_cmd.proofs.Planned.{no_leaves, leaf_planned}
 use Rattle.h2_cmd.proofs.planning.plan_leaves.Goals as goal
 

@@ -16,60 +16,60 @@ returns-in-Some-clause-known g c = known c.code.result c.run_request-status.resu
 pub returns-in-Some-clause-sink_fault_line : goal.returns-in-Some-clause-sink_fault_line
 returns-in-Some-clause-sink_fault_line g c = λ zones asks four tells.
     let run : Run = record {
-        disk_tells = g.D.Disk.tells;
-        disk_old = disk_state g.D.Disk.image g.D.Disk.moment g.D.Disk.trace c.args.disk;
-        disk_new = disk_state g.D.Disk.image g.D.Disk.moment g.D.Disk.trace c.run_request-status.new.disk;
-        disk_faults_old = g.D.Disk.faults c.args.disk;
-        disk_faults_new = g.D.Disk.faults c.run_request-status.new.disk;
-        sink_tells = g.K.Sink.tells;
-        sink_old = sink_state g.K.Sink.held g.K.Sink.faults c.args.out.now;
-        sink_new = sink_state g.K.Sink.held g.K.Sink.faults c.run_request-status.new.out;
-      } in
+      disk_tells = g.D.Disk.tells;
+      disk_old = disk_state g.D.Disk.image g.D.Disk.moment g.D.Disk.trace c.args.disk;
+      disk_new = disk_state g.D.Disk.image g.D.Disk.moment g.D.Disk.trace c.run_request-status.new.disk;
+      disk_faults_old = g.D.Disk.faults c.args.disk;
+      disk_faults_new = g.D.Disk.faults c.run_request-status.new.disk;
+      sink_tells = g.K.Sink.tells;
+      sink_old = sink_state g.K.Sink.held g.K.Sink.faults c.args.out.now;
+      sink_new = sink_state g.K.Sink.held g.K.Sink.faults c.run_request-status.new.out;
+    } in
     let ends = ends_format (map string_bytes c.args.words.now) c.in-Some.request c.in-Some.ensures zones asks run c.run_request-status.result c.run_request-status.ensures.ends in
     front_of zones run c.code.result c.run_request-status.result ends c.code.ensures four tells
 
 pub returns-in-Some-clause-formatted_line : goal.returns-in-Some-clause-formatted_line
 returns-in-Some-clause-formatted_line g c = λ zones asks done tells.
     let run : Run = record {
-        disk_tells = g.D.Disk.tells;
-        disk_old = disk_state g.D.Disk.image g.D.Disk.moment g.D.Disk.trace c.args.disk;
-        disk_new = disk_state g.D.Disk.image g.D.Disk.moment g.D.Disk.trace c.run_request-status.new.disk;
-        disk_faults_old = g.D.Disk.faults c.args.disk;
-        disk_faults_new = g.D.Disk.faults c.run_request-status.new.disk;
-        sink_tells = g.K.Sink.tells;
-        sink_old = sink_state g.K.Sink.held g.K.Sink.faults c.args.out.now;
-        sink_new = sink_state g.K.Sink.held g.K.Sink.faults c.run_request-status.new.out;
-      } in
+      disk_tells = g.D.Disk.tells;
+      disk_old = disk_state g.D.Disk.image g.D.Disk.moment g.D.Disk.trace c.args.disk;
+      disk_new = disk_state g.D.Disk.image g.D.Disk.moment g.D.Disk.trace c.run_request-status.new.disk;
+      disk_faults_old = g.D.Disk.faults c.args.disk;
+      disk_faults_new = g.D.Disk.faults c.run_request-status.new.disk;
+      sink_tells = g.K.Sink.tells;
+      sink_old = sink_state g.K.Sink.held g.K.Sink.faults c.args.out.now;
+      sink_new = sink_state g.K.Sink.held g.K.Sink.faults c.run_request-status.new.out;
+    } in
     let ends = ends_format (map string_bytes c.args.words.now) c.in-Some.request c.in-Some.ensures zones asks run c.run_request-status.result c.run_request-status.ensures.ends in
     whole_of zones run c.code.result c.run_request-status.result ends c.code.ensures done tells
 
 pub returns-in-Some-clause-formatted : goal.returns-in-Some-clause-formatted
 returns-in-Some-clause-formatted g c = λ zones asks which tells.
     let run : Run = record {
-        disk_tells = g.D.Disk.tells;
-        disk_old = disk_state g.D.Disk.image g.D.Disk.moment g.D.Disk.trace c.args.disk;
-        disk_new = disk_state g.D.Disk.image g.D.Disk.moment g.D.Disk.trace c.run_request-status.new.disk;
-        disk_faults_old = g.D.Disk.faults c.args.disk;
-        disk_faults_new = g.D.Disk.faults c.run_request-status.new.disk;
-        sink_tells = g.K.Sink.tells;
-        sink_old = sink_state g.K.Sink.held g.K.Sink.faults c.args.out.now;
-        sink_new = sink_state g.K.Sink.held g.K.Sink.faults c.run_request-status.new.out;
-      } in
+      disk_tells = g.D.Disk.tells;
+      disk_old = disk_state g.D.Disk.image g.D.Disk.moment g.D.Disk.trace c.args.disk;
+      disk_new = disk_state g.D.Disk.image g.D.Disk.moment g.D.Disk.trace c.run_request-status.new.disk;
+      disk_faults_old = g.D.Disk.faults c.args.disk;
+      disk_faults_new = g.D.Disk.faults c.run_request-status.new.disk;
+      sink_tells = g.K.Sink.tells;
+      sink_old = sink_state g.K.Sink.held g.K.Sink.faults c.args.out.now;
+      sink_new = sink_state g.K.Sink.held g.K.Sink.faults c.run_request-status.new.out;
+    } in
     let ends = ends_format (map string_bytes c.args.words.now) c.in-Some.request c.in-Some.ensures zones asks run c.run_request-status.result c.run_request-status.ensures.ends in
     (made_of zones run c.code.result c.run_request-status.result ends c.code.ensures which).made tells
 
 pub returns-in-Some-clause-moments : goal.returns-in-Some-clause-moments
 returns-in-Some-clause-moments g c = λ zones asks which.
     let run : Run = record {
-        disk_tells = g.D.Disk.tells;
-        disk_old = disk_state g.D.Disk.image g.D.Disk.moment g.D.Disk.trace c.args.disk;
-        disk_new = disk_state g.D.Disk.image g.D.Disk.moment g.D.Disk.trace c.run_request-status.new.disk;
-        disk_faults_old = g.D.Disk.faults c.args.disk;
-        disk_faults_new = g.D.Disk.faults c.run_request-status.new.disk;
-        sink_tells = g.K.Sink.tells;
-        sink_old = sink_state g.K.Sink.held g.K.Sink.faults c.args.out.now;
-        sink_new = sink_state g.K.Sink.held g.K.Sink.faults c.run_request-status.new.out;
-      } in
+      disk_tells = g.D.Disk.tells;
+      disk_old = disk_state g.D.Disk.image g.D.Disk.moment g.D.Disk.trace c.args.disk;
+      disk_new = disk_state g.D.Disk.image g.D.Disk.moment g.D.Disk.trace c.run_request-status.new.disk;
+      disk_faults_old = g.D.Disk.faults c.args.disk;
+      disk_faults_new = g.D.Disk.faults c.run_request-status.new.disk;
+      sink_tells = g.K.Sink.tells;
+      sink_old = sink_state g.K.Sink.held g.K.Sink.faults c.args.out.now;
+      sink_new = sink_state g.K.Sink.held g.K.Sink.faults c.run_request-status.new.out;
+    } in
     let ends = ends_format (map string_bytes c.args.words.now) c.in-Some.request c.in-Some.ensures zones asks run c.run_request-status.result c.run_request-status.ensures.ends in
     (made_of zones run c.code.result c.run_request-status.result ends c.code.ensures which).moments
 
