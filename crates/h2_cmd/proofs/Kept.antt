@@ -42,7 +42,7 @@ module _ (zones : ℕ) (i0 i1 : Places) (m0 m1 : ℕ) (t0 t1 : Trace) (kept : Ke
   cuts_read past durable none = cuts_nothing zones (record { image = i0; moment = m0; trace = t0 }) (record { image = i1; moment = m1; trace = t1 }) kept.trace past durable none
 
   pub elsewhere_read : SameElsewhere zones i0 i1
-  elsewhere_read k off_blocks off_slot = kept.image k
+  elsewhere_read = record { same = λ k off_blocks off_slot. kept.image k }
 
 -- no header was found
 pub none_found : (image : Places) (found : Option ℕ) → IsNewestNumber image found → ((n : ℕ) → found ≡ Some n → ⊥) → HasNoHeader image

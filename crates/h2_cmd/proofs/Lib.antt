@@ -7,3 +7,4 @@ pub mod FirstPlan
 pub mod Written
 pub mod Slots
 pub mod Kept
+pub mod Endings

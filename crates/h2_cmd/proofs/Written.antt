@@ -55,4 +55,6 @@ module _ (zones : ℕ) (pieces : List Piece) (h : Header) (p : IsPlanned zones p
       }
 
   pub elsewhere : (old new : Places) (n : ℕ) → n ≡ 65536 → steps.SameElsewhere pieces 0 n old new → SameElsewhere zones old new
-  elsewhere old new n long same k off_blocks off_slot = same k (λ q. off_blocks (queue_in_blocks zones pieces h p k q)) (λ r. off_slot (subst (λ (x : ℕ). InRange 0 x k) long r))
+  elsewhere old new n long same = record {
+    same = λ k off_blocks off_slot. same k (λ q. off_blocks (queue_in_blocks zones pieces h p k q)) (λ r. off_slot (subst (λ (x : ℕ). InRange 0 x k) long r));
+  }

@@ -25,8 +25,8 @@ IsNewestNumber image None = HasNoHeader image
 IsNewestNumber image (Some number) = (h : Header) × IsNewest image h × (h.number ≡ number)
 
 -- all bytes but those of the new volume's blocks and of its header's slot are as they were
-abbrev pub SameElsewhere : ℕ → Places → Places → Type 0
-SameElsewhere zones old new = (k : ℕ) → (InNewBlocks zones k → ⊥) → (InSlot 0 k → ⊥) → new k ≡ old k
+pub record SameElsewhere (zones : ℕ) (old new : Places) : Type 0 where
+  pub same : (k : ℕ) → (InNewBlocks zones k → ⊥) → (InSlot 0 k → ⊥) → new k ≡ old k
 
 -- a volume was made where there was no header, and is durable
 pub record MakesVolume (zones : ℕ) (old new : DiskState) : Type 0 where

@@ -1,5 +1,6 @@
 pub mod DecimalNumber
 pub mod CommandLine
+pub mod CommandLineLaws
 pub mod Planning
 pub mod Formatting
 pub mod Status

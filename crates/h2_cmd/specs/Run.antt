@@ -1,10 +1,14 @@
 -- How a run of `format` ends.
 use Rattle.std.specs.Prelude.{◌≡◌, ◌≤◌, ℕ, ◌+◌, Bool, IsTrue}
 use Rattle.h2_num.specs.Causes.{Rose}
+use Rattle.h2_num.specs.Places.{Places}
 use Rattle.h2_checkpoint.specs.Stands.{DiskState}
 use Rattle.h2_cmd.specs.declared.status.Status.{Status}
 use Rattle.h2_cmd.specs.declared.status.Status.TheVariants.{Done, Usage, SinkFault, DiskFault, NoMemory, AlreadyFormatted}
-use Rattle.h2_cmd.specs.Formatting.{MakesVolume, FindsHeader}
+use Rattle.h2_image.specs.NewVolume.{IsZoneCount}
+use Rattle.h2_cmd.specs.declared.command_line.Request.{Request}
+use Rattle.h2_cmd.specs.declared.command_line.Request.TheVariants.{Format}
+use Rattle.h2_cmd.specs.Formatting.{SameElsewhere, MakesVolume, FindsHeader, CutsFormat}
 use Rattle.h2_cmd.specs.Lines.{SinkState, PrintsWhole, PrintsFront, Prints, formatted_line, disk_fault_line, already_line}
 
 -- the disk and the sink before a run and after it, and whether they tell what they hold
@@ -37,3 +41,19 @@ Ends zones run SinkFault = HasMade zones run × Rose run.sink_old.faults run.sin
 Ends zones run DiskFault = Rose run.disk_faults_old run.disk_faults_new × (IsTrue run.sink_tells → Prints disk_fault_line run.sink_old run.sink_new)
 Ends zones run NoMemory = Unit {0}
 Ends zones run AlreadyFormatted = (number : ℕ) × HasFound number run
+
+-- what each command needs, a row for each
+abbrev pub IsServed : Request → Type 0
+IsServed (Format zones) = IsZoneCount zones
+
+-- how each command ends
+abbrev pub EndsAs : Request → Run → Status → Type 0
+EndsAs (Format zones) run status = Ends zones run status
+
+-- what a power cut leaves of each
+abbrev pub CutsAs : Request → DiskState → DiskState → Type 0
+CutsAs (Format zones) old new = CutsFormat zones old new
+
+-- and which bytes it leaves as they were
+abbrev pub SameElsewhereAs : Request → Places → Places → Type 0
+SameElsewhereAs (Format zones) old new = SameElsewhere zones old new

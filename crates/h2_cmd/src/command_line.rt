@@ -1,8 +1,9 @@
-ghost use Rattle.std.specs.Prelude.{◌≡◌, ◌↔◌, ℕ, IsTrue, map, MatchOption};
+ghost use Rattle.std.specs.Prelude.{◌≡◌, ◌↔◌, ℕ, List, IsTrue, map, MatchOption};
 ghost use Rattle.std.specs.Fmt.{decimal};
 ghost use Rattle.std.specs.String.{string_bytes};
 ghost use Rattle.h2_image.specs.NewVolume.{IsZoneCount};
 ghost use Rattle.h2_cmd.specs.CommandLine.{Asks, AsksNothing};
+ghost use Rattle.h2_cmd.specs.declared.command_line.Request.{Request};
 
 use crate::decimal_number::parse_decimal;
 
@@ -54,3 +55,8 @@ pub fn read_words(words: &[String]) -> Option<Request>
         _ => None,
     }
 }
+
+/// A law: the words of a command line ask for one thing at most.
+pub fn command_line_law()
+    ensures { (words : List (List ℕ)) (a b : Request) → Asks words a → Asks words b → a ≡ b }
+{}

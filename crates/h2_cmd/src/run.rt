@@ -8,7 +8,7 @@ ghost use Rattle.h2_image.specs.VolumeFormat.{HasNoHeader};
 ghost use Rattle.h2_cmd.specs.CommandLine.{Asks, AsksNothing};
 ghost use Rattle.h2_cmd.specs.Formatting.{SameElsewhere, MakesVolume, FindsHeader, CutsFormat};
 ghost use Rattle.h2_cmd.specs.Lines.{sink_state, PrintsWhole, PrintsFront, Prints, formatted_line, usage_line, disk_fault_line, already_line};
-ghost use Rattle.h2_cmd.specs.Run.{Run, Ends};
+ghost use Rattle.h2_cmd.specs.Run.{Run, Ends, IsServed, EndsAs, CutsAs, SameElsewhereAs};
 
 use crate::command_line::{Request, read_words};
 use crate::formatting::{Formatting, format_volume};
@@ -110,6 +110,35 @@ fn run_format<D: Disk, K: Sink>(alloc: Global, zones: u32, disk: &mut D, out: &m
     }
 }
 
+// Does what was asked for: one row for each command.
+fn run_request<D: Disk, K: Sink>(
+    alloc: Global,
+    request: Request,
+    disk: &mut D,
+    out: &mut K,
+) -> Status
+    requires { IsServed request }
+    ensures ends { EndsAs request (record {
+        disk_tells = D.tells;
+        disk_old = disk_state D.image D.moment D.trace disk.old;
+        disk_new = disk_state D.image D.moment D.trace disk.new;
+        disk_faults_old = D.faults disk.old;
+        disk_faults_new = D.faults disk.new;
+        sink_tells = K.tells;
+        sink_old = sink_state K.held K.faults out.old;
+        sink_new = sink_state K.held K.faults out.new;
+    }) result }
+    ensures cuts { IsTrue D.tells → IsDurable (D.trace disk.old) (D.image disk.old) → HasNoHeader (D.image disk.old)
+        → CutsAs request (disk_state D.image D.moment D.trace disk.old) (disk_state D.image D.moment D.trace disk.new) }
+    ensures elsewhere { IsTrue D.tells → SameElsewhereAs request (D.image disk.old) (D.image disk.new) }
+    ensures disk_later { D.faults disk.old ≤ D.faults disk.new }
+    ensures sink_later { K.faults out.old ≤ K.faults out.new }
+{
+    match request {
+        Request::Format { zones } => run_format(alloc, zones, disk, out),
+    }
+}
+
 /// Runs the command that the words ask for on a disk, prints its line, and answers how it ended.
 ///
 /// | Status | Comes | Line |
@@ -173,9 +202,9 @@ pub fn run_alone<D: Disk, K: Sink>(
     ensures sink_later { K.faults out.old ≤ K.faults out.new }
 {
     match read_words(words) {
-        Some(Request::Format { zones }) => {
+        Some(request) => {
             let mut disk = disk;
-            let status = run_format(alloc, zones, &mut disk, out);
+            let status = run_request(alloc, request, &mut disk, out);
             Outcome {
                 status: status.code(),
                 disk,
