@@ -30,7 +30,7 @@ module _ (v : Format) (laws : IsLawful v) where
   appeared_before : (t at : ℕ) (bytes : List ℕ) (p : Trace) → ((s k : ℕ) → IsSlot s → InRange at (length bytes) k → InSlot s k → ⊥)
       → (s : ℕ) (b : Places) → IsSlot s → Appeared (slot_place s) header_length (Wrote t at bytes p) b → Appeared (slot_place s) header_length p b
   appeared_before t at bytes p off s b lt (inr c) = c
-  appeared_before t at bytes p off s b lt (inl (e, len, same)) = absurd (off s at lt (omega arith, omega arith) (omega arith, omega arith))
+  appeared_before t at bytes p off s b lt (inl may) = absurd (off s may.byte lt may.wrote may.met)
 
   pub put_rests : (t at : ℕ) (bytes : List ℕ) (p : Trace) (i j : Places) (d : Newest v) → IsAtRest v p i d → SameOutside at (length bytes) i j
       → ((k : ℕ) → InRange at (length bytes) k → NewestOwnsByte v d k → ⊥) → ((s k : ℕ) → IsSlot s → InRange at (length bytes) k → InSlot s k → ⊥)
@@ -247,7 +247,9 @@ module _ (v : Format) (laws : IsLawful v) where
 
       older : (s : ℕ) (b : Places) (h : v.Header) → IsSlot s → v.HeaderAt s b h → Appeared (slot_place s) header_length (Wrote t place f.bytes p) b
           → (v.number h ≤ number_of v d) ⊎ ((Sent ≡ Sent) × IsHeaderUnderWay v f s b)
-      older s b h lt at (inl (e, len, is)) = inr (refl, record { slot = omega arith; bytes = is })
+      older s b h lt at (inl may) =
+          let here : s ≡ slot_of_checkpoint v f.checkpoint = slots_apart s (slot_of_checkpoint v f.checkpoint) may.byte may.met (written_in may.byte may.wrote) in
+          inr (refl, record { slot = here; bytes = may.whole (ap slot_place (sym here)) x.plan.long })
       older s b h lt at (inr c) = elim (x.older s b h lt c at) [ inl le ↦ inl le | inr u ↦ inr (refl, u.1) ]
 
   pub header_written : (t : ℕ) (p : Trace) (i j : Places) (d : Newest v) (f : Frozen v) (g : Progress) → IsFlushing v p i d f g Blocks_synced

@@ -139,7 +139,7 @@ module _ (v : Format) where
     pub secured : stage ≡ Blocks_synced → progress ≢ Fresh
     pub sent : stage ≡ Header_written → (progress ≡ Sent) × Holds (slot_place (slot_of_checkpoint f.checkpoint)) f.bytes image
 
-  -- headers are torn into no others: each header that the image has in a slot stood there at the opening, or was to be written there
+  -- headers are torn into no others: each header that the image has in a slot stood there at the opening, or was to be written there; of a slot that was written in part nothing is supposed
   abbrev pub HasOldHeaders : Trace → Places → Type 0
   HasOldHeaders t image = (s : ℕ) (h : v.Header) → IsSlot s → v.HeaderAt s (slot_bytes image s) h → Appeared (slot_place s) header_length t (slot_bytes image s)
 

@@ -9,8 +9,28 @@ use h2_ref::{Ref, encode};
 /// The bytes of an inode's block, and of a leaf of the freemap.
 pub const SMALL_BLOCK_BYTES: usize = 1024;
 
-// The place of an inode's body in its block.
-const BODY: usize = 512;
+// The fields of an inode by their places in its block.
+const KIND_AT: usize = 0;
+
+const LINKS_AT: usize = 4;
+
+const NUMBER_AT: usize = 8;
+
+const NEXT_AT: usize = 24;
+
+const NAME_LENGTH_AT: usize = 32;
+
+const NAME_AT: usize = 48;
+
+const BODY_AT: usize = 512;
+
+// The kinds of inodes.
+const DIRECTORY: u8 = 1;
+
+const PFS: u8 = 3;
+
+// The chunks of a segment.
+const SEGMENT_CHUNKS: u32 = 256;
 
 // The bytes of a segment in a leaf, and of its codes.
 const SEGMENT_BYTES: usize = 128;
@@ -30,12 +50,12 @@ fn inode_block(kind: u8, number: u64, next: u64, name: &[u8]) -> [u8; SMALL_BLOC
     ensures body { ZeroIn 512 1024 (places result) }
 {
     let mut b = [0; SMALL_BLOCK_BYTES];
-    put8(&mut b, 0, kind);
-    put32(&mut b, 4, 1);
-    put64(&mut b, 8, number);
-    put64(&mut b, 24, next);
-    put16(&mut b, 32, name.len() as u16);
-    put_bytes(&mut b, 48, name);
+    put8(&mut b, KIND_AT, kind);
+    put32(&mut b, LINKS_AT, 1);
+    put64(&mut b, NUMBER_AT, number);
+    put64(&mut b, NEXT_AT, next);
+    put16(&mut b, NAME_LENGTH_AT, name.len() as u16);
+    put_bytes(&mut b, NAME_AT, name);
     b
 }
 
@@ -43,7 +63,7 @@ fn inode_block(kind: u8, number: u64, next: u64, name: &[u8]) -> [u8; SMALL_BLOC
 pub fn root_directory_block() -> [u8; SMALL_BLOCK_BYTES]
     ensures { RootDirectoryBytes (places result) }
 {
-    inode_block(1, 1, 0, b"")
+    inode_block(DIRECTORY, 1, 0, b"")
 }
 
 /// The block of the PFS `ROOT` of a new volume, with the inode that the reference names.
@@ -51,8 +71,8 @@ pub fn root_pfs_block(directory: &Ref) -> [u8; SMALL_BLOCK_BYTES]
     requires { IsValid directory.now }
     ensures { RootPfsBytes directory.now (places result) }
 {
-    let mut b = inode_block(3, 1, 2, b"ROOT");
-    put_bytes(&mut b, BODY, &encode(directory));
+    let mut b = inode_block(PFS, 1, 2, b"ROOT");
+    put_bytes(&mut b, BODY_AT, &encode(directory));
     b
 }
 
@@ -68,9 +88,9 @@ fn put_segment(leaf: &mut [u8; SMALL_BLOCK_BYTES], zone: u32, segment: usize)
         put_bytes(leaf, at, &[RESERVED_FOUR; CODES_BYTES]);
     } else if zone == 0 && segment == 1 {
         put8(leaf, at, USED);
-        put32(leaf, at + CODES_BYTES, 255);
+        put32(leaf, at + CODES_BYTES, SEGMENT_CHUNKS - 1);
     } else {
-        put32(leaf, at + CODES_BYTES, 256);
+        put32(leaf, at + CODES_BYTES, SEGMENT_CHUNKS);
     }
 }
 

@@ -13,7 +13,6 @@ mod planning;
 mod run;
 mod status;
 
-pub use blocks::{SMALL_BLOCK_BYTES, leaf_block, root_directory_block, root_pfs_block};
 pub use command_line::{Request, command_line_law, read_words};
 pub use decimal_number::parse_decimal;
 pub use formatting::{Formatting, find_newest, format_volume};

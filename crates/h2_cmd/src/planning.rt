@@ -4,7 +4,7 @@ ghost use Rattle.h2_ref.specs.Ref.{IsValid, empty_ref};
 ghost use Rattle.h2_ref.specs.declared.reference.Ref.{Ref};
 ghost use Rattle.h2_header.specs.Map.{leaf_place};
 ghost use Rattle.h2_checkpoint.specs.declared.piece.Piece.{Piece};
-ghost use Rattle.h2_image.specs.NewVolume.{IsZoneCount, inode_ref, leaf_ref, directory_place};
+ghost use Rattle.h2_image.specs.NewVolume.{IsZoneCount, inode_ref, leaf_ref, pfs_place};
 ghost use Rattle.h2_cmd.specs.Planning.{piece_at, block_at, IsBlockAt, HasInodes, IsLeafPiece, IsPlanned};
 
 use crate::blocks::{SMALL_BLOCK_BYTES, leaf_block, root_directory_block, root_pfs_block};
@@ -34,7 +34,9 @@ const SMALL_RADIX: u8 = 10;
 /// What formatting writes: the blocks in order, and then the header.
 #[derive(Drop)]
 pub struct Plan {
+    /// The blocks with their places, in the order of writing.
     pub pieces: Vec<Piece>,
+    /// The header that names them.
     pub header: Header,
 }
 
@@ -89,7 +91,7 @@ fn plan_inodes(alloc: Global, pieces: &mut Vec<Piece>) -> Result<Ref, NoMemory>
     requires { pieces.old.items ≡ [] }
     ensures count { OnOk result (length pieces.new.items ≡ 2) }
     ensures inodes { OnOk result (HasInodes pieces.new.items) }
-    ensures pfs { IfOk result (λ r. r ≡ inode_ref 4195328 (block_at pieces.new.items 1)) }
+    ensures pfs { IfOk result (λ r. r ≡ inode_ref pfs_place (block_at pieces.new.items 1)) }
 {
     let directory = root_directory_block();
     let directory_ref = make_inode_ref(DIRECTORY_PLACE, &directory);

@@ -51,10 +51,17 @@ IsChanged (Opened image) k = ⊥
 IsChanged (Wrote began at bytes t) k = (InRange at (length bytes) k × (Holds at bytes (durable t) → ⊥)) ⊎ IsChanged t k
 IsChanged (Synced done image t) k = ⊥
 
--- these n bytes stood at the place in the first image, or were to be written there
+-- a write met n bytes at a place, and may have left these: its own, where it wrote the n and nothing else; any, where it wrote a part of them or more
+pub record MayAppear (at n place : ℕ) (bytes : List ℕ) (b : Places) : Type 0 where
+  pub byte : ℕ
+  pub met : InRange at n byte
+  pub wrote : InRange place (length bytes) byte
+  pub whole : place ≡ at → length bytes ≡ n → SameBelow n (places bytes) b
+
+-- these n bytes stood at the place in the first image, or a write may have left them there
 abbrev pub Appeared : ℕ → ℕ → Trace → Places → Type 0
 Appeared at n (Opened image) b = SameBelow n (from_place image at) b
-Appeared at n (Wrote began place bytes t) b = ((place ≡ at) × (length bytes ≡ n) × SameBelow n (places bytes) b) ⊎ Appeared at n t b
+Appeared at n (Wrote began place bytes t) b = MayAppear at n place bytes b ⊎ Appeared at n t b
 Appeared at n (Synced done image t) b = Appeared at n t b
 
 -- a power cut after all this may leave the image: each byte that wasn't written since the last sync is as it was then
