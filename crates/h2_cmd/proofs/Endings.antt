@@ -8,9 +8,9 @@ use Rattle.h2_num.specs.Places.{Places}
 use Rattle.h2_checkpoint.specs.Stands.{DiskState}
 use Rattle.h2_cmd.specs.declared.command_line.Request.{Request}
 use Rattle.h2_cmd.specs.declared.command_line.Request.TheVariants.{Format}
-use Rattle.h2_cmd.specs.Formatting.{SameElsewhere, CutsFormat}
+use Rattle.h2_cmd.specs.Formatting.{SameElsewhere, LeavesVolume, CutsFormat}
 use Rattle.h2_cmd.specs.Lines.{PrintsWhole, PrintsFront, formatted_line}
-use Rattle.h2_cmd.specs.Run.{Run, HasMade, Ends, IsServed, EndsAs, CutsAs, SameElsewhereAs}
+use Rattle.h2_cmd.specs.Run.{Run, HasMade, Ends, IsServed, EndsAs, CutsAs, SameElsewhereAs, LeavesVolumeAs}
 use Rattle.h2_cmd.specs.CommandLine.{Asks}
 use Rattle.h2_cmd.specs.CommandLineLaws.{one_request}
 
@@ -74,3 +74,6 @@ module _ (words : List (List ℕ)) (request : Request) (asks : Asks words reques
 
   pub elsewhere_format : (old new : Places) → SameElsewhereAs request old new → SameElsewhere zones old new
   elsewhere_format old new same = let P : Request → Type 0 = λ r. SameElsewhereAs r old new in subst P same_request same
+
+  pub untouched_format : (old new : DiskState) → LeavesVolumeAs request old new → LeavesVolume old new
+  untouched_format old new leaves = let P : Request → Type 0 = λ r. LeavesVolumeAs r old new in subst P same_request leaves

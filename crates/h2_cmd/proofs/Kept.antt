@@ -1,5 +1,5 @@
 -- What is said of a disk after its headers were read is said of it before.
-use Rattle.std.proofs.Common.{◌≡◌, ◌≤◌, ℕ, refl, subst, arith}
+use Rattle.std.proofs.Common.{◌≡◌, ◌≤◌, ℕ, refl, subst, inl, inr, arith}
 use Rattle.std.specs.Prelude.{Option, Some, None}
 use Rattle.h2_num.specs.Places.{Places}
 use Rattle.h2_disk.specs.Trace.{Trace, latest, IsDurable}
@@ -8,7 +8,7 @@ use Rattle.h2_disk.specs.declared.disk.DiskFault.{DiskFault}
 use Rattle.h2_disk.specs.declared.disk.DiskFault.TheVariants.{Failed, NoMemory}
 use Rattle.h2_checkpoint.specs.Stands.{DiskState}
 use Rattle.h2_image.specs.VolumeFormat.{HasNoHeader}
-use Rattle.h2_cmd.specs.Formatting.{IsNewestNumber, SameElsewhere, MakesVolume, FindsHeader, CutsFormat}
+use Rattle.h2_cmd.specs.Formatting.{IsNewestNumber, SameElsewhere, LeavesVolume, MakesVolume, FindsHeader, CutsFormat}
 use Rattle.h2_cmd.proofs.Slots.{same_is, state_kept, cuts_nothing}
 
 module _ (zones : ℕ) (i0 i1 : Places) (m0 m1 : ℕ) (t0 t1 : Trace) (kept : Keeps i0 i1 t0 t1) (time : m1 ≡ m0) where
@@ -44,10 +44,17 @@ module _ (zones : ℕ) (i0 i1 : Places) (m0 m1 : ℕ) (t0 t1 : Trace) (kept : Ke
   pub elsewhere_read : SameElsewhere zones i0 i1
   elsewhere_read = record { same = λ k off_blocks off_slot. kept.image k }
 
+  pub unchanged_read : LeavesVolume (record { image = i0; moment = m0; trace = t0 }) (record { image = i1; moment = m1; trace = t1 })
+  unchanged_read = inr (record { image = kept.image; trace = kept.trace; moment = time })
+
 -- no header was found
 pub none_found : (image : Places) (found : Option ℕ) → IsNewestNumber image found → ((n : ℕ) → found ≡ Some n → ⊥) → HasNoHeader image
 none_found image None newest other = newest
 none_found image (Some n) newest other = absurd (other n refl)
+
+-- where no header was found, there is no volume to be left
+pub none_left : (old new : DiskState) (found : Option ℕ) → IsNewestNumber old.image found → ((n : ℕ) → found ≡ Some n → ⊥) → LeavesVolume old new
+none_left old new found newest other = inl (none_found old.image found newest other)
 
 -- a cause in a later time is one in the whole time
 pub cause_later : (a b c : ℕ) (fault : DiskFault) → a ≤ b → HasCause b c fault → HasCause a c fault

@@ -28,6 +28,16 @@ IsNewestNumber image (Some number) = (h : Header) × IsNewest image h × (h.numb
 pub record SameElsewhere (zones : ℕ) (old new : Places) : Type 0 where
   pub same : (k : ℕ) → (InNewBlocks zones k → ⊥) → (InSlot 0 k → ⊥) → new k ≡ old k
 
+-- nothing was changed
+pub record IsUnchanged (old new : DiskState) : Type 0 where
+  pub image : Same old.image new.image
+  pub trace : new.trace ≡ old.trace
+  pub moment : new.moment ≡ old.moment
+
+-- where a header stands, nothing is changed
+abbrev pub LeavesVolume : DiskState → DiskState → Type 0
+LeavesVolume old new = HasNoHeader old.image ⊎ IsUnchanged old new
+
 -- a volume was made where there was no header, and is durable
 pub record MakesVolume (zones : ℕ) (old new : DiskState) : Type 0 where
   pub none : HasNoHeader old.image

@@ -8,7 +8,7 @@ use Rattle.h2_cmd.specs.declared.status.Status.TheVariants.{Done, Usage, SinkFau
 use Rattle.h2_image.specs.NewVolume.{IsZoneCount}
 use Rattle.h2_cmd.specs.declared.command_line.Request.{Request}
 use Rattle.h2_cmd.specs.declared.command_line.Request.TheVariants.{Format}
-use Rattle.h2_cmd.specs.Formatting.{SameElsewhere, MakesVolume, FindsHeader, CutsFormat}
+use Rattle.h2_cmd.specs.Formatting.{SameElsewhere, LeavesVolume, MakesVolume, FindsHeader, CutsFormat}
 use Rattle.h2_cmd.specs.Lines.{SinkState, PrintsWhole, PrintsFront, Prints, formatted_line, disk_fault_line, already_line}
 
 -- the disk and the sink before a run and after it, and whether they tell what they hold
@@ -57,3 +57,7 @@ CutsAs (Format zones) old new = CutsFormat zones old new
 -- and which bytes it leaves as they were
 abbrev pub SameElsewhereAs : Request → Places → Places → Type 0
 SameElsewhereAs (Format zones) old new = SameElsewhere zones old new
+
+-- and that it leaves a volume as it was
+abbrev pub LeavesVolumeAs : Request → DiskState → DiskState → Type 0
+LeavesVolumeAs (Format zones) old new = LeavesVolume old new

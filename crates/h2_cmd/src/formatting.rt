@@ -6,7 +6,7 @@ ghost use Rattle.h2_checkpoint.specs.Stands.{disk_state};
 ghost use Rattle.h2_image.specs.NewVolume.{IsZoneCount};
 ghost use Rattle.h2_image.specs.VolumeFormat.{HasNoHeader};
 ghost use Rattle.h2_cmd.specs.Planning.{IsPlanned};
-ghost use Rattle.h2_cmd.specs.Formatting.{IsSlotHeader, AreSlotHeaders, IsNewestNumber, SameElsewhere, MakesVolume, DoesFormat, TakesMoments, CutsFormat};
+ghost use Rattle.h2_cmd.specs.Formatting.{IsSlotHeader, AreSlotHeaders, IsNewestNumber, SameElsewhere, LeavesVolume, MakesVolume, DoesFormat, TakesMoments, CutsFormat};
 
 use crate::planning::{Plan, plan_volume};
 use h2_checkpoint::make;
@@ -139,6 +139,7 @@ pub fn format_volume<D: Disk>(
     ensures cuts { IsTrue D.tells → IsDurable (D.trace disk.old) (D.image disk.old) → HasNoHeader (D.image disk.old)
         → CutsFormat zones (disk_state D.image D.moment D.trace disk.old) (disk_state D.image D.moment D.trace disk.new) }
     ensures elsewhere { IsTrue D.tells → SameElsewhere zones (D.image disk.old) (D.image disk.new) }
+    ensures untouched { IsTrue D.tells → LeavesVolume (disk_state D.image D.moment D.trace disk.old) (disk_state D.image D.moment D.trace disk.new) }
     ensures time { IfOk result (λ formatting. TakesMoments zones (D.moment disk.old) (D.moment disk.new) formatting) }
     ensures time_failed { OnErr result (D.moment disk.old ≤ D.moment disk.new) }
     ensures later { D.faults disk.old ≤ D.faults disk.new }

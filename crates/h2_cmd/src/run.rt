@@ -6,9 +6,9 @@ ghost use Rattle.h2_checkpoint.specs.Stands.{disk_state};
 ghost use Rattle.h2_image.specs.NewVolume.{IsZoneCount};
 ghost use Rattle.h2_image.specs.VolumeFormat.{HasNoHeader};
 ghost use Rattle.h2_cmd.specs.CommandLine.{Asks, AsksNothing};
-ghost use Rattle.h2_cmd.specs.Formatting.{SameElsewhere, MakesVolume, FindsHeader, CutsFormat};
+ghost use Rattle.h2_cmd.specs.Formatting.{SameElsewhere, LeavesVolume, MakesVolume, FindsHeader, CutsFormat};
 ghost use Rattle.h2_cmd.specs.Lines.{sink_state, PrintsWhole, PrintsFront, Prints, formatted_line, usage_line, disk_fault_line, already_line};
-ghost use Rattle.h2_cmd.specs.Run.{Run, Ends, IsServed, EndsAs, CutsAs, SameElsewhereAs};
+ghost use Rattle.h2_cmd.specs.Run.{Run, Ends, IsServed, EndsAs, CutsAs, SameElsewhereAs, LeavesVolumeAs};
 
 use crate::command_line::{Request, read_words};
 use crate::formatting::{Formatting, format_volume};
@@ -98,6 +98,7 @@ fn run_format<D: Disk, K: Sink>(alloc: Global, zones: u32, disk: &mut D, out: &m
     ensures cuts { IsTrue D.tells → IsDurable (D.trace disk.old) (D.image disk.old) → HasNoHeader (D.image disk.old)
         → CutsFormat zones (disk_state D.image D.moment D.trace disk.old) (disk_state D.image D.moment D.trace disk.new) }
     ensures elsewhere { IsTrue D.tells → SameElsewhere zones (D.image disk.old) (D.image disk.new) }
+    ensures untouched { IsTrue D.tells → LeavesVolume (disk_state D.image D.moment D.trace disk.old) (disk_state D.image D.moment D.trace disk.new) }
     ensures time { D.moment disk.old ≤ D.moment disk.new }
     ensures disk_later { D.faults disk.old ≤ D.faults disk.new }
     ensures sink_later { K.faults out.old ≤ K.faults out.new }
@@ -131,6 +132,8 @@ fn run_request<D: Disk, K: Sink>(
     ensures cuts { IsTrue D.tells → IsDurable (D.trace disk.old) (D.image disk.old) → HasNoHeader (D.image disk.old)
         → CutsAs request (disk_state D.image D.moment D.trace disk.old) (disk_state D.image D.moment D.trace disk.new) }
     ensures elsewhere { IsTrue D.tells → SameElsewhereAs request (D.image disk.old) (D.image disk.new) }
+    ensures untouched { IsTrue D.tells → LeavesVolumeAs request (disk_state D.image D.moment D.trace disk.old) (disk_state D.image D.moment D.trace disk.new) }
+    ensures time { D.moment disk.old ≤ D.moment disk.new }
     ensures disk_later { D.faults disk.old ≤ D.faults disk.new }
     ensures sink_later { K.faults out.old ≤ K.faults out.new }
 {
@@ -144,7 +147,7 @@ fn run_request<D: Disk, K: Sink>(
 /// | Status | Comes | Line |
 /// |---|---|---|
 /// | 0 | the volume was made and is durable | `formatted zones Z chunks C reserved R free F` |
-/// | 1 | exactly where the words ask for nothing; the disk is as it was | `usage: h2 COMMAND IMAGE [ARGUMENTS]` |
+/// | 1 | only where the words ask for nothing; the disk is as it was | `usage: h2 COMMAND IMAGE [ARGUMENTS]` |
 /// | 4 | only where the sink's count of faults rose; the volume was made | a front of that line |
 /// | 5 | only where the disk's count of faults rose | `disk fault` |
 /// | 7 | memory was wanting, which no clause ties to a cause | none is promised |
@@ -152,7 +155,7 @@ fn run_request<D: Disk, K: Sink>(
 ///
 /// The first cause in the order words, disk, sink decides. Where the sink fails, a front of the line of
 /// the status was printed. A power cut at any moment of a run on a durable image without a header leaves
-/// no header, or the new volume.
+/// no header, or the new volume. An image that has a header is left as it was, whatever the status.
 pub fn run_alone<D: Disk, K: Sink>(
     alloc: Global,
     words: &[String],
@@ -198,6 +201,11 @@ pub fn run_alone<D: Disk, K: Sink>(
     ensures elsewhere { (zones : ℕ) → Asks (map string_bytes words.now) (Request.Format zones) → IsTrue D.tells
         → SameElsewhere zones (D.image disk) (D.image result.disk) }
 
+    // An image that has a header is left as it was, whatever the status.
+    ensures untouched { (zones : ℕ) → Asks (map string_bytes words.now) (Request.Format zones) → IsTrue D.tells
+        → LeavesVolume (disk_state D.image D.moment D.trace disk) (disk_state D.image D.moment D.trace result.disk) }
+
+    ensures time { D.moment disk ≤ D.moment result.disk }
     ensures disk_later { D.faults disk ≤ D.faults result.disk }
     ensures sink_later { K.faults out.old ≤ K.faults out.new }
 {

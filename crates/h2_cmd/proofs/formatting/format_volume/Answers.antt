@@ -1,13 +1,16 @@
-use Rattle.std.proofs.Common.{refl}
+use Rattle.std.proofs.Common.{refl, inr}
 use Rattle.h2_checkpoint.specs.Stands.{disk_state}
 use Rattle.h2_cmd.proofs.Slots.{cuts_nothing}
-use Rattle.h2_cmd.proofs.Kept.{makes_too, cuts_too, elsewhere_too, finds, cuts_read, elsewhere_read, none_found, cause_later}
+use Rattle.h2_cmd.proofs.Kept.{makes_too, cuts_too, elsewhere_too, finds, cuts_read, elsewhere_read, unchanged_read, none_found, none_left, cause_later}
 use Rattle.h2_cmd.proofs.formatting.format_volume.Goals as goal
 
 pub returns-in_default-clause-cuts : goal.returns-in_default-clause-cuts
 returns-in_default-clause-cuts g c = λ tells durable none.
     cuts_nothing c.args.zones (disk_state g.D.Disk.image g.D.Disk.moment g.D.Disk.trace c.args.disk.now) (disk_state g.D.Disk.image g.D.Disk.moment g.D.Disk.trace c.args.disk.now)
     refl (g.met.D.Disk.trace_past c.args.disk.now) durable none
+
+pub returns-in_default-clause-untouched : goal.returns-in_default-clause-untouched
+returns-in_default-clause-untouched g c = λ tells. inr (record { image = λ k. refl; trace = refl; moment = refl })
 
 pub returns-in-Err-clause-cuts : goal.returns-in-Err-clause-cuts
 returns-in-Err-clause-cuts g c = λ tells durable none.
@@ -17,6 +20,11 @@ returns-in-Err-clause-cuts g c = λ tells durable none.
 pub returns-in-Err-clause-elsewhere : goal.returns-in-Err-clause-elsewhere
 returns-in-Err-clause-elsewhere g c = λ tells.
     elsewhere_read c.args.zones (g.D.Disk.image c.args.disk.now) (g.D.Disk.image c.find_newest.new.disk) (g.D.Disk.moment c.args.disk.now) (g.D.Disk.moment c.find_newest.new.disk) (g.D.Disk.trace c.args.disk.now) (g.D.Disk.trace c.find_newest.new.disk)
+    (c.find_newest.ensures.keeps tells) c.find_newest.ensures.time
+
+pub returns-in-Err-clause-untouched : goal.returns-in-Err-clause-untouched
+returns-in-Err-clause-untouched g c = λ tells.
+    unchanged_read c.args.zones (g.D.Disk.image c.args.disk.now) (g.D.Disk.image c.find_newest.new.disk) (g.D.Disk.moment c.args.disk.now) (g.D.Disk.moment c.find_newest.new.disk) (g.D.Disk.trace c.args.disk.now) (g.D.Disk.trace c.find_newest.new.disk)
     (c.find_newest.ensures.keeps tells) c.find_newest.ensures.time
 
 pub returns-in-Some-clause-does : goal.returns-in-Some-clause-does
@@ -29,6 +37,11 @@ returns-in-Some-clause-elsewhere g c = λ tells.
     elsewhere_read c.args.zones (g.D.Disk.image c.args.disk.now) (g.D.Disk.image c.find_newest.new.disk) (g.D.Disk.moment c.args.disk.now) (g.D.Disk.moment c.find_newest.new.disk) (g.D.Disk.trace c.args.disk.now) (g.D.Disk.trace c.find_newest.new.disk)
     (c.find_newest.ensures.keeps tells) c.find_newest.ensures.time
 
+pub returns-in-Some-clause-untouched : goal.returns-in-Some-clause-untouched
+returns-in-Some-clause-untouched g c = λ tells.
+    unchanged_read c.args.zones (g.D.Disk.image c.args.disk.now) (g.D.Disk.image c.find_newest.new.disk) (g.D.Disk.moment c.args.disk.now) (g.D.Disk.moment c.find_newest.new.disk) (g.D.Disk.trace c.args.disk.now) (g.D.Disk.trace c.find_newest.new.disk)
+    (c.find_newest.ensures.keeps tells) c.find_newest.ensures.time
+
 pub returns-in-Err-make_volume-clause-cuts : goal.returns-in-Err-make_volume-clause-cuts
 returns-in-Err-make_volume-clause-cuts g c = λ tells.
     cuts_too c.args.zones (g.D.Disk.image c.args.disk.now) (g.D.Disk.image c.find_newest.new.disk) (g.D.Disk.moment c.args.disk.now) (g.D.Disk.moment c.find_newest.new.disk) (g.D.Disk.trace c.args.disk.now) (g.D.Disk.trace c.find_newest.new.disk)
@@ -38,6 +51,11 @@ pub returns-in-Err-make_volume-clause-elsewhere : goal.returns-in-Err-make_volum
 returns-in-Err-make_volume-clause-elsewhere g c = λ tells.
     elsewhere_too c.args.zones (g.D.Disk.image c.args.disk.now) (g.D.Disk.image c.find_newest.new.disk) (g.D.Disk.moment c.args.disk.now) (g.D.Disk.moment c.find_newest.new.disk) (g.D.Disk.trace c.args.disk.now) (g.D.Disk.trace c.find_newest.new.disk)
     (c.find_newest.ensures.keeps tells) c.find_newest.ensures.time (g.D.Disk.image c.make_volume.new.disk) (c.make_volume.ensures.elsewhere tells)
+
+pub returns-in-Err-make_volume-clause-untouched : goal.returns-in-Err-make_volume-clause-untouched
+returns-in-Err-make_volume-clause-untouched g c = λ tells.
+    none_left (disk_state g.D.Disk.image g.D.Disk.moment g.D.Disk.trace c.args.disk.now) (disk_state g.D.Disk.image g.D.Disk.moment g.D.Disk.trace c.make_volume.new.disk)
+    c.in-Ok-find_newest.found (c.in-Ok-find_newest.ensures.number tells) c.in_default-found.not-Some
 
 pub returns-in-Err-make_volume-clause-cause : goal.returns-in-Err-make_volume-clause-cause
 returns-in-Err-make_volume-clause-cause g c = cause_later (g.D.Disk.faults c.args.disk.now) (g.D.Disk.faults c.find_newest.new.disk) (g.D.Disk.faults c.make_volume.new.disk) c.in-Err-make_volume.fault
@@ -57,3 +75,8 @@ pub returns-clause-elsewhere : goal.returns-clause-elsewhere
 returns-clause-elsewhere g c = λ tells.
     elsewhere_too c.args.zones (g.D.Disk.image c.args.disk.now) (g.D.Disk.image c.find_newest.new.disk) (g.D.Disk.moment c.args.disk.now) (g.D.Disk.moment c.find_newest.new.disk) (g.D.Disk.trace c.args.disk.now) (g.D.Disk.trace c.find_newest.new.disk)
     (c.find_newest.ensures.keeps tells) c.find_newest.ensures.time (g.D.Disk.image c.make_volume.new.disk) (c.make_volume.ensures.elsewhere tells)
+
+pub returns-clause-untouched : goal.returns-clause-untouched
+returns-clause-untouched g c = λ tells.
+    none_left (disk_state g.D.Disk.image g.D.Disk.moment g.D.Disk.trace c.args.disk.now) (disk_state g.D.Disk.image g.D.Disk.moment g.D.Disk.trace c.make_volume.new.disk)
+    c.in-Ok-find_newest.found (c.in-Ok-find_newest.ensures.number tells) c.in_default-found.not-Some

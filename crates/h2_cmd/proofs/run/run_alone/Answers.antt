@@ -4,7 +4,7 @@ use Rattle.h2_checkpoint.specs.Stands.{disk_state}
 use Rattle.h2_cmd.specs.declared.command_line.Request.TheVariants.{Format}
 use Rattle.h2_cmd.specs.Lines.{sink_state}
 use Rattle.h2_cmd.specs.Run.{Run}
-use Rattle.h2_cmd.proofs.Endings.{known, front_of, whole_of, made_of, refusal_line, asks_served, ends_format, cuts_format, elsewhere_format}
+use Rattle.h2_cmd.proofs.Endings.{known, front_of, whole_of, made_of, refusal_line, asks_served, ends_format, cuts_format, elsewhere_format, untouched_format}
 use Rattle.h2_cmd.proofs.run.run_alone.Goals as goal
 
 pub run_request-status-requires : goal.run_request-status-requires
@@ -83,6 +83,11 @@ returns-in-Some-clause-elsewhere g c = λ zones asks tells.
     elsewhere_format (map string_bytes c.args.words.now) c.in-Some.request c.in-Some.ensures zones asks (g.D.Disk.image c.args.disk) (g.D.Disk.image c.run_request-status.new.disk)
     (c.run_request-status.ensures.elsewhere tells)
 
+pub returns-in-Some-clause-untouched : goal.returns-in-Some-clause-untouched
+returns-in-Some-clause-untouched g c = λ zones asks tells.
+    untouched_format (map string_bytes c.args.words.now) c.in-Some.request c.in-Some.ensures zones asks (disk_state g.D.Disk.image g.D.Disk.moment g.D.Disk.trace c.args.disk) (disk_state g.D.Disk.image g.D.Disk.moment g.D.Disk.trace c.run_request-status.new.disk)
+    (c.run_request-status.ensures.untouched tells)
+
 pub returns-in-None-clause-known : goal.returns-in-None-clause-known
 returns-in-None-clause-known g c = known c.code-in-None.result c.say_refusal-status.result c.code-in-None.ensures
 
@@ -94,3 +99,6 @@ returns-in-None-clause-complete g c = λ zones asks. absurd (c.in-None.ensures (
 
 pub returns-in-None-clause-cuts : goal.returns-in-None-clause-cuts
 returns-in-None-clause-cuts g c = λ zones asks. absurd (c.in-None.ensures (Format zones) asks)
+
+pub returns-in-None-clause-untouched : goal.returns-in-None-clause-untouched
+returns-in-None-clause-untouched g c = λ zones asks. absurd (c.in-None.ensures (Format zones) asks)
