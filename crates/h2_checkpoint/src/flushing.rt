@@ -19,6 +19,7 @@ pub struct Flushing {
     pub place: u64,
     /// The header's bytes.
     pub header: Bytes,
+    /// The call that comes next.
     pub next: Next,
 }
 

@@ -5,5 +5,6 @@ use h2_num::Bytes;
 pub struct Piece {
     /// The place of the first byte.
     pub at: u64,
+    /// The bytes that stand there afterwards.
     pub bytes: Bytes,
 }

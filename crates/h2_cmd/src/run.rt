@@ -19,7 +19,9 @@ use std::alloc::{AllocError, Global};
 
 /// How a run ended: the exit status, and the disk.
 pub struct Outcome<D> {
+    /// The exit status, as the table of [`run_alone`] has it.
     pub status: u8,
+    /// The disk after the run.
     pub disk: D,
 }
 
