@@ -37,7 +37,7 @@ impl MemSink {
 }
 
 impl Sink for MemSink {
-    ghost use Rattle.h2_io.specs.Sink.{taken, HasCause};
+    ghost use Rattle.h2_io.specs.Sink.{taken, HasCause, IsCounted};
     ghost use Rattle.h2_io.specs.MemSink.{bytes_of, until_fault, faults_of, after_one};
 
     ghost tells = { true };
@@ -53,6 +53,7 @@ impl Sink for MemSink {
         ensures held { IsTrue true → bytes_of self.new ≡ bytes_of self.old ++ taken result bytes.now }
         ensures later { faults_of self.old ≤ faults_of self.new }
         ensures cause { IfErr result (λ fault. HasCause (faults_of self.old) (faults_of self.new) fault) }
+        ensures counted { IsCounted (faults_of self.old) (faults_of self.new) result }
         ensures whole { IfOk result (λ n. n ≡ length bytes.now) }
         ensures planned { (result ≡ Err PutFault.Failed) ↔ (until_fault self.old ≡ Some 0) }
         ensures plan { until_fault self.new ≡ after_one (until_fault self.old) }

@@ -46,7 +46,7 @@ fn write_some<W: Write>(writer: &mut W, bytes: &[u8]) -> Option<usize>
 }
 
 impl<W: Write + Drop> Sink for StdSink<W> {
-    ghost use Rattle.h2_io.specs.Sink.{taken, HasCause};
+    ghost use Rattle.h2_io.specs.Sink.{taken, HasCause, IsCounted};
     ghost use Rattle.h2_io.specs.StdSink.{writer_of, faults_of, told_by};
 
     ghost tells = { false };
@@ -61,6 +61,7 @@ impl<W: Write + Drop> Sink for StdSink<W> {
         ensures held { IsTrue false → told_by self.new ≡ told_by self.old ++ taken result bytes.now }
         ensures later { faults_of self.old ≤ faults_of self.new }
         ensures cause { IfErr result (λ fault. HasCause (faults_of self.old) (faults_of self.new) fault) }
+        ensures counted { IsCounted (faults_of self.old) (faults_of self.new) result }
         ensures passed { WriteAppends (W.contents (writer_of self.old)) (W.contents (writer_of self.new)) result bytes.now }
         ensures failed { IfErr result (λ fault. fault ≡ PutFault.Failed) }
     {
