@@ -1,5 +1,5 @@
 use super::running::{FORMAT_4, FORMATTED_4, empty_disk, expect, newest_header};
-use h2_disk::{Choice, MemDisk};
+use h2_disk::{Choice, Disk, MemDisk};
 use std::process::Abort;
 use std::test::Fail;
 
@@ -9,6 +9,16 @@ const CHOICES: [Choice; 5] = [
     Choice::Torn(0),
     Choice::Torn(100),
     Choice::Torn(40000),
+];
+
+// The places of a new volume's blocks, in the order of their writes, and their first bytes.
+const BLOCKS: [(u32, u8); 6] = [
+    (4_194_304, 1),
+    (4_195_328, 3),
+    (65_536, 0x55),
+    (33_619_968, 0x55),
+    (67_174_400, 0x55),
+    (100_728_832, 0x55),
 ];
 
 // The newest header after a cut at the moment by each choice.
@@ -39,4 +49,24 @@ fn a_cut_leaves_no_header_or_the_first(rt: HostRuntime) -> Result<(), Fail> {
     check_cuts(&rt, &disk, 9, whole_alone)?;
     check_cuts(&rt, &disk, 10, whole_alone)?;
     check_cuts(&rt, &disk, 11, [Some(1); 5])
+}
+
+#[test]
+fn blocks_are_written_in_order(rt: HostRuntime) -> Result<(), Fail> {
+    let disk = empty_disk(rt.alloc(), &[], &[])?;
+    let disk = expect(&rt, &FORMAT_4, disk, 0, FORMATTED_4)?;
+    for m in 1..=6usize {
+        let mut cut = disk.cut(m as u64, Choice::New)?;
+        for k in 0..6usize {
+            let (at, first) = BLOCKS[k];
+            let mut block = [0; 1024];
+            cut.read(u64::from(at), &mut block)?;
+            if k < m {
+                assert_eq!(rt; block[0], first, "moment {m}, place {at}");
+            } else {
+                assert_eq!(rt; block, [0; 1024], "moment {m}, place {at}");
+            }
+        }
+    }
+    Ok(())
 }

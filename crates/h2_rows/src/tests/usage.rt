@@ -1,5 +1,5 @@
 use super::running::{USAGE, empty_disk, expect};
-use h2_disk::{Disk, DiskFault};
+use h2_disk::{Disk, DiskFault, SureDisk};
 use std::test::Fail;
 
 #[test]
@@ -28,6 +28,8 @@ fn other_words_ask_for_nothing(rt: HostRuntime) -> Result<(), Fail> {
         &["format", "IMG", "18446744073709551620"],
     ];
     for words in table {
+        let sure = expect(&rt, words, SureDisk::new(rt.alloc())?, 1, USAGE)?;
+        assert_eq!(rt; sure.moment(), 0);
         let disk = empty_disk(rt.alloc(), &[], &[0])?;
         let mut disk = expect(&rt, words, disk, 1, USAGE)?;
         assert_eq!(rt; disk.moment(), 0);
