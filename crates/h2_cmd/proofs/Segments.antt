@@ -3,7 +3,7 @@ use Rattle.std.proofs.Common.{◌≡◌, ◌⊎◌, ◌<◌, ◌≤◌, ℕ, zer
 use Rattle.std.specs.Prelude.{nat_eq, false}
 use Rattle.std.proofs.lemmas.Bool.{cases_lt, ne_eqb}
 use Rattle.std.proofs.lemmas.List.{get_or-replicate, length-replicate}
-use Rattle.h2_num.specs.Places.{Places, number_at, from_place, SameOutside, ZeroIn, Puts, Lays}
+use Rattle.h2_num.specs.Places.{Places, from_place, SameOutside, ZeroIn, Puts, Lays}
 use Rattle.h2_num.specs.PlaceLaws.{number_at-same}
 use Rattle.h2_image.specs.NewBlocks.{code_at, SegmentBytes, new_code}
 use Rattle.h2_cmd.proofs.Inodes.{number_of_zeros}

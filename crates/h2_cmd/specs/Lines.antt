@@ -1,5 +1,5 @@
 -- The lines that are printed, each with its line feed.
-use Rattle.std.specs.Prelude.{◌≡◌, ◌⊎◌, ℕ, ◌+◌, ◌-◌, ◌*◌, List, [], ◌∷◌, ◌++◌, codes}
+use Rattle.std.specs.Prelude.{◌≡◌, ◌⊎◌, ℕ, ◌-◌, ◌*◌, List, [], ◌∷◌, ◌++◌, codes}
 use Rattle.std.specs.Fmt.{decimal}
 use Rattle.h2_num.specs.Causes.{Rose}
 use Rattle.h2_io.specs.Sink.{GrowsByFront}
@@ -43,3 +43,8 @@ PrintsFront line old new = Rose old.faults new.faults × GrowsByFront line old.h
 -- the line was printed, as far as the sink took it
 abbrev pub Prints : List ℕ → SinkState → SinkState → Type 0
 Prints line old new = PrintsWhole line old new ⊎ PrintsFront line old new
+
+-- a front of one of the lines was printed, or nothing
+abbrev pub PrintsSome : List ℕ → List ℕ → Type 0
+PrintsSome old new = GrowsByFront usage_line old new ⊎ GrowsByFront disk_fault_line old new
+    ⊎ ((zones : ℕ) × GrowsByFront (formatted_line zones) old new) ⊎ ((number : ℕ) × GrowsByFront (already_line number) old new)

@@ -2,12 +2,13 @@ ghost use Rattle.std.specs.Prelude.{◌≡◌, ◌⊎◌, ◌≤◌, ◌+◌, �
 ghost use Rattle.std.specs.String.{string_bytes};
 ghost use Rattle.h2_num.specs.Causes.{Rose};
 ghost use Rattle.h2_disk.specs.Trace.{IsDurable};
+ghost use Rattle.h2_io.specs.Sink.{GrowsByFront};
 ghost use Rattle.h2_checkpoint.specs.Stands.{disk_state};
 ghost use Rattle.h2_image.specs.NewVolume.{IsZoneCount};
 ghost use Rattle.h2_image.specs.VolumeFormat.{HasNoHeader};
 ghost use Rattle.h2_cmd.specs.CommandLine.{Asks, AsksNothing};
 ghost use Rattle.h2_cmd.specs.Formatting.{SameElsewhere, LeavesVolume, MakesVolume, FindsHeader, CutsFormat};
-ghost use Rattle.h2_cmd.specs.Lines.{sink_state, PrintsWhole, PrintsFront, Prints, formatted_line, usage_line, disk_fault_line, already_line};
+ghost use Rattle.h2_cmd.specs.Lines.{sink_state, PrintsWhole, PrintsFront, Prints, PrintsSome, formatted_line, usage_line, disk_fault_line, already_line};
 ghost use Rattle.h2_cmd.specs.Run.{Run, Ends, IsServed, EndsAs, CutsAs, SameElsewhereAs, LeavesVolumeAs};
 
 use crate::command_line::{Request, read_words};
@@ -45,6 +46,7 @@ fn already_text(alloc: Global, number: u64) -> Result<String, AllocError>
 fn say_refusal<K: Sink>(out: &mut K, line: &[u8], status: Status) -> Status
     ensures said { (result ≡ Status.NoMemory) ⊎ ((result ≡ status)
         × (IsTrue K.tells → Prints line.now (sink_state K.held K.faults out.old) (sink_state K.held K.faults out.new))) }
+    ensures front { IsTrue K.tells → GrowsByFront line.now (K.held out.old) (K.held out.new) }
     ensures later { K.faults out.old ≤ K.faults out.new }
 {
     match print(out, line) {
@@ -60,6 +62,7 @@ fn say_formatted<K: Sink>(alloc: Global, zones: u32, out: &mut K) -> Status
         ⊎ ((result ≡ Status.Done) × (IsTrue K.tells → PrintsWhole (formatted_line zones) (sink_state K.held K.faults out.old) (sink_state K.held K.faults out.new)))
         ⊎ ((result ≡ Status.SinkFault) × Rose (K.faults out.old) (K.faults out.new)
         × (IsTrue K.tells → PrintsFront (formatted_line zones) (sink_state K.held K.faults out.old) (sink_state K.held K.faults out.new))) }
+    ensures front { IsTrue K.tells → GrowsByFront (formatted_line zones) (K.held out.old) (K.held out.new) }
     ensures later { K.faults out.old ≤ K.faults out.new }
 {
     let Ok(line) = formatted_text(alloc, zones) else {
@@ -76,6 +79,7 @@ fn say_formatted<K: Sink>(alloc: Global, zones: u32, out: &mut K) -> Status
 fn say_already<K: Sink>(alloc: Global, number: u64, out: &mut K) -> Status
     ensures said { (result ≡ Status.NoMemory) ⊎ ((result ≡ Status.AlreadyFormatted)
         × (IsTrue K.tells → Prints (already_line number) (sink_state K.held K.faults out.old) (sink_state K.held K.faults out.new))) }
+    ensures front { IsTrue K.tells → GrowsByFront (already_line number) (K.held out.old) (K.held out.new) }
     ensures later { K.faults out.old ≤ K.faults out.new }
 {
     let Ok(line) = already_text(alloc, number) else {
@@ -101,6 +105,7 @@ fn run_format<D: Disk, K: Sink>(alloc: Global, zones: u32, disk: &mut D, out: &m
         → CutsFormat zones (disk_state D.image D.moment D.trace disk.old) (disk_state D.image D.moment D.trace disk.new) }
     ensures elsewhere { IsTrue D.tells → SameElsewhere zones (D.image disk.old) (D.image disk.new) }
     ensures untouched { IsTrue D.tells → LeavesVolume (disk_state D.image D.moment D.trace disk.old) (disk_state D.image D.moment D.trace disk.new) }
+    ensures prints { IsTrue K.tells → PrintsSome (K.held out.old) (K.held out.new) }
     ensures time { D.moment disk.old ≤ D.moment disk.new }
     ensures disk_later { D.faults disk.old ≤ D.faults disk.new }
     ensures sink_later { K.faults out.old ≤ K.faults out.new }
@@ -135,6 +140,7 @@ fn run_request<D: Disk, K: Sink>(
         → CutsAs request (disk_state D.image D.moment D.trace disk.old) (disk_state D.image D.moment D.trace disk.new) }
     ensures elsewhere { IsTrue D.tells → SameElsewhereAs request (D.image disk.old) (D.image disk.new) }
     ensures untouched { IsTrue D.tells → LeavesVolumeAs request (disk_state D.image D.moment D.trace disk.old) (disk_state D.image D.moment D.trace disk.new) }
+    ensures prints { IsTrue K.tells → PrintsSome (K.held out.old) (K.held out.new) }
     ensures time { D.moment disk.old ≤ D.moment disk.new }
     ensures disk_later { D.faults disk.old ≤ D.faults disk.new }
     ensures sink_later { K.faults out.old ≤ K.faults out.new }
@@ -206,6 +212,9 @@ pub fn run_alone<D: Disk, K: Sink>(
     // An image that has a header is left as it was, whatever the status.
     ensures untouched { (zones : ℕ) → Asks (map string_bytes words.now) (Request.Format zones) → IsTrue D.tells
         → LeavesVolume (disk_state D.image D.moment D.trace disk) (disk_state D.image D.moment D.trace result.disk) }
+
+    // Whatever the status, at most a line was printed.
+    ensures prints { IsTrue K.tells → PrintsSome (K.held out.old) (K.held out.new) }
 
     ensures time { D.moment disk ≤ D.moment result.disk }
     ensures disk_later { D.faults disk ≤ D.faults result.disk }

@@ -23,6 +23,7 @@ fn a_writer_holds_what_a_sink_in_memory_does(rt: HostRuntime) -> Result<(), Fail
     }
     let written = fs::read(&rt, "text")?;
     assert_eq!(rt; written.as_slice(), sink.bytes());
+    fs::remove_file(&rt, "text")?;
     Ok(())
 }
 
