@@ -158,7 +158,7 @@ fn run_request<D: Disk, K: Sink>(
 /// | 1 | only where the words ask for nothing; the disk is as it was | `usage: h2 COMMAND IMAGE [ARGUMENTS]` |
 /// | 4 | only where the sink's count of faults rose; the volume was made | a front of that line |
 /// | 5 | only where the disk's count of faults rose | `disk fault` |
-/// | 7 | memory was wanting, which no clause ties to a cause | none is promised |
+/// | 7 | memory was wanting, which no clause ties to a cause | a front of one of these lines, or nothing |
 /// | 8 | the image has a header; the disk is as it was | `already formatted: header N`, the newest one's number |
 ///
 /// The first cause in the order words, disk, sink decides. Where the sink fails, a front of the line of
