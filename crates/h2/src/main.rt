@@ -8,17 +8,20 @@
 ghost use Rattle.std.specs.Prelude.{◌≡◌, [], IfOk, map, slice_index_or};
 ghost use Rattle.std.specs.String.{string_bytes};
 
+#[cfg(test)]
+mod tests;
+
 use h2_cmd::{Outcome, Status, run_alone};
 use h2_disk::FileDisk;
 use h2_io::StdSink;
 use std::alloc::{AllocError, Global};
-use std::env;
+use std::env::{self, Env};
 use std::io::{self, ErrorKind};
 use std::process::ExitCode;
 
 // The words of the command line without the program's name. Where one of them isn't UTF-8 they ask for
 // nothing, as no words do.
-fn command_words(rt: &HostRuntime) -> Result<Vec<String>, AllocError> {
+fn command_words(rt: &(impl Env + AllocGlobal)) -> Result<Vec<String>, AllocError> {
     match env::args(rt) {
         Ok(words) => words.skip(1).collect(rt.alloc()),
         Err(error) if error.kind() == ErrorKind::InvalidData => Ok(Vec::new(rt.alloc())),
