@@ -11,7 +11,7 @@ use Rattle.h2_checkpoint.specs.Runs.{UnderWay}
 use Rattle.h2_checkpoint.specs.Stands.{DiskState, StandsAt}
 use Rattle.h2_checkpoint.specs.Steps.{CompletesCheckpoint, FailsToSend, FailsToSync, FailsToWritePieces, Finishes, IsPlanOf, IsSetBack, SameElsewhere, SecuresBlocks, SendsHeader, WritesPieces, image_with, queue_of}
 use Rattle.h2_checkpoint.specs.declared.piece.Piece.{Piece}
-use Rattle.h2_checkpoint.proofs.Overlay.{overlay_is, overlay_others, overlay_same}
+use Rattle.h2_checkpoint.specs.OverlayLaws.{overlay_is, overlay_others, overlay_same}
 
 module _ (v : Format) (pieces : List Piece) (place : ℕ) (header : List ℕ) where
   -- the queue is that of the pieces

@@ -15,14 +15,15 @@ use Rattle.h2_checkpoint.specs.Steps.{Finishes, IsOutAndDone, IsSetBack, MayBeOu
 use Rattle.h2_checkpoint.specs.Making.{CutsMake, IsFirstPlan, IsMade, IsNoneOrMade}
 use Rattle.h2_checkpoint.specs.declared.piece.Piece.{Piece}
 use Rattle.h2_checkpoint.proofs.Parts.{in_slot, slots_apart}
-use Rattle.h2_checkpoint.proofs.Overlay.{overlay_others, overlay_outside}
+use Rattle.h2_checkpoint.specs.OverlayLaws.{overlay_others}
+use Rattle.h2_disk.specs.Laid.{laid_elsewhere}
 use Rattle.h2_checkpoint.proofs.Calls.{stands_opened, freeze_on}
 use Rattle.h2_checkpoint.proofs.Cuts.{cut_left}
 
 -- a whole flush changes nothing outside the pieces and the header's place
 pub image_elsewhere : (pieces : List Piece) (place : ℕ) (header : List ℕ) (old new : Places) → Same (image_with pieces place header old) new → SameElsewhere pieces place (length header) old new
 image_elsewhere pieces place header old new same k out away =
-    same k ∙ outside place (length header) (overlay_all (queue_of pieces) old) (image_with pieces place header old) (overlay_outside place header (overlay_all (queue_of pieces) old)) k away
+    same k ∙ outside place (length header) (overlay_all (queue_of pieces) old) (image_with pieces place header old) (laid_elsewhere place header (overlay_all (queue_of pieces) old)) k away
     ∙ elim (overlay_others (queue_of pieces) old k) [ inl q ↦ absurd (out q) | inr stays ↦ stays ]
 
 module _ (v : Format) (laws : IsLawful v) where

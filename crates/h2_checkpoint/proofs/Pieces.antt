@@ -12,7 +12,7 @@ use Rattle.h2_disk.specs.declared.disk.DiskFault.TheVariants.{Failed, NoMemory}
 use Rattle.h2_checkpoint.specs.Queue.{Entry, IsAmong, InEntries, entry_of, overlay_all}
 use Rattle.h2_checkpoint.specs.Steps.{queue_of}
 use Rattle.h2_checkpoint.specs.declared.piece.Piece.{Piece}
-use Rattle.h2_checkpoint.proofs.Overlay.{overlay_first, overlay_none}
+use Rattle.h2_checkpoint.specs.OverlayLaws.{overlay_first, overlay_none}
 use Rattle.h2_checkpoint.proofs.Calls.{at_piece}
 
 -- a call that is done moves the moment on

@@ -6,7 +6,7 @@ use Rattle.h2_checkpoint.specs.Format.{Format, IsLawful, Reach, SameReached}
 use Rattle.h2_checkpoint.specs.Queue.{Apart, overlay_all}
 use Rattle.h2_checkpoint.specs.Checkpoint.{Checkpoint, Frozen, IsFlushing, Newest, OwnsByte, Progress, Stage}
 use Rattle.h2_checkpoint.specs.Stands.{Locally}
-use Rattle.h2_checkpoint.proofs.Overlay.{overlay_stands}
+use Rattle.h2_checkpoint.specs.OverlayLaws.{overlay_stands}
 use Rattle.h2_checkpoint.proofs.Landing.{reaches_too}
 
 module _ (v : Format) (laws : IsLawful v) where

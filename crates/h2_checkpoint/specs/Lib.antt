@@ -1,6 +1,7 @@
 pub mod Slots
 pub mod Format
 pub mod Queue
+pub mod OverlayLaws
 pub mod Checkpoint
 pub mod Marks
 pub mod Runs

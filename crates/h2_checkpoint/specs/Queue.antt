@@ -1,6 +1,7 @@
 -- The bytes that a flush writes before its header, and an image with them.
-use Rattle.std.specs.Prelude.{◌≡◌, ◌⊎◌, ◌≤◌, ℕ, ◌+◌, ◌-◌, List, [], ◌∷◌, length, slice_index, nat_lt, if◌then◌else◌}
+use Rattle.std.specs.Prelude.{◌≡◌, ◌⊎◌, ◌≤◌, ℕ, ◌+◌, List, [], ◌∷◌, length}
 use Rattle.h2_num.specs.Places.{Places, InRange}
+use Rattle.h2_disk.specs.Laid.{laid}
 use Rattle.h2_checkpoint.specs.declared.piece.Piece.{Piece}
 
 -- bytes that a flush writes to a place
@@ -30,11 +31,7 @@ AreApart (e ∷ entries) = ((k : ℕ) → InRange e.at (length e.bytes) k → In
 abbrev pub Apart : ℕ → ℕ → ℕ → ℕ → Type 0
 Apart at n other m = (at + n ≤ other) ⊎ (other + m ≤ at)
 
--- an image with bytes laid over it at a place
-abbrev pub overlay : ℕ → List ℕ → Places → Places
-overlay at bytes image = λ k. if nat_lt k at then image k else if nat_lt (k - at) (length bytes) then slice_index bytes (k - at) else image k
-
 -- an image with entries laid over it, one after another
 unfoldable pub overlay_all : List Entry → Places → Places
 overlay_all [] image = image
-overlay_all (e ∷ entries) image = overlay_all entries (overlay e.at e.bytes image)
+overlay_all (e ∷ entries) image = overlay_all entries (laid e.at e.bytes image)

@@ -4,9 +4,10 @@ use Rattle.h2_num.specs.Places.{Places, InRange}
 use Rattle.h2_num.specs.Causes.{one_more}
 use Rattle.h2_disk.specs.Trace.{Trace, IsDurable}
 use Rattle.h2_disk.specs.declared.disk.DiskFault.{DiskFault}
+use Rattle.h2_disk.specs.Laid.{laid}
 use Rattle.h2_checkpoint.specs.Slots.{slot_place}
 use Rattle.h2_checkpoint.specs.Format.{Format, IsLawful}
-use Rattle.h2_checkpoint.specs.Queue.{Entry, InEntries, entry_of, overlay, overlay_all}
+use Rattle.h2_checkpoint.specs.Queue.{Entry, InEntries, entry_of, overlay_all}
 use Rattle.h2_checkpoint.specs.Checkpoint.{Progress, Sent, progress_after_sync, Stage, Writing, Blocks_synced, Header_written, Newest, Completed, slot_of_checkpoint, Frozen}
 use Rattle.h2_checkpoint.specs.Marks.{Mark, Header_out, Header_done}
 use Rattle.h2_checkpoint.specs.Runs.{Idle, UnderWay}
@@ -23,7 +24,7 @@ queue_of pieces = map entry_of pieces
 
 -- the image with the pieces and then the header written over it
 abbrev pub image_with : List Piece → ℕ → List ℕ → Places → Places
-image_with pieces place header image = overlay place header (overlay_all (queue_of pieces) image)
+image_with pieces place header image = laid place header (overlay_all (queue_of pieces) image)
 
 -- the two are the same, but for what the pieces and the header cover
 abbrev pub SameElsewhere : List Piece → ℕ → ℕ → Places → Places → Type 0

@@ -10,7 +10,7 @@ use Rattle.h2_checkpoint.specs.Queue.{Entry, entry_of, IsAmong, InEntries, AreAp
 use Rattle.h2_checkpoint.specs.Checkpoint as checkpoint
 use Rattle.h2_checkpoint.specs.Steps.{queue_of}
 use Rattle.h2_checkpoint.specs.Making.{IsFirstPlan}
-use Rattle.h2_checkpoint.proofs.Overlay.{overlay_holds, overlay_others}
+use Rattle.h2_checkpoint.specs.OverlayLaws.{overlay_holds, overlay_others}
 use Rattle.h2_image.specs.NewVolume.{directory_place, pfs_place, InNewBlocks, directory_block, pfs_block, leaf_block, IsNewVolume}
 use Rattle.h2_image.specs.VolumeFormat.{volume, HasNoHeader}
 use Rattle.h2_image.specs.VolumeLaws.{directory_same, leaf_same, pfs_names_same, new_header_same}
