@@ -18,3 +18,6 @@ pub use cursor::Cursor;
 pub use freemap::Freemap;
 pub use laws::need_law;
 pub use size::Size;
+
+#[cfg(test)]
+mod tests;

@@ -96,7 +96,8 @@ impl Freemap {
         ensures free { free_of self.new + tally Free (code_of self.old chunk) ≡ free_of self.old }
         ensures consistent { IsConsistent self.new }
     {
-        self.free -= one_if_free(self.code(chunk));
+        let was = self.code(chunk);
+        self.free -= one_if_free(was);
         self.segments[(chunk / SEGMENT_CHUNKS) as usize].set(
             (chunk % SEGMENT_CHUNKS) as u8,
             Code::Used,

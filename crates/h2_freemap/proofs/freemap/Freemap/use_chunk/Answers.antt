@@ -17,7 +17,7 @@ use Rattle.h2_freemap.proofs.freemap.Freemap.use_chunk.Goals as goal
 pub overflow_sub-self : goal.overflow_sub-self
 overflow_sub-self c =
     let lt : c.args.chunk < chunk_count (the_view c.self.inside) = subst (λ (x : Space). c.args.chunk < chunk_count x) (sym c.self.view_is) c.requires.in_volume in
-    let one : c.one_if_free.result ≡ tally Free (code_of (the_view c.self.inside) c.args.chunk) = c.one_if_free.ensures ∙ ap (tally Free) (c.code.ensures ∙ ap (λ (x : Space). code_of x c.args.chunk) (sym c.self.view_is)) in
+    let one : c.one_if_free.result ≡ tally Free (code_of (the_view c.self.inside) c.args.chunk) = c.one_if_free.ensures ∙ ap (tally Free) (c.code-was.ensures ∙ ap (λ (x : Space). code_of x c.args.chunk) (sym c.self.view_is)) in
     let kept : c.self.inside.free ≡ free_of (the_view c.self.inside) = c.self.invariant.1 in
     let has : tally Free (code_of (the_view c.self.inside) c.args.chunk) ≤ free_of (the_view c.self.inside) = free_has (code_of (the_view c.self.inside)) c.args.chunk (chunk_count (the_view c.self.inside)) lt in
     omega arith
@@ -27,7 +27,7 @@ invariant_of-self c =
     let lt : c.args.chunk < chunk_count (the_view c.self.inside) = subst (λ (x : Space). c.args.chunk < chunk_count x) (sym c.self.view_is) c.requires.in_volume in
     let read : c.index_mut.result.now ≡ slice_index_or c.self.inside.segments.items (segment_of c.args.chunk) [] = get_or_read c.self.inside.segments.items (segment_of c.args.chunk) c.index_mut.result.now (segment_within (the_view c.self.inside) c.args.chunk c.self.invariant.0 lt) c.index_mut.ensures.value [] in
     let whole = used_whole (the_view c.self.inside) c.args.chunk c.index_mut.result.now c.set.new.self c.self.invariant.0 lt read c.set.ensures.value in
-    let one : c.one_if_free.result ≡ tally Free (code_of (the_view c.self.inside) c.args.chunk) = c.one_if_free.ensures ∙ ap (tally Free) (c.code.ensures ∙ ap (λ (x : Space). code_of x c.args.chunk) (sym c.self.view_is)) in
+    let one : c.one_if_free.result ≡ tally Free (code_of (the_view c.self.inside) c.args.chunk) = c.one_if_free.ensures ∙ ap (tally Free) (c.code-was.ensures ∙ ap (λ (x : Space). code_of x c.args.chunk) (sym c.self.view_is)) in
     let kept : c.self.inside.free ≡ free_of (the_view c.self.inside) = c.self.invariant.1 in
     let count = whole.1 in
     (whole.0, omega arith)
