@@ -15,7 +15,7 @@ pub(crate) struct InodeBlocks {
     pub pfs: Block,
 }
 
-// Takes the blocks of the two inodes from the freemap of a new volume.
+/// Takes the blocks of the two inodes from the freemap of a new volume.
 pub(crate) fn take_inode_blocks(alloc: Global, zones: u32) -> Result<InodeBlocks, NoMemory>
     requires { IsZoneCount zones }
     ensures directory { IfOk result (λ blocks. blocks.directory.place ≡ directory_place) }
