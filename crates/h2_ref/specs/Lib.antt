@@ -1,5 +1,3 @@
+pub mod Table
 pub mod Ref
-pub mod RefLaws
-pub mod Spelling
-pub mod Set
-pub mod SetLaws
+pub mod Limits
