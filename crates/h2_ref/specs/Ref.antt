@@ -1,8 +1,8 @@
 -- References, and which are valid.
-use Rattle.std.specs.Prelude.{◌≡◌, ◌⊎◌, ◌<◌, ◌≤◌, ⊤, ℕ, zero, suc, ◌+◌, ◌*◌, ◌%◌, ◌^◌, ◌==◌, if◌then◌else◌, List, length, Option, Some, None}
-use Rattle.h2_num.specs.Places.{places, ZeroIn}
+use Rattle.std.specs.Prelude.{◌≡◌, ◌⊎◌, ◌<◌, ◌≤◌, ⊤, Bool, ℕ, zero, suc, ◌+◌, ◌*◌, ◌%◌, ◌^◌, ◌==◌, if◌then◌else◌, List, length, slice_index, Option, Some, None}
+use Rattle.h2_num.specs.Places.{Places, places, number_at, ZeroIn}
 use Rattle.h2_ref.specs.declared.reference.Kind.{Kind}
-use Rattle.h2_ref.specs.declared.reference.Kind.TheVariants.{Empty}
+use Rattle.h2_ref.specs.declared.reference.Kind.TheVariants.{Empty, Inode, Indirect, Content, Dirent, MapNode, MapLeaf}
 use Rattle.h2_ref.specs.declared.reference.Check.{Check}
 use Rattle.h2_ref.specs.declared.reference.Check.TheVariants.{Nothing, Crc, Xx}
 use Rattle.h2_ref.specs.declared.reference.Dirent.{Dirent as Entry}
@@ -14,6 +14,16 @@ use Rattle.h2_ref.specs.declared.table.CheckClass.{CheckClass}
 use Rattle.h2_ref.specs.declared.table.CheckClass.TheVariants.{Absent, OfBlock, OfMap}
 use Rattle.h2_ref.specs.declared.table.Row.{Row}
 use Rattle.h2_ref.specs.Table.{row_of}
+
+-- the number of a kind
+abbrev pub kind_number : Kind → ℕ
+kind_number Empty = 0
+kind_number Inode = 1
+kind_number Indirect = 2
+kind_number Content = 3
+kind_number Dirent = 4
+kind_number MapNode = 5
+kind_number MapLeaf = 6
 
 -- the number of the method of a check
 abbrev pub method_number : Check → ℕ
@@ -75,9 +85,13 @@ abbrev pub PlaceFits : ℕ → ℕ → Type 0
 PlaceFits zero place = place ≡ 0
 PlaceFits (suc n) place = IsBlockPlace (suc n) place
 
--- how many bytes of an entry's name stand in it: all of them where there is no block
+-- the name of an entry stands in it
+abbrev pub is_inline : Row → Bool
+is_inline w = w.flags.0 == 1
+
+-- how many bytes of an entry's name stand in it
 abbrev pub inline_len : Row → ℕ → ℕ
-inline_len w len = if w.radix == 0 then len else 0
+inline_len w len = if is_inline w then len else 0
 
 -- what an entry of a directory says is in its ranges: the name stands in it, and then zeros
 pub record IsEntry (w : Row) (names : Span) (e : Entry) : Type 0 where
@@ -112,6 +126,60 @@ IsValid r = FitsRow (row r) r
 -- the reference that names nothing
 abbrev pub empty_ref : Ref
 empty_ref = record { kind = Empty; key = 0; keybits = 0; place = 0; radix = 0; id = 0; check = Nothing; dirent = None }
+
+-- how many bytes of the check area are in use: those of the name that stands there, or of the check
+abbrev pub area_len : Row → Check → Option Entry → ℕ
+area_len w check None = check_len check
+area_len w check (Some e) = if is_inline w then e.len else check_len check
+
+-- where the fields of an entry end, or those of every other kind
+abbrev pub fields_end : Option Entry → ℕ
+fields_end None = 32
+fields_end (Some e) = 43
+
+-- the fields of an entry
+pub record IsEntryAt (e : Entry) (b : Places) : Type 0 where
+  pub number : number_at b 32 8 ≡ e.number
+  pub len : number_at b 40 2 ≡ e.len
+  pub target : b 42 ≡ e.target
+
+-- the fields that an entry alone has
+abbrev pub EntryBytes : Option Entry → Places → Type 0
+EntryBytes None b = ⊤
+EntryBytes (Some e) b = IsEntryAt e b
+
+-- a name that stands in its entry stands in the check area
+abbrev pub NameBytes : Row → Option Entry → Places → Type 0
+NameBytes w None b = ⊤
+NameBytes w (Some e) b = (k : ℕ) → k < 64 → k < inline_len w e.len → b (64 + k) ≡ slice_index e.name k
+
+-- a clause for each field; the radix stands in the low six bits of the place
+pub record FieldBytes (r : Ref) (b : Places) : Type 0 where
+  pub kind : b 0 ≡ kind_number r.kind
+  pub method : b 1 ≡ method_number r.check
+  pub keybits : b 2 ≡ r.keybits
+  pub flags : b 3 ≡ (row r).flags.0
+  pub key : number_at b 8 8 ≡ r.key
+  pub place : number_at b 16 8 ≡ r.place + r.radix
+  pub id : number_at b 24 8 ≡ r.id
+  pub entry : EntryBytes r.dirent b
+  pub name : NameBytes (row r) r.dirent b
+  pub check : number_at b 64 (check_len r.check) ≡ check_value r.check
+
+-- a clause for each gap: before the key, before the check area, and behind what is in use of it
+pub record GapBytes (r : Ref) (b : Places) : Type 0 where
+  pub before_key : ZeroIn 4 8 b
+  pub before_area : ZeroIn (fields_end r.dirent) 64 b
+  pub tail : ZeroIn (64 + area_len (row r) r.check r.dirent) 128 b
+
+-- the 128 bytes of a reference
+pub record RefBytes (r : Ref) (b : Places) : Type 0 where
+  pub fields : FieldBytes r b
+  pub gaps : GapBytes r b
+
+-- these bytes spell no valid reference
+abbrev pub NoRef : Places → Type 0
+NoRef b = (r : Ref) → IsValid r → RefBytes r b → ⊥
 
 -- how many bytes the block has
 abbrev pub size_of : Ref → ℕ

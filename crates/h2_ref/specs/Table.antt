@@ -2,6 +2,7 @@
 use Rattle.std.specs.Prelude.{◌≡◌, ◌⊎◌, ◌<◌, ◌≤◌, ◌-◌, ◌^◌, ℕ, zero, suc, Option, Some, None}
 use Rattle.h2_ref.specs.declared.reference.Kind.{Kind}
 use Rattle.h2_ref.specs.declared.reference.Kind.TheVariants.{Empty, Inode, Indirect, Content, Dirent, MapNode, MapLeaf}
+use Rattle.h2_ref.specs.declared.flags.RefFlags.{RefFlags}
 use Rattle.h2_ref.specs.declared.table.Span.{Span}
 use Rattle.h2_ref.specs.declared.table.Keybits.{Keybits}
 use Rattle.h2_ref.specs.declared.table.Keybits.TheVariants.{Just, Either, Between}
@@ -13,25 +14,32 @@ use Rattle.h2_ref.specs.declared.table.Row.{Row}
 abbrev pub span : ℕ → ℕ → Span
 span n m = record { least = n; last = m }
 
+abbrev pub no_flags : RefFlags
+no_flags = record { 0 = 0 }
+
+-- the flag of an entry whose name stands in it
+abbrev pub inline_flag : RefFlags
+inline_flag = record { 0 = 1 }
+
 -- a block of files and directories
 abbrev pub block_row : ℕ → Keybits → Span → Row
-block_row radix keybits keys = record { check = OfBlock; flags = 0; radix = radix; keybits = keybits; keys = keys; ids = span 1 (2 ^ 62); names = None }
+block_row radix keybits keys = record { check = OfBlock; flags = no_flags; radix = radix; keybits = keybits; keys = keys; ids = span 1 (2 ^ 62); names = None }
 
 -- a block of the freemap, named by its place
 abbrev pub map_row : Keybits → Row
-map_row keybits = record { check = OfMap; flags = 0; radix = 10; keybits = keybits; keys = span 0 (2 ^ 34 - 1); ids = span 1 (2 ^ 62); names = None }
+map_row keybits = record { check = OfMap; flags = no_flags; radix = 10; keybits = keybits; keys = span 0 (2 ^ 34 - 1); ids = span 1 (2 ^ 62); names = None }
 
--- an entry whose name of at most 64 bytes stands in it; its flag is INLINE
+-- an entry whose name of at most 64 bytes stands in it
 abbrev pub inline_row : Row
-inline_row = record { check = Absent; flags = 1; radix = 0; keybits = Just 0; keys = span (2 ^ 63) (2 ^ 64 - 1); ids = span 1 (2 ^ 62); names = Some (span 1 64) }
+inline_row = record { check = Absent; flags = inline_flag; radix = 0; keybits = Just 0; keys = span (2 ^ 63) (2 ^ 64 - 1); ids = span 1 (2 ^ 62); names = Some (span 1 64) }
 
 -- an entry whose name of at most 255 bytes has a block
 abbrev pub name_row : Row
-name_row = record { check = OfBlock; flags = 0; radix = 10; keybits = Just 0; keys = span (2 ^ 63) (2 ^ 64 - 1); ids = span 1 (2 ^ 62); names = Some (span 65 255) }
+name_row = record { check = OfBlock; flags = no_flags; radix = 10; keybits = Just 0; keys = span (2 ^ 63) (2 ^ 64 - 1); ids = span 1 (2 ^ 62); names = Some (span 65 255) }
 
 -- the reference that names nothing
 abbrev pub empty_row : Row
-empty_row = record { check = Absent; flags = 0; radix = 0; keybits = Just 0; keys = span 0 0; ids = span 0 0; names = None }
+empty_row = record { check = Absent; flags = no_flags; radix = 0; keybits = Just 0; keys = span 0 0; ids = span 0 0; names = None }
 
 -- the row of a kind and a method's number, which tells the two rows of an entry apart and nothing else
 abbrev pub row_of : Kind → ℕ → Row

@@ -1,8 +1,10 @@
 ghost use Rattle.std.specs.Prelude.{◌≡◌, ◌<◌, ◌%◌, ◌^◌, ◌↔◌, IsTrue, length};
 ghost use Rattle.h2_num.specs.Places.{places, ZeroIn};
 ghost use Rattle.h2_ref.specs.Ref.{HasKeybits, InSpan, IsMethodOf, IsStored, method_number, PlaceFits, KeyFits, EntryFits, IsEntry, FitsRow, IsValid, inline_len};
+ghost use Rattle.h2_ref.specs.Fault.{in_span, is_method_of, has_keybits, key_fits, place_fits};
 ghost use Rattle.h2_ref.specs.Limits.{IsLimited};
 
+use crate::flags::RefFlags;
 use crate::reference::{Check, Dirent, Ref};
 use crate::table::{CheckClass, Keybits, Row, Span, row_of};
 use h2_num::first_nonzero;
@@ -15,14 +17,16 @@ const INODE_END: u64 = 1 << 62;
 
 /// Whether a number is in a span.
 pub fn in_span(s: Span, n: u64) -> bool
-    ensures { IsTrue result ↔ InSpan s n }
+    ensures test { result ≡ in_span s n }
+    ensures fact { IsTrue result ↔ InSpan s n }
 {
     s.least <= n && n <= s.last
 }
 
 /// Whether a class of checks has the method with this number.
 pub fn is_method_of(class: CheckClass, method: u8) -> bool
-    ensures { IsTrue result ↔ IsMethodOf class method }
+    ensures test { result ≡ is_method_of class method }
+    ensures fact { IsTrue result ↔ IsMethodOf class method }
 {
     match class {
         CheckClass::Absent => method == 0,
@@ -33,7 +37,8 @@ pub fn is_method_of(class: CheckClass, method: u8) -> bool
 
 /// Whether these are keybits of a kind.
 fn has_keybits(keybits: Keybits, n: u8) -> bool
-    ensures { IsTrue result ↔ HasKeybits keybits n }
+    ensures test { result ≡ has_keybits keybits n }
+    ensures fact { IsTrue result ↔ HasKeybits keybits n }
 {
     match keybits {
         Keybits::Just(a) => n == a,
@@ -45,7 +50,8 @@ fn has_keybits(keybits: Keybits, n: u8) -> bool
 /// Whether a kind has such a key.
 pub fn key_fits(w: &Row, keybits: u8, key: u64) -> bool
     requires { IsLimited w.now }
-    ensures { IsTrue result ↔ KeyFits w.now keybits key }
+    ensures test { result ≡ key_fits w.now keybits key }
+    ensures fact { IsTrue result ↔ KeyFits w.now keybits key }
 {
     has_keybits(w.keybits, keybits) && in_span(w.keys, key) && key % (1 << keybits) == 0
 }
@@ -53,7 +59,8 @@ pub fn key_fits(w: &Row, keybits: u8, key: u64) -> bool
 /// Whether a block with this radix may lie at a place.
 pub fn place_fits(radix: u8, place: u64) -> bool
     requires { radix < 32 }
-    ensures { IsTrue result ↔ PlaceFits radix place }
+    ensures test { result ≡ place_fits radix place }
+    ensures fact { IsTrue result ↔ PlaceFits radix place }
 {
     if radix == 0 {
         place == 0
@@ -66,7 +73,7 @@ pub fn place_fits(radix: u8, place: u64) -> bool
 pub fn inline_len(w: &Row, len: u16) -> u16
     ensures { result ≡ inline_len w.now len }
 {
-    if w.radix == 0 { len } else { 0 }
+    if w.flags == RefFlags::INLINE { len } else { 0 }
 }
 
 /// Whether a name ends in zeros from a place on.

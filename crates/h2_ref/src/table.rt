@@ -1,7 +1,9 @@
 ghost use Rattle.std.specs.Prelude.{◌≡◌};
 ghost use Rattle.h2_ref.specs.Table.{block_row, inline_row, map_row, row_of};
 
+use crate::flags::RefFlags;
 use crate::reference::Kind;
+use bitflags::Flags;
 
 /// The numbers from a least one to a last one.
 #[derive(Clone, Copy)]
@@ -37,7 +39,7 @@ pub enum CheckClass {
 #[derive(Clone, Copy)]
 pub struct Row {
     pub check: CheckClass,
-    pub flags: u8,
+    pub flags: RefFlags,
     pub radix: u8,
     pub keybits: Keybits,
     pub keys: Span,
@@ -45,9 +47,6 @@ pub struct Row {
     /// The lengths of an entry's name in bytes; None for all other kinds.
     pub names: Option<Span>,
 }
-
-/// The flag of an entry whose name stands in it.
-const INLINE: u8 = 1;
 
 /// Zero alone.
 const ZERO: Span = Span { least: 0, last: 0 };
@@ -103,7 +102,7 @@ fn block_row(radix: u8, keybits: Keybits, keys: Span) -> Row
 {
     Row {
         check: CheckClass::OfBlock,
-        flags: 0,
+        flags: RefFlags::empty(),
         radix,
         keybits,
         keys,
@@ -128,7 +127,7 @@ fn inline_row() -> Row
 {
     Row {
         check: CheckClass::Absent,
-        flags: INLINE,
+        flags: RefFlags::INLINE,
         names: Some(SHORT_NAMES),
         ..block_row(0, Keybits::Just(0), NAME_KEYS)
     }
