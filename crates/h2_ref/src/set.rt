@@ -4,8 +4,9 @@ ghost use Rattle.h2_ref.specs.Set.{IsSet, MayFollow};
 
 use crate::reference::{Kind, Ref};
 
-/// Whether a valid reference may stand after another in a set.
-fn may_follow(r: &Ref, s: &Ref) -> bool
+/// Whether a valid reference may stand right after another in a set: its range begins at the other's end or
+/// later, or it is empty.
+pub fn may_follow(r: &Ref, s: &Ref) -> bool
     requires { IsValid r.now }
     ensures { IsTrue result ↔ MayFollow r.now s.now }
 {
