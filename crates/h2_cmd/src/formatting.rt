@@ -11,7 +11,7 @@ ghost use Rattle.h2_cmd.specs.Formatting.{IsSlotHeader, AreSlotHeaders, IsNewest
 use crate::planning::{Plan, plan_volume};
 use h2_checkpoint::make;
 use h2_disk::{Disk, DiskFault};
-use h2_geom::ZONE_BYTES;
+use h2_geom::header_place;
 use h2_header::{HEADER_BYTES, Header, SLOTS, newest, read_from, write_into};
 use h2_image::Volume;
 use std::alloc::Global;
@@ -42,11 +42,10 @@ fn read_slot<D: Disk>(
     ensures later { D.faults disk.old ≤ D.faults disk.new }
     ensures cause { IfErr result (λ fault. HasCause (D.faults disk.old) (D.faults disk.new) fault) }
 {
-    // Slot s opens zone s.
-    if let Err(fault) = disk.read(ZONE_BYTES * slot as u64, block) {
+    if let Err(fault) = disk.read(header_place(slot), block) {
         return Err(fault);
     }
-    Ok(read_from(block, slot))
+    Ok(read_from(block, slot).ok())
 }
 
 // The headers in the four slots.

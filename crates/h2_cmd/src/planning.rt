@@ -2,7 +2,7 @@ ghost use Rattle.std.specs.Prelude.{◌≡◌, ◌≤◌, ◌<◌, ◌+◌, ◌+
 ghost use Rattle.h2_num.specs.Places.{places};
 ghost use Rattle.h2_ref.specs.Ref.{IsValid, empty_ref};
 ghost use Rattle.h2_ref.specs.declared.reference.Ref.{Ref};
-ghost use Rattle.h2_header.specs.Map.{leaf_place};
+ghost use Rattle.h2_geom.specs.Places.{leaf_place};
 ghost use Rattle.h2_checkpoint.specs.declared.piece.Piece.{Piece};
 ghost use Rattle.h2_image.specs.NewVolume.{IsZoneCount, directory_place, inode_ref, leaf_ref, pfs_place};
 ghost use Rattle.h2_cmd.specs.Planning.{piece_at, block_at, IsBlockAt, HasInodes, IsLeafPiece, IsPlanned};
@@ -47,6 +47,7 @@ fn make_inode_ref(place: u64, block: &[u8; SMALL_BLOCK_BYTES]) -> Ref
         radix: SMALL_RADIX,
         id: 1,
         check: Check::Xx(xxh64(block)),
+        dirent: None,
     }
 }
 
@@ -64,6 +65,7 @@ fn make_leaf_ref(zone: u32, block: &[u8; SMALL_BLOCK_BYTES]) -> Ref
         radix: SMALL_RADIX,
         id: 1,
         check: Check::Crc(crc32c(block)),
+        dirent: None,
     }
 }
 
