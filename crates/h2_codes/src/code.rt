@@ -14,8 +14,8 @@ pub enum Code {
     Used,
 }
 
-// 1 where the two codes are the same, else 0.
-pub fn tally(code: Code, other: Code) -> u32
+/// 1 where the two codes are the same, else 0.
+pub(crate) fn tally(code: Code, other: Code) -> u32
     ensures { result ≡ tally code other }
 {
     match (code, other) {

@@ -14,7 +14,8 @@ mod word;
 pub use code::Code;
 pub use laws::layout_law;
 pub use seen::Seen;
-pub use segment::{SEGMENT_BYTES, Segment};
+pub use segment::Segment;
+pub use word::SEGMENT_BYTES;
 
 #[cfg(test)]
 mod tests;

@@ -3,6 +3,7 @@ ghost use Rattle.h2_codes.specs.Seen.{IsChunkSet, has_chunk, count_in};
 ghost use Rattle.h2_codes.specs.Packed.{Marks, flag_bit};
 
 use crate::byte::{flag_in, spread, with_flag};
+use crate::word::WORDS;
 use std::marker::Model;
 
 /// The bytes in which the flags of a segment's chunks are kept.
@@ -66,15 +67,15 @@ impl Seen {
     {
         let _ = &self.flags;
         let mut n = 0;
-        for j in 0..8usize {
+        for j in 0..WORDS {
             n += self.word(j).count_ones();
         }
         n
     }
 
-    // The flags of 32 chunks, of which there are 8 times as many, each at the lower of two bits.
+    /// The flags of the 32 chunks of word `j`, of 8, each at the lower of two bits.
     #[tactic(auto, using(crate::proofs::Lookup::flags_length))]
-    pub fn word(&self, j: usize) -> u64
+    pub(crate) fn word(&self, j: usize) -> u64
         requires { j < 8 }
         ensures marks { Marks (λ k. flag_bit (has_chunk self.now (32 * j + k))) result }
         ensures chunks { IsChunkSet self.now }

@@ -8,15 +8,11 @@ ghost use Rattle.h2_codes.specs.Packed.{codes_in};
 use crate::byte::{code_in, with_code};
 use crate::code::{Code, tally};
 use crate::seen::Seen;
-use crate::word::{count, count_unseen, first_free, get_word, put_word, sweep};
+use crate::word::{
+    SEGMENT_BYTES, WORD_CHUNKS, WORDS, count, count_unseen, first_free, get_word, put_word, sweep,
+};
 use h2_geom::SEGMENT_CHUNKS;
 use std::marker::Model;
-
-/// The bytes in which the codes of a segment are kept.
-pub const SEGMENT_BYTES: usize = 64;
-
-/// The words of these bytes, each with the codes of 32 chunks.
-const WORDS: usize = 8;
 
 /// The codes of the 256 chunks of a segment, seen as the list of them. They are kept as they stand in a
 /// leaf of the freemap, two bits a chunk, and their number of free chunks beside them.
@@ -51,7 +47,7 @@ fn count_codes(bytes: &[u8; SEGMENT_BYTES], code: Code) -> u32
     ensures { result ≡ count_of code (codes_in bytes.now) }
 {
     let mut n = 0;
-    for j in 0..8usize {
+    for j in 0..WORDS {
         n += count(get_word(bytes, j), code);
     }
     n
@@ -154,10 +150,10 @@ impl Segment {
         ensures chunks { IsSegment self.now }
     {
         let from = from as usize;
-        for j in from / 32..8 {
-            let skipped = from.saturating_sub(32 * j);
+        for j in from / WORD_CHUNKS..WORDS {
+            let skipped = from.saturating_sub(WORD_CHUNKS * j);
             if let Some(k) = first_free(get_word(&self.codes, j), skipped as u32) {
-                return Some((32 * j + k as usize) as u8);
+                return Some((WORD_CHUNKS * j + k as usize) as u8);
             }
         }
         None

@@ -9,6 +9,15 @@ ghost use Rattle.h2_codes.specs.Packed.{word_code, flag_of, sum_below, little, M
 
 use crate::code::Code;
 
+/// The bytes in which the codes of a segment are kept.
+pub const SEGMENT_BYTES: usize = 64;
+
+/// The words of these bytes.
+pub const WORDS: usize = 8;
+
+/// The chunks of a word.
+pub const WORD_CHUNKS: usize = 32;
+
 /// The lower bit of each code of a word.
 const LOWER: u64 = 0x5555_5555_5555_5555;
 
@@ -68,7 +77,7 @@ pub fn sweep(word: u64, seen: u64) -> u64
 }
 
 /// Word `j`, of 8, of the bytes of a segment.
-pub fn get_word(bytes: &[u8; 64], j: usize) -> u64
+pub fn get_word(bytes: &[u8; SEGMENT_BYTES], j: usize) -> u64
     requires { j < 8 }
     ensures { result ≡ little bytes.now (8 * j) 8 }
 {
@@ -86,7 +95,7 @@ pub fn get_word(bytes: &[u8; 64], j: usize) -> u64
 }
 
 /// Puts word `j`, of 8, into the bytes of a segment.
-pub fn put_word(bytes: &mut [u8; 64], j: usize, word: u64)
+pub fn put_word(bytes: &mut [u8; SEGMENT_BYTES], j: usize, word: u64)
     requires { j < 8 }
     ensures inside { (i : ℕ) → i < 8 → slice_index bytes.new (8 * j + i) ≡ word / 2 ^ (8 * i) % 256 }
     ensures below { (k : ℕ) → k < 8 * j → slice_index bytes.new k ≡ slice_index bytes.old k }

@@ -27,9 +27,6 @@ pub const ZONES_LEAST: u32 = 4;
 /// The greatest number of zones of a volume.
 pub const ZONES_MOST: u32 = 512;
 
-/// The chunks of a volume with the greatest number of zones.
-pub const MOST_CHUNKS: u32 = ZONES_MOST * ZONE_CHUNKS;
-
 /// The size of a volume, seen as its number of zones.
 #[derive(Clone, Copy, Debug, PartialEq, Eq)]
 pub struct Geometry {

@@ -11,8 +11,8 @@ mod laws;
 mod places;
 
 pub use geometry::{
-    CHUNK_BYTES, Geometry, MOST_CHUNKS, RESERVED_CHUNKS, SEGMENT_CHUNKS, ZONE_BYTES, ZONE_CHUNKS,
-    ZONE_SEGMENTS, ZONES_LEAST, ZONES_MOST, chunk_of, chunk_place,
+    CHUNK_BYTES, Geometry, RESERVED_CHUNKS, SEGMENT_CHUNKS, ZONE_BYTES, ZONE_CHUNKS, ZONE_SEGMENTS,
+    ZONES_LEAST, ZONES_MOST, chunk_of, chunk_place,
 };
 pub use laws::map_place_law;
 pub use places::{
