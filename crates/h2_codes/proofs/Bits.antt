@@ -1,5 +1,5 @@
 -- The bits of a word of 32 codes.
-use Rattle.std.proofs.Common.{◌≡◌, ◌≢◌, ◌⊎◌, ◌<◌, ℕ, zero, suc, ◌+◌, ◌*◌, ◌-◌, ◌/◌, ◌%◌, ◌^◌, ◌==◌, min, max, bit_and, bit_or, count_ones, ◌≤◌, Bool, true, w64, refl, sym, ap, ◌∙◌, inl, inr, arith}
+use Rattle.std.proofs.Common.{◌≡◌, ◌≢◌, ◌⊎◌, ◌<◌, ℕ, zero, suc, ◌+◌, ◌*◌, ◌-◌, ◌/◌, ◌%◌, ◌^◌, ◌==◌, min, max, bit_and, bit_or, count_ones, ◌≤◌, w64, refl, sym, ap, ◌∙◌, inl, inr, arith}
 use Rattle.std.specs.Int.{bit_at, bit_not, trailing_zeros}
 use Rattle.std.proofs.lemmas.Bool.{eqb-true, cases_lt}
 use Rattle.std.proofs.lemmas.Nat.{shr-shr, and_le_l, and_le_r, or_lt, ones_cat, mod-pow-add, mod_below, pow_pos, shr_split}
@@ -10,7 +10,7 @@ use Rattle.h2_codes.specs.Codes.{tally}
 use Rattle.h2_codes.specs.Bulkfree.{swept_code, tally_unseen}
 use Rattle.h2_codes.specs.Packed.{code_of, word_code, flag_of, sum_below, Marks, NoneFreeIn, IsFirstFree}
 use Rattle.h2_codes.proofs.Counts.{tally_le}
-use Rattle.h2_codes.proofs.Cases.{all_below, below-at, bit_cases, two_bits}
+use Rattle.h2_codes.proofs.Cases.{below-at, bit_cases, two_bits}
 
 -- the lower bit of each code
 abbrev pub low : ℕ

@@ -1,5 +1,5 @@
 -- Bytes of four codes or of eight flags, each by computing all of them.
-use Rattle.std.proofs.Common.{◌≡◌, ◌⊎◌, ◌<◌, ℕ, zero, suc, ◌+◌, ◌*◌, ◌-◌, ◌/◌, ◌%◌, ◌^◌, ◌==◌, ◌&&◌, nat_lt, bit_and, bit_or, Bool, true, false, cond, set, List, [], ◌∷◌, w8, refl, sym, ap, ◌∙◌, inl, inr, arith}
+use Rattle.std.proofs.Common.{◌≡◌, ◌⊎◌, ◌<◌, ℕ, zero, suc, ◌+◌, ◌*◌, ◌-◌, ◌/◌, ◌%◌, ◌^◌, ◌==◌, bit_and, bit_or, Bool, true, false, cond, set, [], ◌∷◌, w8, refl, ap, ◌∙◌, inl, inr, arith}
 use Rattle.std.specs.Int.{bit_at}
 use Rattle.std.proofs.lemmas.Bool.{eqb-true, eq-eqb, ne_eqb, cases_eq}
 use Rattle.std.proofs.lemmas.Nat.{and_le_r}

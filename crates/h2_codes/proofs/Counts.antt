@@ -1,11 +1,11 @@
 -- Counts of codes, chunk by chunk.
-use Rattle.std.proofs.Common.{◌≡◌, ◌≢◌, ◌⊎◌, ◌<◌, ◌≤◌, ℕ, zero, suc, ◌+◌, Bool, true, false, List, [], ◌∷◌, length, set, take, slice_index_or, refl, sym, ap, ◌∙◌, inl, inr, arith}
+use Rattle.std.proofs.Common.{◌≡◌, ◌<◌, ◌≤◌, ℕ, zero, suc, ◌+◌, Bool, true, false, List, [], ◌∷◌, length, set, take, refl, ap, arith}
 use Rattle.h2_codes.specs.declared.code.Code.{Code}
 use Rattle.h2_codes.specs.declared.code.Code.TheVariants.{Free, Reserved, Staged, Used}
 use Rattle.h2_codes.specs.Codes.{code_at, tally, count_of}
-use Rattle.h2_codes.specs.Seen.{has_chunk}
+use Rattle.h2_codes.specs.Seen.{has_chunk, count_in}
 use Rattle.h2_codes.specs.Bulkfree.{swept_code, tally_unseen, count_unseen}
-use Rattle.h2_codes.specs.Packed.{sum_below}
+use Rattle.h2_codes.specs.Packed.{sum_below, flag_bit}
 
 pub tally_le : (code x : Code) → tally code x ≤ 1
 tally_le Free Free = omega arith
@@ -128,3 +128,37 @@ take-all [] zero le = refl
 take-all [] (suc n) le = refl
 take-all (x ∷ xs) zero le = absurd (omega arith)
 take-all (x ∷ xs) (suc n) le = ap (λ (rest : List Code). x ∷ rest) (take-all xs n (omega arith))
+
+-- chunks in a set
+
+flag_bit_le : (flag : Bool) → flag_bit flag ≤ 1
+flag_bit_le true = omega arith
+flag_bit_le false = omega arith
+
+pub flags_step_le : (flags : List Bool) (at : ℕ) → sum_below 32 (λ k. flag_bit (has_chunk flags (at + k))) ≤ 32
+flags_step_le flags at = sum_below_le 32 (λ k. flag_bit (has_chunk flags (at + k))) (λ k lt. flag_bit_le (has_chunk flags (at + k)))
+
+count_in-take : (flags : List Bool) (k : ℕ) → k < length flags → count_in (take (suc k) flags) ≡ count_in (take k flags) + flag_bit (has_chunk flags k)
+count_in-take [] k lt = absurd (omega arith)
+count_in-take (true ∷ flags) zero lt = omega arith
+count_in-take (false ∷ flags) zero lt = omega arith
+count_in-take (true ∷ flags) (suc k) lt = let rest = count_in-take flags k (omega arith) in omega (arith, rest)
+count_in-take (false ∷ flags) (suc k) lt = count_in-take flags k (omega arith)
+
+pub count_in-more : (flags : List Bool) (at n : ℕ) → at + n ≤ length flags → count_in (take (at + n) flags) ≡ count_in (take at flags) + sum_below n (λ k. flag_bit (has_chunk flags (at + k)))
+count_in-more flags at zero le =
+    let e : at + 0 ≡ at = omega arith in
+    let same : count_in (take (at + 0) flags) ≡ count_in (take at flags) = ap (λ (k : ℕ). count_in (take k flags)) e in
+    omega (arith, same)
+count_in-more flags at (suc n) le =
+    let e : at + suc n ≡ suc (at + n) = omega arith in
+    let same : count_in (take (at + suc n) flags) ≡ count_in (take (suc (at + n)) flags) = ap (λ (k : ℕ). count_in (take k flags)) e in
+    let rest = count_in-more flags at n (omega arith) in
+    let one = count_in-take flags (at + n) (omega arith) in
+    omega (arith, same, rest, one)
+
+pub flags_all : (flags : List Bool) (n : ℕ) → length flags ≤ n → take n flags ≡ flags
+flags_all [] zero le = refl
+flags_all [] (suc n) le = refl
+flags_all (x ∷ flags) zero le = absurd (omega arith)
+flags_all (x ∷ flags) (suc n) le = ap (λ (rest : List Bool). x ∷ rest) (flags_all flags n (omega arith))

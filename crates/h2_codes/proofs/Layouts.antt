@@ -1,9 +1,8 @@
 -- Codes and the bytes that hold them determine each other.
-use Rattle.std.proofs.Common.{◌≡◌, ◌<◌, ℕ, zero, suc, ◌+◌, ◌*◌, ◌/◌, ◌%◌, ◌^◌, List, [], ◌∷◌, length, slice_index_or, refl, sym, ap, ◌∙◌, arith}
+use Rattle.std.proofs.Common.{◌≡◌, ◌<◌, ℕ, suc, ◌+◌, ◌*◌, ◌/◌, ◌%◌, ◌^◌, List, [], ◌∷◌, length, refl, sym, ap, ◌∙◌, arith}
 use Rattle.h2_codes.specs.declared.code.Code.{Code}
-use Rattle.h2_codes.specs.declared.code.Code.TheVariants.{Free, Reserved, Staged, Used}
 use Rattle.h2_codes.specs.Codes.{code_at}
-use Rattle.h2_codes.specs.Layout.{HoldCodes, code_number, chunk_bits}
+use Rattle.h2_codes.specs.Layout.{code_number, chunk_bits}
 use Rattle.h2_codes.specs.LayoutLaws.{OneSegment, OneSpelling}
 use Rattle.h2_codes.specs.Packed.{code_of}
 use Rattle.h2_codes.proofs.Bytes.{code_of-number}

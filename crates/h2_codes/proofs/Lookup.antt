@@ -1,15 +1,13 @@
 -- The codes and flags in a list of bytes, one by one.
-use Rattle.std.proofs.Common.{◌≡◌, ◌≢◌, ◌⊎◌, ◌<◌, ◌≤◌, ℕ, zero, suc, ◌+◌, ◌*◌, ◌-◌, ◌/◌, ◌%◌, ◌^◌, Bool, true, false, List, [], ◌∷◌, ◌++◌, length, set, take, replicate, slice_index, slice_index_or, refl, sym, ap, ◌∙◌, inl, inr, arith, get_or-set_same, get_or-set_other, length-set}
-use Rattle.std.specs.Int.{bit_at}
-use Rattle.std.proofs.lemmas.Bool.{cases_lt, cases_eq}
+use Rattle.std.proofs.Common.{◌≡◌, ◌⊎◌, ◌<◌, ◌≤◌, ℕ, zero, suc, ◌+◌, ◌*◌, ◌-◌, ◌/◌, ◌%◌, ◌^◌, Bool, true, false, List, [], ◌∷◌, ◌++◌, length, set, replicate, slice_index, refl, sym, ap, ◌∙◌, inl, inr, arith}
+use Rattle.std.proofs.lemmas.Bool.{cases_lt}
 use Rattle.std.proofs.lemmas.Nat.{shr-shr}
 use Rattle.h2_codes.specs.declared.code.Code.{Code}
-use Rattle.h2_codes.specs.declared.code.Code.TheVariants.{Free, Reserved, Staged, Used}
 use Rattle.h2_codes.specs.Codes.{code_at}
 use Rattle.h2_codes.specs.Seen.{has_chunk}
 use Rattle.h2_codes.specs.Layout.{code_number, chunk_bits, HoldCodes}
-use Rattle.h2_codes.specs.PackedLaws.{number-code_of, chunk_bits-number}
-use Rattle.h2_codes.specs.Packed.{code_of, word_code, byte_codes, codes_in, byte_of, bytes_of, flag_of, flag_bit, byte_flag, byte_flags, flags_in, flag_bytes, AllBytes, little}
+use Rattle.h2_codes.specs.PackedLaws.{chunk_bits-number}
+use Rattle.h2_codes.specs.Packed.{code_of, word_code, byte_codes, codes_in, flag_of, flag_bit, byte_flag, byte_flags, flags_in, AllBytes, little}
 
 -- codes
 

@@ -1,8 +1,7 @@
 -- The bytes of codes and of flags are determined by them.
-use Rattle.std.specs.Prelude.{◌≡◌, ◌<◌, ℕ, zero, suc, ◌+◌, ◌*◌, ◌/◌, ◌%◌, ◌^◌, Bool, true, false, List, [], ◌∷◌, refl}
+use Rattle.std.specs.Prelude.{◌≡◌, ◌<◌, ℕ, zero, suc, ◌+◌, ◌*◌, ◌/◌, ◌%◌, ◌^◌, List, [], ◌∷◌, refl}
 use Rattle.std.specs.Int.{bit_at}
 use Rattle.std.proofs.Common.{ap, ◌∙◌, arith}
-use Rattle.h2_codes.specs.declared.code.Code.{Code}
 use Rattle.h2_codes.specs.Layout.{code_number, chunk_bits}
 use Rattle.h2_codes.specs.Packed.{code_of, word_code, codes_in, byte_of, bytes_of, flag_of, flag_bit, byte_flag, flags_in, flag_bytes, AllBytes}
 

@@ -1,5 +1,5 @@
 ghost use Rattle.std.specs.Prelude.{◌≡◌, ◌<◌, ◌+◌, ◌*◌, ◌^◌, replicate, set, true, false};
-ghost use Rattle.h2_codes.specs.Seen.{IsChunkSet, has_chunk};
+ghost use Rattle.h2_codes.specs.Seen.{IsChunkSet, has_chunk, count_in};
 ghost use Rattle.h2_codes.specs.Packed.{Marks, flag_bit};
 
 use crate::byte::{flag_in, spread, with_flag};
@@ -56,6 +56,20 @@ impl Seen {
         ensures chunks { IsChunkSet self.now }
     {
         flag_in(self.flags[(c / 8) as usize], c % 8)
+    }
+
+    /// How many chunks are in it.
+    #[tactic(auto, using(crate::proofs::Lookup::flags_length))]
+    pub fn count(&self) -> u32
+        ensures value { result ≡ count_in self.now }
+        ensures chunks { IsChunkSet self.now }
+    {
+        let _ = &self.flags;
+        let mut n = 0;
+        for j in 0..8usize {
+            n += self.word(j).count_ones();
+        }
+        n
     }
 
     // The flags of 32 chunks, of which there are 8 times as many, each at the lower of two bits.

@@ -9,6 +9,7 @@ use crate::byte::{code_in, with_code};
 use crate::code::{Code, tally};
 use crate::seen::Seen;
 use crate::word::{count, count_unseen, first_free, get_word, put_word, sweep};
+use h2_geom::SEGMENT_CHUNKS;
 use std::marker::Model;
 
 /// The bytes in which the codes of a segment are kept.
@@ -56,22 +57,32 @@ fn count_codes(bytes: &[u8; SEGMENT_BYTES], code: Code) -> u32
     n
 }
 
+// A segment all of whose chunks are reserved: each byte has four codes 1.
+fn all_reserved() -> Segment
+    ensures { result ≡ replicate 256 Reserved }
+{
+    Segment {
+        codes: [0x55; SEGMENT_BYTES],
+        free: 0,
+    }
+}
+
+// A segment all of whose chunks are free.
+fn all_free() -> Segment
+    ensures { result ≡ replicate 256 Free }
+{
+    Segment {
+        codes: [0; SEGMENT_BYTES],
+        free: SEGMENT_CHUNKS,
+    }
+}
+
 impl Segment {
     /// A segment all of whose chunks are reserved, or else free.
     pub fn new(reserved: bool) -> Segment
         ensures { result ≡ replicate 256 (if reserved then Reserved else Free) }
     {
-        if reserved {
-            Segment {
-                codes: [0x55; SEGMENT_BYTES],
-                free: 0,
-            }
-        } else {
-            Segment {
-                codes: [0; SEGMENT_BYTES],
-                free: 256,
-            }
-        }
+        if reserved { all_reserved() } else { all_free() }
     }
 
     /// The segment whose codes stand in 64 bytes, two bits a chunk, as in a leaf of the freemap.

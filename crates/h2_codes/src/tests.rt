@@ -52,6 +52,7 @@ fn a_pass_over_a_whole_segment(rt: HostRuntime) -> Result<(), Fail> {
     assert_eq!(rt; s.free(), 64);
     assert_eq!(rt; s.count(Code::Staged), 64);
     assert!(rt; seen.has(255) && !seen.has(254));
+    assert_eq!(rt; seen.count(), 86);
     // Of the 64 chunks with c mod 4 = 2, those with c mod 12 = 6 are seen, 21; with c mod 4 = 3, those
     // with c mod 12 = 3, 22.
     assert_eq!(rt; s.apply(&seen), (42, 43));

@@ -1,4 +1,4 @@
-use Rattle.std.proofs.Common.{rules, ◌≡◌, ◌<◌, ◌≤◌, ◌+◌, ◌*◌, ◌-◌, ◌/◌, ◌%◌, ◌^◌, ℕ, suc, Bool, List, length, set, take, replicate, slice_index, slice_index_or, refl, sym, ap, ◌∙◌, subst, arith}
+use Rattle.std.proofs.Common.{rules, ◌<◌, ◌≤◌, ◌*◌, ap, ◌∙◌, arith}
 use Rattle.h2_codes.specs.Codes.{count_of}
 use Rattle.h2_codes.specs.Packed.{AllBytes, codes_in}
 use Rattle.h2_codes.proofs.Counts.{take-all}

@@ -1,4 +1,4 @@
-use Rattle.std.proofs.Common.{◌≡◌, ◌≤◌, ◌*◌, ℕ, take}
+use Rattle.std.proofs.Common.{◌≡◌, ◌≤◌, ◌*◌, take}
 use Rattle.h2_codes.specs.Codes.{count_of}
 use Rattle.h2_codes.specs.Packed.{codes_in}
 use Rattle.h2_codes.proofs.segment.count_codes.Given as goal

@@ -1,4 +1,4 @@
-use Rattle.std.proofs.Common.{◌∙◌, ◌*◌, bit_and, arith, w64}
+use Rattle.std.proofs.Common.{◌*◌, bit_and, arith, w64}
 use Rattle.std.specs.Int.{bit_at, bit_not}
 use Rattle.std.proofs.lemmas.Nat.{and_le_l}
 use Rattle.h2_codes.specs.Bulkfree.{tally_unseen}

@@ -1,4 +1,4 @@
-use Rattle.std.proofs.Common.{rules, ◌≡◌, ◌<◌, ◌≤◌, ◌+◌, ◌*◌, ◌-◌, ◌/◌, ◌%◌, ◌^◌, ℕ, suc, Bool, List, length, set, take, replicate, slice_index, slice_index_or, refl, sym, ap, ◌∙◌, subst, arith}
+use Rattle.std.proofs.Common.{◌≡◌, ◌<◌, Bool, List, length, sym, ap, ◌∙◌, arith}
 use Rattle.h2_codes.specs.Seen.{has_chunk}
 use Rattle.h2_codes.proofs.Lookup.{flag_lookup}
 use Rattle.h2_codes.proofs.seen.Seen.has.Goals as goal

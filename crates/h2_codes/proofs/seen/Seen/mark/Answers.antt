@@ -1,4 +1,4 @@
-use Rattle.std.proofs.Common.{rules, ◌≡◌, ◌<◌, ◌≤◌, ◌+◌, ◌*◌, ◌-◌, ◌/◌, ◌%◌, ◌^◌, ℕ, suc, Bool, List, length, set, take, replicate, slice_index, slice_index_or, refl, sym, ap, ◌∙◌, subst, arith}
+use Rattle.std.proofs.Common.{◌≡◌, ◌<◌, ◌+◌, ◌*◌, ◌/◌, ◌%◌, ℕ, Bool, List, length, set, ap, ◌∙◌, arith}
 use Rattle.std.proofs.Common.{true, length-set}
 use Rattle.h2_codes.specs.Packed.{flags_in}
 use Rattle.h2_codes.proofs.Lookup.{all_bytes-set, flags_in-set, flags_length}

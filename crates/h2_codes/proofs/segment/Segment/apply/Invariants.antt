@@ -1,6 +1,6 @@
-use Rattle.std.proofs.Common.{◌≡◌, ◌<◌, ◌≤◌, ◌+◌, ◌*◌, ℕ, take, length}
-use Rattle.h2_codes.specs.declared.code.Code.TheVariants.{Free, Staged, Used}
-use Rattle.h2_codes.specs.Codes.{code_at, count_of}
+use Rattle.std.proofs.Common.{◌≡◌, ◌<◌, ◌≤◌, ◌*◌, ℕ, take, length}
+use Rattle.h2_codes.specs.declared.code.Code.TheVariants.{Staged, Used}
+use Rattle.h2_codes.specs.Codes.{code_at}
 use Rattle.h2_codes.specs.Seen.{has_chunk}
 use Rattle.h2_codes.specs.Bulkfree.{swept_code, count_unseen}
 use Rattle.h2_codes.specs.Packed.{codes_in, AllBytes}

@@ -1,4 +1,3 @@
-use Rattle.std.proofs.Common.{rules, ◌≡◌, ◌<◌, ◌≤◌, ◌+◌, ◌*◌, ◌-◌, ◌/◌, ◌%◌, ◌^◌, ℕ, suc, Bool, List, length, set, take, replicate, slice_index, slice_index_or, refl, sym, ap, ◌∙◌, subst, arith}
 use Rattle.h2_codes.proofs.Lookup.{holds_codes}
 use Rattle.h2_codes.proofs.segment.Segment.from_bytes.Goals as goal
 

@@ -1,6 +1,6 @@
-use Rattle.std.proofs.Common.{rules, ◌≡◌, ◌<◌, ◌≤◌, ◌+◌, ◌*◌, ◌-◌, ◌/◌, ◌%◌, ◌^◌, ℕ, suc, Bool, List, length, set, take, replicate, slice_index, slice_index_or, refl, sym, ap, ◌∙◌, subst, arith}
+use Rattle.std.proofs.Common.{◌≤◌, ◌+◌, ◌*◌, ◌-◌, ◌/◌, ℕ, List, subst, arith}
 use Rattle.h2_codes.specs.declared.code.Code.{Code}
-use Rattle.h2_codes.specs.Codes.{IsSegment, NoneFree, IsNextFree}
+use Rattle.h2_codes.specs.Codes.{IsSegment, IsNextFree}
 use Rattle.h2_codes.specs.Packed.{NoneFreeIn, IsFirstFree}
 use Rattle.h2_codes.proofs.Lookup.{segment_length}
 use Rattle.h2_codes.proofs.Segments.{found, passed}

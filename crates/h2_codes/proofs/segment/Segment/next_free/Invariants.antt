@@ -1,4 +1,4 @@
-use Rattle.std.proofs.Common.{◌≡◌, ◌≤◌, ◌*◌, ◌/◌, ℕ}
+use Rattle.std.proofs.Common.{◌≤◌, ◌*◌, ◌/◌}
 use Rattle.h2_codes.specs.Codes.{NoneFree}
 use Rattle.h2_codes.specs.Packed.{codes_in}
 use Rattle.h2_codes.proofs.segment.Segment.next_free.Given as goal
