@@ -1,26 +1,25 @@
 -- A freemap stays consistent as it changes.
-use Rattle.std.proofs.Common.{ℕ, zero, suc, ◌≡◌, ◌≢◌, ◌⊎◌, ◌+◌, ◌-◌, ◌*◌, ◌/◌, ◌%◌, ◌≤◌, ◌<◌, List, [], ◌∷◌, ◌++◌, length, slice_index_or, set, Option, Some, None, refl, sym, ap, ◌∙◌, inl, inr, arith, subst}
+use Rattle.std.proofs.Common.{ℕ, zero, suc, ◌≡◌, ◌≢◌, ◌⊎◌, ◌+◌, ◌*◌, ◌≤◌, ◌<◌, List, [], length, slice_index_or, set, Option, Some, None, refl, sym, ap, ◌∙◌, inl, inr, arith, subst}
 use Rattle.std.specs.List.{All}
 use Rattle.std.specs.Option.{IfSome}
 use Rattle.std.proofs.lemmas.Bool.{cases_eq}
 use Rattle.std.proofs.lemmas.List.{length-set, get_or-set_same, get_or-set_other}
 use Rattle.std.proofs.lemmas.List.Elements.{All-set, All-get_or}
-use Rattle.h2_num.specs.declared.block.Block.{Block}
-use Rattle.h2_geom.specs.Geometry.{chunk_bytes, chunks_of, segments_of, segment_of, in_segment}
+use Rattle.h2_geom.specs.Geometry.{segments_of, segment_of, in_segment}
 use Rattle.h2_codes.specs.declared.code.Code.{Code}
 use Rattle.h2_codes.specs.declared.code.Code.TheVariants.{Free, Reserved, Staged, Used}
 use Rattle.h2_codes.specs.Codes.{IsSegment, tally, count_of}
 use Rattle.h2_freemap.specs.declared.size.Size.{Size}
 use Rattle.h2_freemap.specs.declared.size.Size.TheVariants.{Small, Middle, Whole}
 use Rattle.h2_freemap.specs.declared.cursor.Cursor.{Cursor}
-use Rattle.h2_freemap.specs.Space.{Space, chunk_count, code_in, code_of, cursor_of, InVolume, ChangesCode}
+use Rattle.h2_freemap.specs.Space.{Space, chunk_count, code_in, code_of, cursor_of, ChangesCode}
 use Rattle.h2_freemap.specs.Free.{free_below, free_of}
-use Rattle.h2_freemap.specs.Search.{with_code, NoneFreeIn}
-use Rattle.h2_freemap.specs.Taking.{bytes_of, with_cursor}
+use Rattle.h2_freemap.specs.Search.{with_code}
+use Rattle.h2_freemap.specs.Taking.{with_cursor}
 use Rattle.h2_freemap.specs.Sweeping.{unless_free, kept_cursor}
 use Rattle.h2_freemap.specs.Consistent.{IsCursor, IsConsistent}
-use Rattle.h2_freemap.proofs.Counting.{free_changed, free_has}
-use Rattle.h2_freemap.proofs.SegmentCodes.{with_code_here, with_code_other, with_code_segments, count_more, free_at_most}
+use Rattle.h2_freemap.proofs.Counting.{free_changed}
+use Rattle.h2_freemap.proofs.SegmentCodes.{with_code_here, with_code_other, with_code_segments, count_more}
 
 -- the freemap with these segments
 abbrev pub with_segments : List (List Code) → Space → Space

@@ -1,16 +1,16 @@
 -- The freemap of a new volume.
-use Rattle.std.proofs.Common.{ℕ, zero, suc, ◌≡◌, ◌≢◌, ◌⊎◌, ◌+◌, ◌-◌, ◌*◌, ◌/◌, ◌%◌, ◌≤◌, ◌<◌, Bool, true, false, Result, Ok, Err, List, [], ◌∷◌, ◌++◌, length, slice_index_or, replicate, if◌then◌else◌, ◌==◌, refl, sym, ap, ◌∙◌, inl, inr, arith, subst}
+use Rattle.std.proofs.Common.{ℕ, zero, suc, ◌≡◌, ◌≢◌, ◌⊎◌, ◌+◌, ◌-◌, ◌*◌, ◌/◌, ◌%◌, ◌≤◌, ◌<◌, Bool, Result, Ok, Err, List, [], ◌∷◌, ◌++◌, length, slice_index_or, replicate, if◌then◌else◌, ◌==◌, refl, ap, ◌∙◌, inl, inr, arith, subst}
 use Rattle.std.specs.Result.{IfOk}
 use Rattle.h2_num.specs.declared.memory.NoMemory.{NoMemory}
 use Rattle.std.proofs.lemmas.Bool.{cases_eq, cases_lt, eq-eqb, ne_eqb}
 use Rattle.std.proofs.lemmas.List.{get_or-replicate, length-replicate, get_or_push, get_or_append_left, length_push}
-use Rattle.h2_geom.specs.Geometry.{chunks_of, segments_of, segment_of, in_segment, IsReserved}
+use Rattle.h2_geom.specs.Geometry.{chunks_of, segments_of, segment_of, in_segment}
 use Rattle.h2_codes.specs.declared.code.Code.{Code}
 use Rattle.h2_codes.specs.declared.code.Code.TheVariants.{Free, Reserved}
 use Rattle.h2_codes.specs.Codes.{IsSegment, code_at, count_of}
 use Rattle.h2_freemap.specs.Space.{Space, code_in, code_of}
 use Rattle.h2_freemap.specs.Free.{free_below, free_of}
-use Rattle.h2_freemap.specs.Made.{IsFreshCode, fresh_segment, AreFresh, IsOpened, IsFresh}
+use Rattle.h2_freemap.specs.Made.{fresh_segment, AreFresh, IsOpened, IsFresh}
 use Rattle.h2_freemap.proofs.SegmentCodes.{count_more}
 
 -- no segment

@@ -1,5 +1,5 @@
 -- The need of blocks is what taking them uses.
-use Rattle.std.proofs.Common.{ℕ, zero, suc, ◌≡◌, ◌≢◌, ◌⊎◌, ◌+◌, ◌-◌, ◌*◌, ◌/◌, ◌≤◌, ◌<◌, Option, Some, None, List, [], ◌∷◌, ◌++◌, refl, sym, ap, ◌∙◌, inl, inr, arith, subst}
+use Rattle.std.proofs.Common.{ℕ, ◌≡◌, ◌⊎◌, ◌+◌, ◌-◌, ◌/◌, ◌≤◌, Option, Some, None, List, [], ◌∷◌, ◌++◌, refl, sym, ap, ◌∙◌, inl, inr, arith, subst}
 use Rattle.std.proofs.lemmas.Bool.{cases_eq}
 use Rattle.h2_num.specs.declared.block.Block.{Block}
 use Rattle.h2_geom.specs.Geometry.{chunk_bytes}
@@ -7,10 +7,10 @@ use Rattle.h2_codes.specs.declared.code.Code.TheVariants.{Used}
 use Rattle.h2_freemap.specs.declared.size.Size.{Size}
 use Rattle.h2_freemap.specs.declared.size.Size.TheVariants.{Small, Middle, Whole}
 use Rattle.h2_freemap.specs.declared.cursor.Cursor.{Cursor}
-use Rattle.h2_freemap.specs.Space.{Space, code_of, cursor_of}
+use Rattle.h2_freemap.specs.Space.{Space, code_of}
 use Rattle.h2_freemap.specs.Free.{free_of}
 use Rattle.h2_freemap.specs.Taking.{HasNoRoom, GoesTo, at_cursor, at_lowest, Takes}
-use Rattle.h2_freemap.specs.Need.{blocks_left, small_chunks, middle_chunks, need_of, need_of_one, need_of_all, small_of, middle_of, whole_of, TakesAll, HasCursorsInUse, NeedIsUsed, NeedIsEnough, NeedGrows, NeedIsAtMost, TakesOnlyUse}
+use Rattle.h2_freemap.specs.Need.{blocks_left, small_chunks, middle_chunks, need_of, need_of_one, need_of_all, small_of, middle_of, whole_of, NeedIsUsed, NeedIsEnough, NeedGrows, NeedIsAtMost, TakesOnlyUse}
 use Rattle.h2_freemap.proofs.Taken.{cost, taken_free, taken_in_use}
 
 -- a block at the cursor is one less that has room

@@ -1,5 +1,5 @@
 -- Lists of pinned blocks.
-use Rattle.std.proofs.Common.{ℕ, suc, Bool, true, false, nat_eq, ◌&&◌, ◌≡◌, ◌≢◌, ◌⊎◌, ◌+◌, ◌≤◌, ◌<◌, List, [], ◌∷◌, ◌++◌, length, slice_index_or, take, drop, Option, Some, None, Result, Ok, Err, if◌then◌else◌, refl, sym, ap, ◌∙◌, inl, inr, arith, subst}
+use Rattle.std.proofs.Common.{ℕ, suc, Bool, true, nat_eq, ◌&&◌, ◌≡◌, ◌≢◌, ◌⊎◌, ◌+◌, ◌≤◌, ◌<◌, List, [], ◌∷◌, ◌++◌, length, slice_index_or, take, drop, Option, Some, None, Result, Ok, Err, if◌then◌else◌, refl, sym, ap, ◌∙◌, inl, inr, arith, subst}
 use Rattle.std.specs.List.{All, AllPairs, Contains, remove}
 use Rattle.std.specs.Option.{MatchOption}
 use Rattle.std.specs.Result.{IsOk, is_ok}

@@ -1,20 +1,19 @@
 -- Where blocks go in a consistent freemap.
-use Rattle.std.proofs.Common.{ℕ, zero, suc, ◌≡◌, ◌≢◌, ◌⊎◌, ◌+◌, ◌-◌, ◌*◌, ◌/◌, ◌%◌, ◌≤◌, ◌<◌, List, [], length, Option, Some, None, refl, sym, ap, ◌∙◌, inl, inr, arith, subst, rules}
+use Rattle.std.proofs.Common.{ℕ, ◌≡◌, ◌+◌, ◌-◌, ◌*◌, ◌/◌, ◌%◌, ◌≤◌, ◌<◌, length, Option, Some, None, refl, sym, ap, ◌∙◌, arith, rules}
 use Rattle.std.specs.Option.{IsSome, MatchOption}
-use Rattle.h2_geom.specs.Geometry.{chunk_bytes, chunks_of, segments_of, chunk_place}
-use Rattle.h2_codes.specs.declared.code.Code.{Code}
-use Rattle.h2_codes.specs.declared.code.Code.TheVariants.{Free, Used}
+use Rattle.h2_geom.specs.Geometry.{chunk_bytes, segments_of, chunk_place}
+use Rattle.h2_codes.specs.declared.code.Code.TheVariants.{Used}
 use Rattle.h2_freemap.specs.declared.size.Size.{Size}
 use Rattle.h2_freemap.specs.declared.size.Size.TheVariants.{Small, Middle, Whole}
 use Rattle.h2_freemap.specs.declared.cursor.Cursor.{Cursor}
-use Rattle.h2_freemap.specs.Space.{Space, chunk_count, code_in, code_of, cursor_of, ChangesCode}
-use Rattle.h2_freemap.specs.Free.{free_below, free_of}
+use Rattle.h2_freemap.specs.Space.{Space, chunk_count, code_of, cursor_of, ChangesCode}
+use Rattle.h2_freemap.specs.Free.{free_of}
 use Rattle.h2_freemap.specs.Search.{NoneFreeIn, IsLowestIn}
-use Rattle.h2_freemap.specs.Taking.{bytes_of, HasRoom, HasNoRoom, GoesTo, at_cursor, at_lowest, with_cursor}
+use Rattle.h2_freemap.specs.Taking.{bytes_of, HasNoRoom, GoesTo, at_cursor, at_lowest, with_cursor}
 use Rattle.h2_freemap.specs.Need.{blocks_left, need_of_one, HasCursorsInUse}
 use Rattle.h2_freemap.specs.Consistent.{IsCursor, IsConsistent}
 use Rattle.h2_freemap.proofs.SegmentCodes.{free_none}
-use Rattle.h2_freemap.proofs.Taken.{cost, taken_free}
+use Rattle.h2_freemap.proofs.Taken.{cost}
 use Rattle.h2_freemap.proofs.Needs.{small_none, middle_none}
 
 pub cursors_in_use : (x : Space) → IsConsistent x → HasCursorsInUse x

@@ -1,18 +1,17 @@
 -- What a take does to the number of free chunks and to the cursors.
-use Rattle.std.proofs.Common.{ℕ, zero, suc, ◌≡◌, ◌≢◌, ◌⊎◌, ◌+◌, ◌-◌, ◌*◌, ◌/◌, ◌≤◌, ◌<◌, Option, Some, None, refl, sym, ap, ◌∙◌, inl, inr, arith, subst}
+use Rattle.std.proofs.Common.{ℕ, ◌≡◌, ◌≢◌, ◌⊎◌, ◌+◌, Some, refl, sym, ap, ◌∙◌, inl, inr, arith}
 use Rattle.std.proofs.lemmas.Bool.{cases_eq}
 use Rattle.h2_num.specs.declared.block.Block.{Block}
-use Rattle.h2_geom.specs.Geometry.{chunk_bytes, chunks_of}
-use Rattle.h2_codes.specs.declared.code.Code.{Code}
-use Rattle.h2_codes.specs.declared.code.Code.TheVariants.{Free, Reserved, Staged, Used}
+use Rattle.h2_geom.specs.Geometry.{chunks_of}
+use Rattle.h2_codes.specs.declared.code.Code.TheVariants.{Free, Used}
 use Rattle.h2_codes.specs.Codes.{tally}
 use Rattle.h2_freemap.specs.declared.size.Size.{Size}
 use Rattle.h2_freemap.specs.declared.size.Size.TheVariants.{Small, Middle, Whole}
 use Rattle.h2_freemap.specs.declared.cursor.Cursor.{Cursor}
 use Rattle.h2_freemap.specs.Space.{Space, chunk_count, code_of, cursor_of, ChangesCode}
 use Rattle.h2_freemap.specs.Free.{free_below, free_of, IsLowestFree}
-use Rattle.h2_freemap.specs.Taking.{bytes_of, HasRoom, HasNoRoom, GoesTo, at_cursor, at_lowest, cursor_behind, Takes}
-use Rattle.h2_freemap.specs.Need.{blocks_left, need_of, need_of_one, HasCursorsInUse}
+use Rattle.h2_freemap.specs.Taking.{GoesTo, at_cursor, at_lowest, cursor_behind, Takes}
+use Rattle.h2_freemap.specs.Need.{HasCursorsInUse}
 use Rattle.h2_freemap.proofs.Counting.{not_free, free_same, free_taken}
 
 -- 0 at a cursor with room, else 1

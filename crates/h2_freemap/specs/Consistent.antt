@@ -1,5 +1,5 @@
 -- What holds of every freemap.
-use Rattle.std.specs.Prelude.{◌≡◌, ◌≢◌, ◌<◌, ◌≤◌, ℕ, ◌%◌, length, All, AllPairs, Some}
+use Rattle.std.specs.Prelude.{◌≡◌, ◌≢◌, ◌<◌, ◌≤◌, ◌%◌, length, All, AllPairs, Some}
 use Rattle.h2_num.specs.declared.block.Block.{Block}
 use Rattle.h2_geom.specs.Geometry.{IsZoneCount, segments_of, chunk_bytes}
 use Rattle.h2_codes.specs.declared.code.Code.TheVariants.{Free}

@@ -1,5 +1,5 @@
 -- What a freemap is when it is made.
-use Rattle.std.specs.Prelude.{◌≡◌, ◌<◌, ℕ, ◌*◌, ◌%◌, List, [], length, replicate, slice_index_or, Option, None, ◌==◌, if◌then◌else◌}
+use Rattle.std.specs.Prelude.{◌≡◌, ◌<◌, ℕ, ◌*◌, ◌%◌, List, [], length, replicate, slice_index_or, None, ◌==◌, if◌then◌else◌}
 use Rattle.h2_geom.specs.Geometry.{chunks_of, IsReserved}
 use Rattle.h2_codes.specs.declared.code.Code.{Code}
 use Rattle.h2_codes.specs.declared.code.Code.TheVariants.{Free, Reserved}

@@ -1,10 +1,10 @@
 -- How blocks are pinned, adopted and let go.
-use Rattle.std.specs.Prelude.{◌≡◌, ◌<◌, ◌≤◌, ℕ, ◌+◌, List, [], ◌∷◌, ◌++◌, Bool, true, false, Contains}
+use Rattle.std.specs.Prelude.{◌≡◌, ◌≤◌, ℕ, ◌+◌, List, [], ◌∷◌, ◌++◌, Bool, true, false, Contains}
 use Rattle.h2_num.specs.declared.block.Block.{Block}
 use Rattle.h2_geom.specs.Geometry.{chunk_of}
 use Rattle.h2_codes.specs.declared.code.Code.{Code}
 use Rattle.h2_codes.specs.declared.code.Code.TheVariants.{Free, Reserved, Staged, Used}
-use Rattle.h2_freemap.specs.Space.{Space, code_of, ChangesCode, KeepsCodes, KeepsCursors, KeepsPins}
+use Rattle.h2_freemap.specs.Space.{Space, ChangesCode, KeepsCodes, KeepsCursors, KeepsPins}
 
 -- whether a block in a chunk of the code may be shared: the chunk holds something
 abbrev pub is_in_use : Code → Bool

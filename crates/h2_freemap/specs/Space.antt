@@ -1,5 +1,5 @@
 -- What a freemap says of the space of a volume.
-use Rattle.std.specs.Prelude.{◌≡◌, ◌≢◌, ◌<◌, ◌≤◌, ℕ, ◌%◌, List, [], length, slice_index_or, Option, Some, None}
+use Rattle.std.specs.Prelude.{◌≡◌, ◌≢◌, ◌<◌, ℕ, List, [], slice_index_or, Option, None}
 use Rattle.h2_num.specs.declared.block.Block.{Block}
 use Rattle.h2_geom.specs.Geometry.{chunks_of, chunk_of, segment_of, in_segment}
 use Rattle.h2_codes.specs.declared.code.Code.{Code}

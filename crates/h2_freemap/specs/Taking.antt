@@ -1,12 +1,12 @@
 -- How a block is taken.
 use Rattle.std.specs.Prelude.{◌≡◌, ◌≢◌, ◌<◌, ◌≤◌, ℕ, ◌+◌, Option, Some, None}
 use Rattle.h2_num.specs.declared.block.Block.{Block}
-use Rattle.h2_geom.specs.Geometry.{chunk_bytes, chunk_place, chunk_of}
+use Rattle.h2_geom.specs.Geometry.{chunk_bytes, chunk_place}
 use Rattle.h2_codes.specs.declared.code.Code.TheVariants.{Used}
 use Rattle.h2_freemap.specs.declared.size.Size.{Size}
 use Rattle.h2_freemap.specs.declared.size.Size.TheVariants.{Small, Middle, Whole}
 use Rattle.h2_freemap.specs.declared.cursor.Cursor.{Cursor}
-use Rattle.h2_freemap.specs.Space.{Space, cursor_of, code_of, ChangesCode, KeepsPins}
+use Rattle.h2_freemap.specs.Space.{Space, cursor_of, ChangesCode, KeepsPins}
 use Rattle.h2_freemap.specs.Free.{IsLowestFree}
 
 -- the bytes of a block of a size

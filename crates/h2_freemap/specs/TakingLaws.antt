@@ -1,5 +1,5 @@
 -- What follows from a take, in the words of a ledger of blocks.
-use Rattle.std.proofs.Common.{ℕ, ◌≡◌, ◌≢◌, ◌⊎◌, ◌+◌, ◌*◌, ◌/◌, ◌^◌, ◌≤◌, ◌<◌, Option, Some, None, refl, sym, ap, ◌∙◌, inl, inr, arith, subst}
+use Rattle.std.proofs.Common.{ℕ, ◌≡◌, ◌⊎◌, ◌+◌, ◌^◌, ◌≤◌, Some, refl, sym, ap, ◌∙◌, inl, inr, arith, subst}
 use Rattle.h2_num.specs.declared.block.Block.{Block}
 use Rattle.h2_geom.specs.Geometry.{chunk_bytes, chunk_of, chunk_place}
 use Rattle.h2_codes.specs.declared.code.Code.TheVariants.{Used}

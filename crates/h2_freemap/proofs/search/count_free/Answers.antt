@@ -1,4 +1,4 @@
-use Rattle.std.proofs.Common.{◌≡◌, ◌*◌, ◌+◌, ◌≤◌, ◌<◌, ℕ, [], length, slice_index_or, refl, sym, ap, ◌∙◌, arith, Fits, w64, subst, List}
+use Rattle.std.proofs.Common.{◌≡◌, ◌*◌, [], slice_index_or, refl, ap, arith, subst, List}
 use Rattle.std.proofs.lemmas.List.{get_or_read}
 use Rattle.std.proofs.lemmas.List.Elements.{AllWithin-none, AllWithin-more}
 use Rattle.h2_codes.specs.Codes.{IsSegment, count_of}

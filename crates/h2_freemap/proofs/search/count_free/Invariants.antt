@@ -1,4 +1,4 @@
-use Rattle.std.proofs.Common.{◌≡◌, ◌*◌, ℕ}
+use Rattle.std.proofs.Common.{◌≡◌, ◌*◌}
 use Rattle.std.specs.List.{AllWithin}
 use Rattle.h2_codes.specs.Codes.{IsSegment}
 use Rattle.h2_freemap.specs.Space.{code_in}

@@ -1,9 +1,7 @@
-use Rattle.std.proofs.Common.{◌≡◌, ◌≢◌, ◌<◌, ◌≤◌, ◌*◌, ◌+◌, ℕ, [], List, length, slice_index_or, refl, sym, ap, ◌∙◌, arith, subst}
+use Rattle.std.proofs.Common.{◌≡◌, [], List, slice_index_or, ap, ◌∙◌, arith}
 use Rattle.std.proofs.lemmas.List.{get_or_read}
-use Rattle.h2_codes.specs.Codes.{IsSegment, code_at}
+use Rattle.h2_codes.specs.Codes.{code_at}
 use Rattle.h2_codes.specs.declared.code.Code.{Code}
-use Rattle.h2_codes.specs.declared.code.Code.TheVariants.{Free}
-use Rattle.h2_freemap.specs.Space.{code_in}
 use Rattle.h2_freemap.proofs.SegmentCodes.{none_more, count_none}
 use Rattle.h2_freemap.proofs.search.lowest_free.Goals.{then-free-gt0+in_default, else-free-gt0}
 use Rattle.h2_freemap.proofs.search.lowest_free.Goals as goal

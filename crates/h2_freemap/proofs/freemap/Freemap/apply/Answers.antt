@@ -1,4 +1,4 @@
-use Rattle.std.proofs.Common.{rules, ℕ, suc, ◌≡◌, ◌≢◌, ◌+◌, ◌-◌, ◌*◌, ◌/◌, ◌%◌, ◌≤◌, ◌<◌, List, [], ◌∷◌, ◌++◌, length, slice_index_or, set, true, refl, sym, ap, ◌∙◌, arith, subst}
+use Rattle.std.proofs.Common.{ℕ, ◌≡◌, ◌+◌, ◌<◌, List, [], length, slice_index_or, set, refl, sym, ap, ◌∙◌, arith, subst}
 use Rattle.h2_freemap.specs.Space.{Space}
 use Rattle.h2_freemap.specs.contracts.freemap.Freemap.{the_view}
 use Rattle.std.proofs.lemmas.List.{get_or_read, length-set}

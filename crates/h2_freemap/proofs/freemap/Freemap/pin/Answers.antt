@@ -1,4 +1,4 @@
-use Rattle.std.proofs.Common.{rules, ℕ, suc, ◌≡◌, ◌≢◌, ◌+◌, ◌-◌, ◌*◌, ◌/◌, ◌%◌, ◌≤◌, ◌<◌, List, [], ◌∷◌, ◌++◌, length, slice_index_or, set, true, refl, sym, ap, ◌∙◌, arith, subst}
+use Rattle.std.proofs.Common.{◌≡◌, ◌-◌, ◌<◌, List, [], ◌∷◌, ◌++◌, sym, ◌∙◌, arith, subst}
 use Rattle.std.specs.Vec.{vec_len, vec_capacity}
 use Rattle.h2_num.specs.declared.block.Block.{Block}
 use Rattle.h2_freemap.specs.Space.{Space, InVolume}

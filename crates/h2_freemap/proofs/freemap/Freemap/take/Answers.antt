@@ -1,10 +1,7 @@
-use Rattle.std.proofs.Common.{rules, ℕ, suc, ◌≡◌, ◌≢◌, ◌+◌, ◌-◌, ◌*◌, ◌/◌, ◌%◌, ◌≤◌, ◌<◌, List, [], ◌∷◌, ◌++◌, length, slice_index_or, set, true, refl, sym, ap, ◌∙◌, arith, subst}
-use Rattle.h2_freemap.specs.Space.{Space}
-use Rattle.h2_freemap.specs.contracts.freemap.Freemap.{the_view}
-use Rattle.h2_freemap.specs.Space.{chunk_count}
+use Rattle.std.proofs.Common.{ℕ, ◌≡◌, ◌+◌, ◌%◌, ap, ◌∙◌, arith}
 use Rattle.h2_freemap.specs.Free.{free_of}
 use Rattle.h2_freemap.specs.Need.{need_of_one}
-use Rattle.h2_freemap.specs.Taking.{bytes_of, with_cursor}
+use Rattle.h2_freemap.specs.Taking.{bytes_of}
 use Rattle.h2_freemap.proofs.Taken.{cost, taken_free}
 use Rattle.h2_freemap.proofs.Placed.{cursors_in_use, place_within, next_cursor, place_aligned, cost_is_need, cursor_free}
 use Rattle.h2_freemap.proofs.freemap.Freemap.take.Goals as goal

@@ -1,15 +1,12 @@
-use Rattle.std.proofs.Common.{rules, ℕ, suc, ◌≡◌, ◌≢◌, ◌+◌, ◌-◌, ◌*◌, ◌/◌, ◌%◌, ◌≤◌, ◌<◌, List, [], ◌∷◌, ◌++◌, length, slice_index_or, set, true, refl, sym, ap, ◌∙◌, arith, subst}
+use Rattle.std.proofs.Common.{◌≡◌, ◌+◌, ◌≤◌, ◌<◌, [], slice_index_or, set, sym, ap, ◌∙◌, arith, subst}
 use Rattle.h2_freemap.specs.Space.{Space}
 use Rattle.h2_freemap.specs.contracts.freemap.Freemap.{the_view}
 use Rattle.std.proofs.lemmas.List.{get_or_read}
-use Rattle.h2_geom.specs.Geometry.{segment_of, in_segment}
-use Rattle.h2_codes.specs.declared.code.Code.{Code}
-use Rattle.h2_codes.specs.declared.code.Code.TheVariants.{Free, Used}
+use Rattle.h2_geom.specs.Geometry.{segment_of}
+use Rattle.h2_codes.specs.declared.code.Code.TheVariants.{Free}
 use Rattle.h2_codes.specs.Codes.{tally}
 use Rattle.h2_freemap.specs.Space.{chunk_count, code_of}
 use Rattle.h2_freemap.specs.Free.{free_of}
-use Rattle.h2_freemap.specs.Search.{with_code}
-use Rattle.h2_freemap.specs.Consistent.{IsConsistent}
 use Rattle.h2_freemap.proofs.Changes.{with_segments, used_whole, segment_within}
 use Rattle.h2_freemap.proofs.Counting.{free_has}
 use Rattle.h2_freemap.proofs.freemap.Freemap.use_chunk.Goals as goal
