@@ -4,7 +4,7 @@ ghost use Rattle.h2_codes.specs.Seen.{IsChunkSet, has_chunk};
 use std::marker::Model;
 
 /// The chunks of a segment that a pass of bulkfree has seen in use, seen as the list of 256 flags.
-#[derive(Drop, Debug)]
+#[derive(Clone, Copy, Debug)]
 pub struct Seen {
     flags: [bool; 256],
 }
@@ -18,6 +18,8 @@ impl Model for Seen {
     ghost view = { λ s. s.flags };
 
     ghost invariant = { λ s. IsChunkSet s.flags };
+
+    ghost inverse = { λ flags. record { flags = flags } };
 }
 
 impl Seen {

@@ -8,7 +8,7 @@ use crate::seen::Seen;
 use std::marker::Model;
 
 /// The codes of the 256 chunks of a segment, seen as the list of them.
-#[derive(Drop, Debug)]
+#[derive(Clone, Copy, Debug)]
 pub struct Segment {
     codes: [Code; 256],
     free: u32,
@@ -16,6 +16,7 @@ pub struct Segment {
 
 impl Model for Segment {
     ghost use Rattle.std.specs.Prelude.{◌≡◌, List};
+    ghost use Rattle.std.proofs.Common.{sym};
     ghost use Rattle.h2_codes.specs.declared.code.Code.{Code};
     ghost use Rattle.h2_codes.specs.declared.code.Code.TheVariants.{Free};
     ghost use Rattle.h2_codes.specs.Codes.{IsSegment, count_of};
@@ -25,6 +26,10 @@ impl Model for Segment {
     ghost view = { λ s. s.codes };
 
     ghost invariant = { λ s. IsSegment s.codes × (s.free ≡ count_of Free s.codes) };
+
+    ghost inverse = { λ codes. record { codes = codes; free = count_of Free codes } };
+
+    ghost inverse_ok = { λ s h i. record { codes = s.codes; free = sym h.1 i } };
 }
 
 impl Segment {

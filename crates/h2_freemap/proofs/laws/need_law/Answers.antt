@@ -1,0 +1,11 @@
+use Rattle.h2_freemap.proofs.Needs.{need_is_used, need_is_enough, takes_only_use}
+use Rattle.h2_freemap.proofs.laws.need_law.Goals as goal
+
+pub returns-clause-used : goal.returns-clause-used
+returns-clause-used c = need_is_used
+
+pub returns-clause-enough : goal.returns-clause-enough
+returns-clause-enough c = need_is_enough
+
+pub returns-clause-only : goal.returns-clause-only
+returns-clause-only c = takes_only_use

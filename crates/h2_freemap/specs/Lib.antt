@@ -1,0 +1,9 @@
+pub mod Space
+pub mod Free
+pub mod Taking
+pub mod Need
+pub mod Consistent
+pub mod Made
+pub mod Sweeping
+pub mod Pins
+pub mod Search
