@@ -8,7 +8,7 @@ use Rattle.h2_ledger.specs.Ledger.{AreDisjoint, Ledger, IsInUse, IsMarked}
 use Rattle.h2_ledger.specs.Moves.{Move, apply, Makes, IsGranted}
 use Rattle.h2_ledger.specs.Sound.{IsSound, UnwrittenIsApart}
 use Rattle.h2_ledger.specs.Runs.{NoApply, taken_by, Spares, Run, Touches, RunsBeside, AppliesUnmarked, IsOpened}
-use Rattle.h2_ledger.specs.Passes.{IsComplete, AreSuccessive, IsTwiceUnmarked, moves_of}
+use Rattle.h2_ledger.specs.Passes.{IsComplete, AreSuccessive, IsTwiceUnmarked}
 
 -- an opened ledger is sound
 abbrev pub OpensSound : {Set : Type 0} → (Block → Set → Type 0) → Type 0
@@ -87,6 +87,5 @@ AppliesAllOrRuns {Set} has = (moves : List Move) (x y : Ledger Set) → IsOpened
 
 -- a chunk that two successive complete passes find unmarked, and in which nothing is taken or adopted between their applies of its segment, is free after the second
 abbrev pub FreesAfterTwoPasses : {Set : Type 0} → (Block → Set → Type 0) → Type 0
-FreesAfterTwoPasses {Set} has = (c p q : ℕ) (before between after : List Move) (opened w x y z end : Ledger Set)
-    → IsTwiceUnmarked has c p q before between after opened w x y z end
-    → AreSuccessive opened.chunks p q (moves_of c p q before between after) → z.code c ≡ Free
+FreesAfterTwoPasses {Set} has = (c p q : ℕ) (moves : List Move) (opened last : Ledger Set)
+    → IsTwiceUnmarked has c p q moves opened last → AreSuccessive opened.chunks p q moves → last.code c ≡ Free

@@ -12,7 +12,7 @@ use Rattle.h2_ledger.specs.Ledger.{Ledger}
 use Rattle.h2_ledger.specs.Moves.{Move, take_next, take_first, take_whole, adopt, shift, reserve, freeze, freeze_of_pass, complete, begin_pass, begin_scan, end_pass, apply, Makes, PassStays, Applies}
 use Rattle.h2_ledger.specs.Sound.{IsSound}
 use Rattle.h2_ledger.specs.Runs.{NoJoinIn, Spares, Stays, Run, AppliesUnmarked, IsOpened}
-use Rattle.h2_ledger.specs.Passes.{IsComplete, AreSuccessive, IsTwiceUnmarked, moves_of}
+use Rattle.h2_ledger.specs.Passes.{IsComplete, AreSuccessive, IsTwiceUnmarked}
 use Rattle.h2_ledger.specs.Laws.{AppliesAllOrRuns, FreesAfterTwoPasses}
 use Rattle.h2_ledger.specs.SoundLaws.{keeps_sound}
 use Rattle.h2_ledger.specs.RunLaws.{stays_sound, runs_sound, opens_sound}
@@ -203,40 +203,45 @@ module _ {Set : Type 0} (has : Block → Set → Type 0) where
           absurd (none n t (after_first n t np (past_u.later n t (inr a.was))) (before_second n t nq (past_here.later q (segment_of c) (inr e))) i)
 
   pub frees_after_two_passes : FreesAfterTwoPasses has
-  frees_after_two_passes c p q before between after o w x y z end twice passes =
-      frees_twice_unmarked has c p q between w x y z sound_w twice.ordinary twice.first twice.goes_on spared twice.second
+  frees_after_two_passes c p q moves o last twice passes =
+      frees_twice_unmarked has c p q twice.between twice.w twice.x twice.y last sound_w twice.ordinary twice.first twice.goes_on spared twice.second
     where
       segment : ℕ
       segment = segment_of c
 
-      sound_w : IsSound has w
-      sound_w = runs_sound has before o w twice.leads (opens_sound has o twice.opens)
+      sound_w : IsSound has twice.w
+      sound_w = runs_sound has twice.before o twice.w twice.leads (opens_sound has o twice.opens)
 
-      -- the moves up to q's apply, and those that follow
+      -- the moves up to p's apply, up to q's, and those that follow
+      to_first : List Move
+      to_first = twice.before ++ apply p segment ∷ []
+
       done : List Move
-      done = (before ++ apply p segment ∷ []) ++ between
+      done = to_first ++ twice.between
 
       rest : List Move
-      rest = apply q segment ∷ after
+      rest = apply q segment ∷ twice.after
 
-      whole : done ++ rest ≡ moves_of c p q before between after
-      whole = append_assoc (before ++ apply p segment ∷ []) between rest ∙ append_assoc before (apply p segment ∷ []) (between ++ rest)
+      whole : done ++ rest ≡ moves
+      whole = append_assoc to_first twice.between rest ∙ append_assoc twice.before (apply p segment ∷ []) (twice.between ++ rest) ∙ sym twice.all
 
-      shows_x : Shows o.chunks (before ++ apply p segment ∷ []) x
-      shows_x = shows_on o.chunks before (apply p segment) w x twice.first.makes (shows_along o.chunks [] before o w twice.leads (shows_opened o twice.opens))
+      shows_x : Shows o.chunks to_first twice.x
+      shows_x = shows_on o.chunks twice.before (apply p segment) twice.w twice.x twice.first.makes (shows_along o.chunks [] twice.before o twice.w twice.leads (shows_opened o twice.opens))
 
-      shows_y : Shows o.chunks done y
-      shows_y = shows_along o.chunks (before ++ apply p segment ∷ []) between x y twice.goes_on shows_x
+      shows_y : Shows o.chunks done twice.y
+      shows_y = shows_along o.chunks to_first twice.between twice.x twice.y twice.goes_on shows_x
 
-      scans : y.pass ≡ Scanning q segment
+      scans : twice.y.pass ≡ Scanning q segment
       scans = twice.second.makes.was
 
       none : (r t : ℕ) → p < r → r < q → Contains done (apply r t) → ⊥
       none r t above below i = split (shows_y.applied r t i)
         where
-          split : IsComplete o.chunks r done ⊎ ((s : ℕ) × (y.pass ≡ Scanning r s) × (t < s)) → ⊥
+          split : IsComplete o.chunks r done ⊎ ((s : ℕ) × (twice.y.pass ≡ Scanning r s) × (t < s)) → ⊥
           split (inl all) = passes.none_between r above below (subst (λ ms. IsComplete o.chunks r ms) whole (complete_more o.chunks r done rest all))
-          split (inr (s, e, lt)) = let now : y.pass ≡ Scanning q segment = scans in let same : r ≡ q = cc in absurd (omega arith)
+          split (inr (s, e, lt)) = let now : twice.y.pass ≡ Scanning q segment = scans in let same : r ≡ q = cc in absurd (omega arith)
 
-      spared : AllByRecursion (Spares c p q) between
-      spared = spares_along c p q done y scans none between x twice.goes_on (past_after has p segment w x sound_w twice.first.makes) (λ d i. Contains-append_right (before ++ apply p segment ∷ []) between d i) twice.no_join
+      spared : AllByRecursion (Spares c p q) twice.between
+      spared =
+          spares_along c p q done twice.y scans none twice.between twice.x twice.goes_on (past_after has p segment twice.w twice.x sound_w twice.first.makes)
+          (λ d i. Contains-append_right to_first twice.between d i) twice.no_join

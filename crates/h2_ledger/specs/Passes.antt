@@ -20,19 +20,25 @@ pub record AreSuccessive (chunks p q : ℕ) (moves : List Move) : Type 0 where
 
 module _ {Set : Type 0} (◌∈◌ : Block → Set → Type 0) where
   infix 40 ◌∈◌
-  -- From an opened ledger on, passes p and q apply the chunk's segment, neither having marked anything in the chunk, and no block is taken or
-  -- adopted in it between the two applies. The chunk isn't reserved. The ledgers are those at the opening, before and after p's apply, before and
-  -- after q's, and at the end.
-  pub record IsTwiceUnmarked (c p q : ℕ) (before between after : List Move) (opened w x y z end : Ledger Set) : Type 0 where
+  -- From an opened ledger on, passes p and q apply the chunk's segment by these moves, and neither has marked anything in the chunk. Nothing is taken
+  -- or adopted in it between the two applies, and it isn't reserved. The last ledger is the one right after q's apply.
+  pub record IsTwiceUnmarked (c p q : ℕ) (moves : List Move) (opened last : Ledger Set) : Type 0 where
     pub opens : IsOpened ◌∈◌ opened
+    -- the moves before p's apply, between the two, and after q's
+    pub before : List Move
+    pub between : List Move
+    pub after : List Move
+    pub all : moves ≡ before ++ (apply p (segment_of c) ∷ (between ++ (apply q (segment_of c) ∷ after)))
+    -- the ledgers before and after p's apply, and before q's
+    pub w : Ledger Set
+    pub x : Ledger Set
+    pub y : Ledger Set
     pub leads : Run ◌∈◌ before opened w
     pub ordinary : w.code c ≢ Reserved
     pub first : AppliesUnmarked ◌∈◌ c p w x
     pub goes_on : Run ◌∈◌ between x y
     pub no_join : AllByRecursion (NoJoinIn c) between
-    pub second : AppliesUnmarked ◌∈◌ c q y z
-    pub ends : Run ◌∈◌ after z end
-
--- the whole list of moves
-abbrev pub moves_of : ℕ → ℕ → ℕ → List Move → List Move → List Move → List Move
-moves_of c p q before between after = before ++ (apply p (segment_of c) ∷ (between ++ (apply q (segment_of c) ∷ after)))
+    pub second : AppliesUnmarked ◌∈◌ c q y last
+    -- the moves go on after q's apply
+    pub end : Ledger Set
+    pub ends : Run ◌∈◌ after last end
