@@ -10,7 +10,7 @@ use Rattle.h2_codes.specs.declared.code.Code.TheVariants.{Free, Reserved, Staged
 use Rattle.h2_ledger.specs.declared.pass.Pass.{Pass}
 use Rattle.h2_ledger.specs.declared.pass.Pass.TheVariants.{Idle, Begun, Marked, Scanning}
 use Rattle.h2_ledger.specs.Ledger.{block_chunk, Ledger, HasBlockIn, HasMarked}
-use Rattle.h2_ledger.specs.Moves.{Move, take_next, take_first, take_whole, adopt, shift, reserve, freeze, freeze_of_pass, complete, begin_pass, begin_scan, end_pass, apply, Makes, Joins, PassStays, Applies}
+use Rattle.h2_ledger.specs.Moves.{Move, take_next, take_first, take_whole, adopt, relink, reserve, freeze, freeze_of_pass, complete, begin_pass, begin_scan, end_pass, apply, Makes, Joins, PassStays, Applies}
 use Rattle.h2_ledger.specs.Sound.{IsSound}
 use Rattle.h2_ledger.specs.Runs.{Stays, Run, Spares, Touches, by_join, by_apply, AppliesUnmarked}
 use Rattle.h2_ledger.specs.Laws.{UnmarkedLapses, LeavesFree, RunsLeaveFree, FreesTwiceUnmarked}
@@ -52,7 +52,7 @@ module _ {Set : Type 0} (has : Block → Set → Type 0) where
   leaves_free c (take_first size b) x y m nt = joins_code b x y m.joins c (λ e. nt (by_join e))
   leaves_free c (take_whole b) x y m nt = joins_code b x y m.joins c (λ e. nt (by_join e))
   leaves_free c (adopt b) x y m nt = joins_code b x y m.joins c (λ e. nt (by_join e))
-  leaves_free c shift x y m nt = same_code (x.code c) (y.code c) (m.codes.codes c)
+  leaves_free c relink x y m nt = same_code (x.code c) (y.code c) (m.codes.codes c)
   leaves_free c reserve x y m nt = same_code (x.code c) (y.code c) (m.codes.codes c)
   leaves_free c freeze x y m nt = same_code (x.code c) (y.code c) (m.freezes.codes.codes c)
   leaves_free c freeze_of_pass x y m nt = same_code (x.code c) (y.code c) (m.freezes.codes.codes c)
@@ -111,7 +111,7 @@ module _ {Set : Type 0} (has : Block → Set → Type 0) where
   past_on p s (take_first size b) u v m past sv = past_stays p s u v past sv m.joins.pass (rw m.joins.roots.completed_number past.out)
   past_on p s (take_whole b) u v m past sv = past_stays p s u v past sv m.joins.pass (rw m.joins.roots.completed_number past.out)
   past_on p s (adopt b) u v m past sv = past_stays p s u v past sv m.joins.pass (rw m.joins.roots.completed_number past.out)
-  past_on p s shift u v m past sv = past_stays p s u v past sv m.pass (rw m.roots.completed_number past.out)
+  past_on p s relink u v m past sv = past_stays p s u v past sv m.pass (rw m.roots.completed_number past.out)
   past_on p s reserve u v m past sv = past_stays p s u v past sv m.pass (rw m.roots.completed_number past.out)
   past_on p s freeze u v m past sv = past_stays p s u v past sv m.pass (rw m.freezes.completed_number past.out)
   past_on p s freeze_of_pass u v m past sv = record {

@@ -8,7 +8,7 @@ use Rattle.h2_codes.specs.declared.code.Code.TheVariants.{Free}
 use Rattle.h2_ledger.specs.declared.cursor.SharedSize.{SharedSize}
 use Rattle.h2_ledger.specs.declared.cursor.Cursor.{Cursor}
 use Rattle.h2_ledger.specs.Ledger.{block_bytes, block_chunk, LiesInOneChunk, AreDisjoint, Ledger, IsInUse, by_live, by_pin, IsMarked}
-use Rattle.h2_ledger.specs.Moves.{Move, take_next, take_first, take_whole, adopt, shift, reserve, freeze, freeze_of_pass, complete, begin_pass, begin_scan, end_pass, apply, Makes, Joins, CodesStay, CursorsStay, IsAtCursor, IsAtLowest, IsGranted, at_cursor, at_lowest, at_whole}
+use Rattle.h2_ledger.specs.Moves.{Move, take_next, take_first, take_whole, adopt, relink, reserve, freeze, freeze_of_pass, complete, begin_pass, begin_scan, end_pass, apply, Makes, Joins, CodesStay, CursorsStay, IsAtCursor, IsAtLowest, IsGranted, at_cursor, at_lowest, at_whole}
 use Rattle.h2_ledger.specs.Sound.{IsSound}
 use Rattle.h2_ledger.specs.Runs.{NoApply, taken_then, taken_by, Run}
 use Rattle.h2_ledger.specs.Laws.{GrantsApart, ArePairwiseDisjoint, EventTakesApart, EventTakesDistinct}
@@ -81,7 +81,7 @@ module _ {Set : Type 0} (◌∈◌ : Block → Set → Type 0) where
           absurd (o.taken (ap x.code (same ∙ ap (λ (z : Cursor). z.chunk) eq) ∙ m.place.free))
   occupied_on b (take_whole d) x y ns m o = occupied_joins b d x y m.joins (λ k at e same. o.below k at (sym (m.cursors.cursors k) ∙ e) same) o
   occupied_on b (adopt d) x y ns m o = occupied_joins b d x y m.joins (λ k at e same. o.below k at (sym (m.cursors.cursors k) ∙ e) same) o
-  occupied_on b shift x y ns m o = occupied_stays b x y m.codes m.cursors o
+  occupied_on b relink x y ns m o = occupied_stays b x y m.codes m.cursors o
   occupied_on b reserve x y ns m o = occupied_stays b x y m.codes m.cursors o
   occupied_on b freeze x y ns m o = occupied_stays b x y m.freezes.codes m.freezes.cursors o
   occupied_on b freeze_of_pass x y ns m o = occupied_stays b x y m.freezes.codes m.freezes.cursors o
@@ -103,7 +103,7 @@ module _ {Set : Type 0} (◌∈◌ : Block → Set → Type 0) where
   then_apart b (take_first size d) x y m o more apart = (occupied_apart b x o d (at_lowest size m.radix m.place), apart)
   then_apart b (take_whole d) x y m o more apart = (occupied_apart b x o d (at_whole m.radix m.place), apart)
   then_apart b (adopt d) x y m o more apart = apart
-  then_apart b shift x y m o more apart = apart
+  then_apart b relink x y m o more apart = apart
   then_apart b reserve x y m o more apart = apart
   then_apart b freeze x y m o more apart = apart
   then_apart b freeze_of_pass x y m o more apart = apart
@@ -135,7 +135,7 @@ module _ {Set : Type 0} (◌∈◌ : Block → Set → Type 0) where
   then_distinct (take_first size d) x y m more apart distinct = (apart d (joined_in_use d x y m.joins), distinct)
   then_distinct (take_whole d) x y m more apart distinct = (apart d (joined_in_use d x y m.joins), distinct)
   then_distinct (adopt d) x y m more apart distinct = distinct
-  then_distinct shift x y m more apart distinct = distinct
+  then_distinct relink x y m more apart distinct = distinct
   then_distinct reserve x y m more apart distinct = distinct
   then_distinct freeze x y m more apart distinct = distinct
   then_distinct freeze_of_pass x y m more apart distinct = distinct

@@ -21,7 +21,7 @@ pub data Move : Type 0 where
   -- a block that is there already is shared
   adopt : (adopted : Block) → Move
   -- the live tree changes, and pins end
-  shift : Move
+  relink : Move
   -- a reservation begins or ends
   reserve : Move
   -- the live root is frozen for a flush; the same as the freeze of a pass, which marks what is in use
@@ -159,7 +159,7 @@ module _ {Set : Type 0} (◌∈◌ : Block → Set → Type 0) where
     pub reserved : y.reserved ≡ x.reserved
 
   -- the live tree afterwards lies in the live tree and the pins before
-  pub record Shifts (x y : Ledger Set) : Type 0 where
+  pub record Relinks (x y : Ledger Set) : Type 0 where
     pub live : (b : Block) → b ∈ y.live → (b ∈ x.live) ⊎ (b ∈ x.pins)
     pub pins : Within y.pins x.pins
     pub fresh : Within y.fresh x.fresh
@@ -271,7 +271,7 @@ module _ {Set : Type 0} (◌∈◌ : Block → Set → Type 0) where
   Makes (take_first size b) x y = TakesFirst size b x y
   Makes (take_whole b) x y = TakesWhole b x y
   Makes (adopt b) x y = Adopts b x y
-  Makes shift x y = Shifts x y
+  Makes relink x y = Relinks x y
   Makes reserve x y = Reserves x y
   Makes freeze x y = FreezesAlone x y
   Makes freeze_of_pass x y = FreezesOfPass x y

@@ -9,7 +9,7 @@ use Rattle.h2_codes.specs.declared.code.Code.TheVariants.{Free}
 use Rattle.h2_ledger.specs.declared.pass.Pass.{Pass}
 use Rattle.h2_ledger.specs.declared.pass.Pass.TheVariants.{Idle, Begun, Marked, Scanning}
 use Rattle.h2_ledger.specs.Ledger.{Ledger}
-use Rattle.h2_ledger.specs.Moves.{Move, take_next, take_first, take_whole, adopt, shift, reserve, freeze, freeze_of_pass, complete, begin_pass, begin_scan, end_pass, apply, Makes, PassStays, Applies}
+use Rattle.h2_ledger.specs.Moves.{Move, take_next, take_first, take_whole, adopt, relink, reserve, freeze, freeze_of_pass, complete, begin_pass, begin_scan, end_pass, apply, Makes, PassStays, Applies}
 use Rattle.h2_ledger.specs.Sound.{IsSound}
 use Rattle.h2_ledger.specs.Runs.{NoJoinIn, Spares, Stays, Run, AppliesUnmarked, IsOpened}
 use Rattle.h2_ledger.specs.Passes.{IsComplete, AreSuccessive, IsTwiceUnmarked}
@@ -123,7 +123,7 @@ module _ {Set : Type 0} (has : Block → Set → Type 0) where
   shows_on chunks done (take_first size b) u v m shows = pass_stays chunks done (take_first size b) u v (λ n s e. cc) m.joins.chunks m.joins.pass shows
   shows_on chunks done (take_whole b) u v m shows = pass_stays chunks done (take_whole b) u v (λ n s e. cc) m.joins.chunks m.joins.pass shows
   shows_on chunks done (adopt b) u v m shows = pass_stays chunks done (adopt b) u v (λ n s e. cc) m.joins.chunks m.joins.pass shows
-  shows_on chunks done shift u v m shows = pass_stays chunks done shift u v (λ n s e. cc) m.codes.chunks m.pass shows
+  shows_on chunks done relink u v m shows = pass_stays chunks done relink u v (λ n s e. cc) m.codes.chunks m.pass shows
   shows_on chunks done reserve u v m shows = pass_stays chunks done reserve u v (λ n s e. cc) m.codes.chunks m.pass shows
   shows_on chunks done freeze u v m shows = pass_stays chunks done freeze u v (λ n s e. cc) m.freezes.codes.chunks m.pass shows
   shows_on chunks done freeze_of_pass u v m shows = other_move chunks done freeze_of_pass u v (λ n s e. cc) m.freezes.codes.chunks

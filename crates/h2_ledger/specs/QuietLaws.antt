@@ -5,7 +5,7 @@ use Rattle.h2_geom.specs.Geometry.{segment_of}
 use Rattle.h2_codes.specs.declared.code.Code.TheVariants.{Used}
 use Rattle.h2_ledger.specs.declared.pass.Pass.TheVariants.{Idle, Begun, Marked, Scanning}
 use Rattle.h2_ledger.specs.Ledger.{block_chunk, Ledger, free_below, HasBlockIn, IsInUse, by_live, by_pin, by_frozen, by_completed, HasMarked, IsMarked, IsTaken, IsInUseSince, since_live, since_pin, since_frozen, since_completed}
-use Rattle.h2_ledger.specs.Moves.{Same, CodesStay, CursorsStay, RootsStay, PassStays, Shifts, Reserves, Freezes, FreezesOfPass, FreezesAlone, Completes, OnlyPass, BeginsPass, BeginsScan, EndsPass}
+use Rattle.h2_ledger.specs.Moves.{Same, CodesStay, CursorsStay, RootsStay, PassStays, Relinks, Reserves, Freezes, FreezesOfPass, FreezesAlone, Completes, OnlyPass, BeginsPass, BeginsScan, EndsPass}
 use Rattle.h2_ledger.specs.Sound.{IsSound}
 use Rattle.h2_ledger.specs.CountLaws.{free_same}
 use Rattle.h2_ledger.specs.PartLaws.{in_use_too, has_marked_stays, is_marked_stays, frozen_stays, held_lessens, since_lessens, chunk_stays}
@@ -59,8 +59,8 @@ module _ {Set : Type 0} (◌∈◌ : Block → Set → Type 0) where
   scanned_stays : (x y : Ledger Set) → RootsStay ◌∈◌ x y → PassStays ◌∈◌ x y → IsSound ◌∈◌ x → (n s : ℕ) → y.pass ≡ Scanning n s → n ≤ y.completed_number
   scanned_stays x y r p sx n s e = rw r.completed_number (sx.scans_after_header n s (sym p.pass ∙ e))
 
-  pub shift_sound : (x y : Ledger Set) → Shifts ◌∈◌ x y → IsSound ◌∈◌ x → IsSound ◌∈◌ y
-  shift_sound x y m sx = quiet x y (record {
+  pub relink_sound : (x y : Ledger Set) → Relinks ◌∈◌ x y → IsSound ◌∈◌ x → IsSound ◌∈◌ y
+  relink_sound x y m sx = quiet x y (record {
     codes = m.codes;
     cursors = m.cursors;
     held = held;

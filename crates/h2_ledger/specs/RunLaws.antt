@@ -10,11 +10,11 @@ use Rattle.h2_ledger.specs.Sound.{IsSound}
 use Rattle.h2_ledger.specs.Moves.{Move, Makes, Same}
 use Rattle.h2_ledger.specs.Runs.{Stays, Run}
 use Rattle.h2_ledger.specs.Laws.{OpensSound, RunsSound}
-use Rattle.h2_ledger.specs.QuietLaws.{shift_sound}
+use Rattle.h2_ledger.specs.QuietLaws.{relink_sound}
 use Rattle.h2_ledger.specs.SoundLaws.{keeps_sound}
 
 pub stays_sound : {Set : Type 0} (has : Block → Set → Type 0) (x y : Ledger Set) → Stays has x y → IsSound has x → IsSound has y
-stays_sound has x y m sx = shift_sound has x y (record {
+stays_sound has x y m sx = relink_sound has x y (record {
   live = λ b i. inl ((m.live b).0 i);
   pins = λ b i. (m.pins b).0 i;
   fresh = m.fresh;

@@ -5,7 +5,7 @@ use Rattle.h2_geom.specs.Geometry.{segment_of}
 use Rattle.h2_ledger.specs.declared.cursor.SharedSize.{SharedSize}
 use Rattle.h2_ledger.specs.declared.pass.Pass.TheVariants.{Idle}
 use Rattle.h2_ledger.specs.Ledger.{block_chunk, LiesInOneChunk, IsTaken, Ledger, HasBlockIn}
-use Rattle.h2_ledger.specs.Moves.{Move, take_next, take_first, take_whole, adopt, shift, reserve, freeze, freeze_of_pass, complete, begin_pass, begin_scan, end_pass, apply, Makes, Same, Within, CodesStay, CursorsStay, RootsStay, PassStays}
+use Rattle.h2_ledger.specs.Moves.{Move, take_next, take_first, take_whole, adopt, relink, reserve, freeze, freeze_of_pass, complete, begin_pass, begin_scan, end_pass, apply, Makes, Same, Within, CodesStay, CursorsStay, RootsStay, PassStays}
 
 -- the block that the move takes, before those of later moves
 abbrev pub taken_then : Move → List Block → List Block
@@ -13,7 +13,7 @@ taken_then (take_next size b) more = b ∷ more
 taken_then (take_first size b) more = b ∷ more
 taken_then (take_whole b) more = b ∷ more
 taken_then (adopt b) more = more
-taken_then shift more = more
+taken_then relink more = more
 taken_then reserve more = more
 taken_then freeze more = more
 taken_then freeze_of_pass more = more
@@ -34,7 +34,7 @@ JoinsIn c (take_next size b) = block_chunk b ≡ c
 JoinsIn c (take_first size b) = block_chunk b ≡ c
 JoinsIn c (take_whole b) = block_chunk b ≡ c
 JoinsIn c (adopt b) = block_chunk b ≡ c
-JoinsIn c shift = ⊥
+JoinsIn c relink = ⊥
 JoinsIn c reserve = ⊥
 JoinsIn c freeze = ⊥
 JoinsIn c freeze_of_pass = ⊥

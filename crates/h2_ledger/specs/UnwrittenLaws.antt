@@ -3,7 +3,7 @@ use Rattle.std.proofs.Common.{[], ◌∷◌, ℕ, suc, ◌≡◌, ◌⊎◌, ◌
 use Rattle.h2_num.specs.declared.block.Block.{Block}
 use Rattle.h2_ledger.specs.declared.pass.Pass.TheVariants.{Idle, Begun, Marked, Scanning}
 use Rattle.h2_ledger.specs.Ledger.{AreDisjoint, Ledger, IsInUse, by_completed, by_frozen, HasMarked, IsMarked}
-use Rattle.h2_ledger.specs.Moves.{take_next, take_first, take_whole, adopt, shift, reserve, freeze, freeze_of_pass, complete, begin_pass, begin_scan, end_pass, apply, Within, WithinAnd, RootsStay, PassStays, Joins, IsGranted, at_cursor, at_lowest, at_whole, Freezes}
+use Rattle.h2_ledger.specs.Moves.{take_next, take_first, take_whole, adopt, relink, reserve, freeze, freeze_of_pass, complete, begin_pass, begin_scan, end_pass, apply, Within, WithinAnd, RootsStay, PassStays, Joins, IsGranted, at_cursor, at_lowest, at_whole, Freezes}
 use Rattle.h2_ledger.specs.Sound.{IsSound, UnwrittenIsApart}
 use Rattle.h2_ledger.specs.Laws.{KeepsApart, OpensApart, RunsApart}
 use Rattle.h2_ledger.specs.PartLaws.{has_marked_stays, is_marked_stays, frozen_stays}
@@ -57,7 +57,7 @@ module _ {Set : Type 0} (◌∈◌ : Block → Set → Type 0) where
   keeps_apart (take_first size d) x y m sx u = taken d x y m.joins m.fresh (at_lowest size m.radix m.place) sx u
   keeps_apart (take_whole d) x y m sx u = taken d x y m.joins m.fresh (at_whole m.radix m.place) sx u
   keeps_apart (adopt d) x y m sx u = pass_stays x y m.joins.roots m.fresh m.joins.pass u
-  keeps_apart shift x y m sx u = pass_stays x y m.roots m.fresh m.pass u
+  keeps_apart relink x y m sx u = pass_stays x y m.roots m.fresh m.pass u
   keeps_apart reserve x y m sx u = pass_stays x y m.roots m.uses.fresh m.pass u
   keeps_apart freeze x y m sx u = frozen x y m.freezes (λ n s p lt. (has_marked_stays ◌∈◌ x y m.pass n s p, λ b i. (m.pass.marked b).0 i)) u
   keeps_apart freeze_of_pass x y m sx u = frozen x y m.freezes (λ n s p lt. absurd (own n s p lt)) u

@@ -8,10 +8,10 @@ use Rattle.h2_ledger.specs.declared.cursor.SharedSize.TheVariants.{Small, Middle
 use Rattle.h2_ledger.specs.declared.pass.Pass.{Pass}
 use Rattle.h2_ledger.specs.declared.pass.Pass.TheVariants.{Idle, Begun, Marked, Scanning}
 use Rattle.h2_ledger.specs.Ledger.{HasMarked, free_below}
-use Rattle.h2_ledger.specs.Moves.{Same, CodesStay, CursorsStay, RootsStay, PassStays, UsesLessen, Shifts, Reserves, Freezes, FreezesAlone, FreezesOfPass, Completes, OnlyPass, BeginsPass, BeginsScan, EndsPass}
+use Rattle.h2_ledger.specs.Moves.{Same, CodesStay, CursorsStay, RootsStay, PassStays, UsesLessen, Relinks, Reserves, Freezes, FreezesAlone, FreezesOfPass, Completes, OnlyPass, BeginsPass, BeginsScan, EndsPass}
 use Rattle.h2_ledger.specs.Runs.{IsOpened}
 use Rattle.h2_codes.specs.declared.code.Code.{Code}
-use Rattle.h2_plain_ledger.specs.State.{State, as_ledger, has, cursor_of, MayShift}
+use Rattle.h2_plain_ledger.specs.State.{State, as_ledger, has, cursor_of, MayRelink}
 use Rattle.h2_plain_ledger.specs.Steps.{opened, free_of, with_frozen, with_marked, IsCompleted, MayEnd, IsScanning}
 
 same : (blocks : List Block) → Same has blocks blocks
@@ -76,9 +76,9 @@ pub ends_pass : (s : State) → MayEnd s.pass → EndsPass has (as_ledger s) (as
 unfolding as_ledger
 ends_pass s may = record { only = only_pass s Idle; runs = may_not_idle s.pass may; unapplied = unapplied s.pass may; now = refl }
 
-pub shifts : (s : State) (live pins : List Block) → MayShift s.live s.pins live pins → Shifts has (as_ledger s) (as_ledger (record s { live = live; pins = pins }))
+pub relinks : (s : State) (live pins : List Block) → MayRelink s.live s.pins live pins → Relinks has (as_ledger s) (as_ledger (record s { live = live; pins = pins }))
 unfolding as_ledger
-shifts s live pins may = record {
+relinks s live pins may = record {
   live = λ b i. All-contains (λ (d : Block). Contains s.live d ⊎ Contains s.pins d) live b may.0 i;
   pins = λ b i. All-contains (Contains s.pins) pins b may.1 i;
   fresh = λ b i. i;
@@ -169,7 +169,7 @@ freezes_of_pass_to s t idle begun e = subst (λ z. FreezesOfPass has (as_ledger 
 pub completes_to : (s t : State) → IsCompleted s t → Completes has (as_ledger s) (as_ledger t)
 completes_to s t m = subst (λ z. Completes has (as_ledger s) (as_ledger z)) (sym m.new) (completes s t.completed_number m.was)
 
-pub shifts_as : (s : State) (old_live old_pins new_live new_pins live pins : List Block) → old_live ≡ s.live → old_pins ≡ s.pins → new_live ≡ live → new_pins ≡ pins
-    → MayShift old_live old_pins new_live new_pins → Shifts has (as_ledger s) (as_ledger (record s { live = live; pins = pins }))
-shifts_as s old_live old_pins new_live new_pins live pins el ep nl np may =
-    shifts s live pins (subst (λ z. MayShift s.live s.pins live z) np (subst (λ z. MayShift s.live s.pins z new_pins) nl (subst (λ z. MayShift s.live z new_live new_pins) ep (subst (λ z. MayShift z old_pins new_live new_pins) el may))))
+pub relinks_as : (s : State) (old_live old_pins new_live new_pins live pins : List Block) → old_live ≡ s.live → old_pins ≡ s.pins → new_live ≡ live → new_pins ≡ pins
+    → MayRelink old_live old_pins new_live new_pins → Relinks has (as_ledger s) (as_ledger (record s { live = live; pins = pins }))
+relinks_as s old_live old_pins new_live new_pins live pins el ep nl np may =
+    relinks s live pins (subst (λ z. MayRelink s.live s.pins live z) np (subst (λ z. MayRelink s.live s.pins z new_pins) nl (subst (λ z. MayRelink s.live z new_live new_pins) ep (subst (λ z. MayRelink z old_pins new_live new_pins) el may))))

@@ -86,8 +86,8 @@ abbrev pub has : Block → List Block → Type 0
 has b blocks = Contains blocks b
 
 -- nothing is live afterwards that was neither live nor pinned, and nothing pinned that wasn't
-abbrev pub MayShift : List Block → List Block → List Block → List Block → Type 0
-MayShift old_live old_pins live pins = All (λ b. Contains old_live b ⊎ Contains old_pins b) live × All (Contains old_pins) pins
+abbrev pub MayRelink : List Block → List Block → List Block → List Block → Type 0
+MayRelink old_live old_pins live pins = All (λ b. Contains old_live b ⊎ Contains old_pins b) live × All (Contains old_pins) pins
 
 -- the chunk is the lowest free one, or there is none
 abbrev pub IsLowestFree : List Code → Option ℕ → Type 0

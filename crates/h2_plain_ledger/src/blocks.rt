@@ -1,7 +1,7 @@
 ghost use Rattle.std.specs.Prelude.{◌≡◌, ◌⊎◌, ◌↔◌, ◌++◌, ◌∷◌, [], All, IsTrue, IfOk, OnOk, OnErr};
 ghost use Rattle.std.specs.List.{Contains};
 ghost use Rattle.h2_ledger.specs.Ledger.{HasBlockIn};
-ghost use Rattle.h2_plain_ledger.specs.State.{has, MayShift};
+ghost use Rattle.h2_plain_ledger.specs.State.{has, MayRelink};
 
 use h2_geom::chunk_of;
 use h2_num::{Block, NoMemory};
@@ -50,8 +50,8 @@ pub fn all_in(blocks: &[Block], others: &[Block]) -> bool
 
 /// Whether live blocks and pins may become these: whether nothing is live then that was neither live nor
 /// pinned, and nothing pinned that wasn't.
-pub fn may_shift(old_live: &[Block], old_pins: &[Block], live: &[Block], pins: &[Block]) -> bool
-    ensures { IsTrue result ↔ MayShift old_live.now old_pins.now live.now pins.now }
+pub fn may_relink(old_live: &[Block], old_pins: &[Block], live: &[Block], pins: &[Block]) -> bool
+    ensures { IsTrue result ↔ MayRelink old_live.now old_pins.now live.now pins.now }
 {
     if !all_within(live, old_live, old_pins) {
         return false;

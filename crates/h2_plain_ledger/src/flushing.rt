@@ -1,4 +1,4 @@
-use crate::blocks::{joined, may_shift};
+use crate::blocks::{joined, may_relink};
 use crate::ledger::PlainLedger;
 use h2_num::{Block, NoMemory};
 use std::alloc::Global;
@@ -11,18 +11,18 @@ impl PlainLedger {
     ghost use Rattle.h2_ledger.specs.Moves.{Makes};
     ghost use Rattle.h2_plain_ledger.specs.State.{has};
     ghost use Rattle.h2_plain_ledger.specs.PlainLedger.{lists_of, ledger_of};
-    ghost use Rattle.h2_plain_ledger.specs.State.{MayShift};
+    ghost use Rattle.h2_plain_ledger.specs.State.{MayRelink};
     ghost use Rattle.h2_plain_ledger.specs.Steps.{free_of, CannotFreeze, with_frozen, IsCompleted};
 
     /// Makes these the live blocks and the pins. It is refused exactly where a block would be live that
     /// was neither live nor pinned, or pinned that wasn't.
-    pub fn shift(&mut self, live: Vec<Block>, pins: Vec<Block>) -> bool
-        ensures shifts { IsTrue result ↔ MayShift self.old.live.items self.old.pins.items live.items pins.items }
-        ensures moves { OnTrue result (Makes has moves.shift (ledger_of self.old) (ledger_of self.new)) }
+    pub fn relink(&mut self, live: Vec<Block>, pins: Vec<Block>) -> bool
+        ensures relinks { IsTrue result ↔ MayRelink self.old.live.items self.old.pins.items live.items pins.items }
+        ensures moves { OnTrue result (Makes has moves.relink (ledger_of self.old) (ledger_of self.new)) }
         ensures lists { OnTrue result (lists_of self.new ≡ record (lists_of self.old) { live = live.items; pins = pins.items }) }
         ensures refused { OnFalse result (lists_of self.new ≡ lists_of self.old) }
     {
-        if !may_shift(&self.live, &self.pins, &live, &pins) {
+        if !may_relink(&self.live, &self.pins, &live, &pins) {
             return false;
         }
         self.live = live;

@@ -64,12 +64,12 @@ fn make(ledger: &mut PlainLedger, alloc: Global, step: Step) -> Result<bool, NoM
         Step::TakeNext => Ok(ledger.take_next(SharedSize::Small)?.is_some()),
         Step::Commit => {
             let live = joined(alloc, &ledger.live, &ledger.pins)?;
-            Ok(ledger.shift(live, Vec::new(alloc)))
+            Ok(ledger.relink(live, Vec::new(alloc)))
         }
         Step::Remove(chunk) => {
             let live = without(alloc, &ledger.live, chunk)?;
             let pins = joined(alloc, &ledger.pins, &[])?;
-            Ok(ledger.shift(live, pins))
+            Ok(ledger.relink(live, pins))
         }
         Step::Freeze => ledger.freeze(alloc),
         Step::Complete => Ok(ledger.complete(alloc)),
