@@ -15,7 +15,7 @@ use Rattle.h2_freemap.specs.Sweeping.{Sweeps}
 use Rattle.h2_ledger.specs.declared.cursor.SharedSize.{SharedSize}
 use Rattle.h2_ledger.specs.declared.cursor.Cursor.{Cursor}
 use Rattle.h2_ledger.specs.Ledger.{Ledger, LiesInOneChunk, block_chunk}
-use Rattle.h2_ledger.specs.Moves.{Move, adopt, apply, Makes, Within, WithinAnd}
+use Rattle.h2_ledger.specs.Moves.{Move, adopt, apply, Makes, Within, WithinAnd, IsGranted}
 use Rattle.h2_ledger.specs.Sound.{IsSound}
 use Rattle.h2_freemap_ledger.specs.Space.{HasSpace, IsTakeOf, PaysFor, JoinsBeside, SeesMarked, AppliesBeside}
 
@@ -24,6 +24,10 @@ abbrev pub TakeMoves : {Set : Type 0} → (Block → Set → Type 0) → Type 0
 TakeMoves {Set} has = (size : Size) (s t : Space) (b : Block) (x y : Ledger Set) → Takes size s t b → HasSpace has s x → HasSpace has t y
     → JoinsBeside has b x y → WithinAnd has y.fresh x.fresh b → PaysFor has (need_of_one size s) x y
     → (move : Move) × IsTakeOf size b move × Makes has move x y
+
+-- The block is the one that the ledger grants before anything has changed. So it shares no byte with a block in use or marked, by the law of takes.
+abbrev pub TakeIsGranted : {Set : Type 0} → (Block → Set → Type 0) → Type 0
+TakeIsGranted {Set} has = (size : Size) (s t : Space) (b : Block) (x : Ledger Set) → Takes size s t b → HasSpace has s x → IsGranted has b x
 
 -- adopting a block is the move that adopts it, where the block joins the pins or the live tree, lies in one chunk, and no cursor is in the chunk
 abbrev pub AdoptMoves : {Set : Type 0} → (Block → Set → Type 0) → Type 0

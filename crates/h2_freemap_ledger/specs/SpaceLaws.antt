@@ -24,10 +24,11 @@ use Rattle.h2_ledger.specs.declared.cursor.SharedSize.{SharedSize}
 use Rattle.h2_ledger.specs.declared.cursor.SharedSize.TheVariants.{Small, Middle}
 use Rattle.h2_ledger.specs.declared.cursor.Cursor.{Cursor}
 use Rattle.h2_ledger.specs.Ledger.{Ledger, one_if_free, free_below, block_chunk, block_bytes, LiesInOneChunk, IsTaken, HasBlockIn}
-use Rattle.h2_ledger.specs.Moves.{Move, take_next, take_first, take_whole, adopt, apply, radix_of, Makes, WithinAnd, Joins, IsAtCursor, IsFilled, IsAtLowest, IsPaid, TakesNext, TakesFirst, TakesWhole, Adopts, Applies}
+use Rattle.h2_ledger.specs.Moves.{Move, take_next, take_first, take_whole, adopt, apply, radix_of, Makes, WithinAnd, Joins, IsAtCursor, IsFilled, IsAtLowest, IsPaid, IsGranted, at_whole, TakesNext, TakesFirst, TakesWhole, Adopts, Applies}
+use Rattle.h2_ledger.specs.Moves as ledger
 use Rattle.h2_ledger.specs.Sound.{IsSound}
 use Rattle.h2_freemap_ledger.specs.Space.{size_of, as_cursor, IsTakeOf, HasSpace, PaysFor, JoinsBeside, SeesMarked, AppliesBeside}
-use Rattle.h2_freemap_ledger.specs.Laws.{TakeMoves, AdoptMoves, ApplyMoves, PaidIsFree, ReservationPays}
+use Rattle.h2_freemap_ledger.specs.Laws.{TakeMoves, TakeIsGranted, AdoptMoves, ApplyMoves, PaidIsFree, ReservationPays}
 
 -- The two ways to count free chunks agree
 
@@ -120,31 +121,36 @@ module _ {Set : Type 0} (◌∈◌ : Block → Set → Type 0) where
   paid_one x y (inl e) = inl (omega arith)
   paid_one x y (inr (e, le)) = inr (e, omega arith)
 
+  -- the bytes of a block of a shared size
+  taken_bytes : (k : SharedSize) (s t : Space) (b : Block) → Takes (size_of k) s t b → block_bytes b ≡ 2 ^ radix_of k
+  taken_bytes k s t b m = ap (λ n. 2 ^ n) (m.radix ∙ radix_same k)
+
+  fits : (k : SharedSize) (at : map.Cursor) → HasRoom (size_of k) at → at.used + 2 ^ radix_of k ≤ chunk_bytes
+  fits k at room = let same : bytes_of (size_of k) ≡ 2 ^ radix_of k = bytes_same k in let h : at.used + bytes_of (size_of k) ≤ chunk_bytes = room in omega arith
+
+  is_at_cursor : (k : SharedSize) (s t : Space) (b : Block) (x : Ledger Set) (m : Takes (size_of k) s t b) → cursor_of s (size_of k) ≡ Some m.at → HasRoom (size_of k) m.at → HasSpace ◌∈◌ s x → IsAtCursor ◌∈◌ k b x
+  is_at_cursor k s t b x m e room hs = record {
+    radix = m.radix ∙ radix_same k;
+    old = record { chunk = m.at.chunk; used = m.at.used };
+    was = hs.cursors k ∙ ap as_cursor e;
+    at = m.place;
+    room = rw (taken_bytes k s t b m) (fits k m.at room);
+  }
+
   takes_next : (k : SharedSize) (s t : Space) (b : Block) (x y : Ledger Set) (m : Takes (size_of k) s t b) → cursor_of s (size_of k) ≡ Some m.at → HasRoom (size_of k) m.at
       → HasSpace ◌∈◌ s x → HasSpace ◌∈◌ t y → JoinsBeside ◌∈◌ b x y → WithinAnd ◌∈◌ y.fresh x.fresh b → PaysFor ◌∈◌ (need_of_one (size_of k) s) x y → TakesNext ◌∈◌ k b x y
+  unfolding is_at_cursor
   takes_next k s t b x y m e room hs ht beside fresh pays = record {
-    place = record { radix = radix; old = old; was = hs.cursors k ∙ ap as_cursor e; at = m.place; room = rw bytes fits };
+    place = is_at_cursor k s t b x m e room hs;
     joins = joins s t b m.at.chunk x y here m.code hs ht beside;
     fresh = fresh;
-    moved = ht.cursors k ∙ ap as_cursor m.cursor ∙ behind k m.at ∙ ap (λ (n : ℕ). Some (record { chunk = m.at.chunk; used = m.at.used + n })) (sym bytes);
+    moved = ht.cursors k ∙ ap as_cursor m.cursor ∙ behind k m.at ∙ ap (λ (n : ℕ). Some (record { chunk = m.at.chunk; used = m.at.used + n })) (sym (taken_bytes k s t b m));
     others = other_cursors k s t b x y m hs ht;
     reserved = unpaid x y (subst (λ n. PaysFor ◌∈◌ n x y) (need_at_cursor k s m.at e room) pays);
   }
     where
-      old : Cursor
-      old = record { chunk = m.at.chunk; used = m.at.used }
-
-      radix : b.radix ≡ radix_of k
-      radix = m.radix ∙ radix_same k
-
-      bytes : block_bytes b ≡ 2 ^ radix_of k
-      bytes = ap (λ n. 2 ^ n) radix
-
-      fits : m.at.used + 2 ^ radix_of k ≤ chunk_bytes
-      fits = let same : bytes_of (size_of k) ≡ 2 ^ radix_of k = bytes_same k in let h : m.at.used + bytes_of (size_of k) ≤ chunk_bytes = room in omega arith
-
       here : block_chunk b ≡ m.at.chunk
-      here = let place : b.place ≡ chunk_place m.at.chunk + m.at.used = m.place in let some : 0 < 2 ^ radix_of k = pow_pos (radix_of k) in let h : m.at.used + 2 ^ radix_of k ≤ chunk_bytes = fits in omega arith
+      here = let place : b.place ≡ chunk_place m.at.chunk + m.at.used = m.place in let some : 0 < 2 ^ radix_of k = pow_pos (radix_of k) in let h : m.at.used + 2 ^ radix_of k ≤ chunk_bytes = fits k m.at room in omega arith
 
   lowest : (s : Space) (b : Block) (chunk used : ℕ) (x : Ledger Set) → b.place ≡ chunk_place chunk + used → used ≡ 0 → IsLowestFree s chunk → HasSpace ◌∈◌ s x → (block_chunk b ≡ chunk) × IsAtLowest ◌∈◌ b x
   lowest s b chunk used x place none m hs = (
@@ -236,6 +242,19 @@ module _ {Set : Type 0} (◌∈◌ : Block → Set → Type 0) where
   take_moves sizes.Small s t b x y m hs ht beside fresh pays = take_shared Small s t b x y m m.goes_to hs ht beside fresh pays
   take_moves sizes.Middle s t b x y m hs ht beside fresh pays = take_shared Middle s t b x y m m.goes_to hs ht beside fresh pays
   take_moves sizes.Whole s t b x y m hs ht beside fresh pays = take_as_whole s t b x y m m.goes_to hs ht beside fresh pays
+
+  granted_shared : (k : SharedSize) (s t : Space) (b : Block) (x : Ledger Set) (m : Takes (size_of k) s t b) → GoesTo (size_of k) s m.at → HasSpace ◌∈◌ s x → IsGranted ◌∈◌ b x
+  granted_shared k s t b x m (at_cursor e room) hs = ledger.at_cursor k (is_at_cursor k s t b x m e room hs)
+  granted_shared k s t b x m (at_lowest no_room none low) hs = ledger.at_lowest k (m.radix ∙ radix_same k) (lowest s b m.at.chunk m.at.used x m.place none low hs).1
+
+  granted_whole : (s t : Space) (b : Block) (x : Ledger Set) (m : Takes sizes.Whole s t b) → GoesTo sizes.Whole s m.at → HasSpace ◌∈◌ s x → IsGranted ◌∈◌ b x
+  granted_whole s t b x m (at_cursor e room) hs = cc
+  granted_whole s t b x m (at_lowest no_room none low) hs = at_whole m.radix (lowest s b m.at.chunk m.at.used x m.place none low hs).1
+
+  pub take_is_granted : TakeIsGranted ◌∈◌
+  take_is_granted sizes.Small s t b x m hs = granted_shared Small s t b x m m.goes_to hs
+  take_is_granted sizes.Middle s t b x m hs = granted_shared Middle s t b x m m.goes_to hs
+  take_is_granted sizes.Whole s t b x m hs = granted_whole s t b x m m.goes_to hs
 
   in_use_taken : (code : Code) → is_in_use code ≡ true → IsTaken code
   in_use_taken Free e = cc
