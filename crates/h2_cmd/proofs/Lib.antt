@@ -8,3 +8,4 @@ pub mod Written
 pub mod Slots
 pub mod Kept
 pub mod Endings
+pub mod FirstBlocks

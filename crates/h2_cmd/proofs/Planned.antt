@@ -22,13 +22,13 @@ added old p i is =
     let first : i - length old ≡ 0 = omega arith in
     get_or-append_right old (p ∷ []) (length old) i (record { at = 0; bytes = [] }) refl (omega arith) ∙ ap (piece_at (p ∷ [])) first
 
-pub inodes_planned : (pieces : List Piece) (a b : List ℕ) → pieces ≡ ([] ++ record { at = directory_place; bytes = a } ∷ []) ++ record { at = pfs_place; bytes = b } ∷ [] → length a ≡ 1024 → length b ≡ 1024
-    → RootDirectoryBytes (places a) → RootPfsBytes (inode_ref directory_place (places a)) (places b) → HasInodes pieces
-inodes_planned pieces a b is long_a long_b directory pfs = subst HasInodes (sym is) (record {
-  directory_at = record { at_is = refl; long = long_a };
+pub inodes_planned : (pieces : List Piece) (first second : ℕ) (a b : List ℕ) → first ≡ directory_place → second ≡ pfs_place → pieces ≡ ([] ++ record { at = first; bytes = a } ∷ []) ++ record { at = second; bytes = b } ∷ [] → length a ≡ 1024 → length b ≡ 1024
+    → RootDirectoryBytes (places a) → RootPfsBytes (inode_ref first (places a)) (places b) → HasInodes pieces
+inodes_planned pieces first second a b first_is second_is is long_a long_b directory pfs = subst HasInodes (sym is) (record {
+  directory_at = record { at_is = first_is; long = long_a };
   directory = directory;
-  pfs_at = record { at_is = refl; long = long_b };
-  pfs = pfs;
+  pfs_at = record { at_is = second_is; long = long_b };
+  pfs = subst (λ (place : ℕ). RootPfsBytes (inode_ref place (places a)) (places b)) first_is pfs;
 })
 
 -- what holds after the leaves of the first zones

@@ -3,6 +3,7 @@ ghost use Rattle.h2_num.specs.Places.{places, from_place, ZeroIn, SameOutside};
 ghost use Rattle.h2_ref.specs.Ref.{IsValid};
 ghost use Rattle.h2_image.specs.NewBlocks.{InodeHead, RootDirectoryBytes, RootPfsBytes, SegmentBytes, NewLeafBytes, new_code, new_free};
 
+use h2_geom::SEGMENT_CHUNKS;
 use h2_num::{put_bytes, put8, put16, put32, put64};
 use h2_ref::{Ref, encode};
 
@@ -28,9 +29,6 @@ const BODY_AT: usize = 512;
 const DIRECTORY: u8 = 1;
 
 const PFS: u8 = 3;
-
-// The chunks of a segment.
-const SEGMENT_CHUNKS: u32 = 256;
 
 // The bytes of a segment in a leaf, and of its codes.
 const SEGMENT_BYTES: usize = 128;

@@ -1,7 +1,7 @@
 //! The commands of the program.
 //!
 //! A run reads its words (`command_line`), does what they ask for (`formatting`, with the blocks of
-//! `blocks` in the plan of `planning`), and ends with a line and a status (`run`). What a run does is the
+//! `blocks` at the places of `taking` in the plan of `planning`), and ends with a line and a status (`run`). What a run does is the
 //! contract of [`run_alone`], clause by clause.
 #![tactic(auto)]
 
@@ -12,6 +12,7 @@ mod formatting;
 mod planning;
 mod run;
 mod status;
+mod taking;
 
 pub use command_line::{Request, command_line_law, read_words};
 pub use decimal_number::parse_decimal;

@@ -4,29 +4,24 @@ ghost use Rattle.h2_ref.specs.Ref.{IsValid, empty_ref};
 ghost use Rattle.h2_ref.specs.declared.reference.Ref.{Ref};
 ghost use Rattle.h2_header.specs.Map.{leaf_place};
 ghost use Rattle.h2_checkpoint.specs.declared.piece.Piece.{Piece};
-ghost use Rattle.h2_image.specs.NewVolume.{IsZoneCount, inode_ref, leaf_ref, pfs_place};
+ghost use Rattle.h2_image.specs.NewVolume.{IsZoneCount, directory_place, inode_ref, leaf_ref, pfs_place};
 ghost use Rattle.h2_cmd.specs.Planning.{piece_at, block_at, IsBlockAt, HasInodes, IsLeafPiece, IsPlanned};
 
 use crate::blocks::{SMALL_BLOCK_BYTES, leaf_block, root_directory_block, root_pfs_block};
+use crate::taking::{InodeBlocks, take_inode_blocks};
 use h2_check::{crc32c, xxh64};
 use h2_checkpoint::Piece;
+use h2_geom::{ZONE_BYTES, leaf_place};
 use h2_header::Header;
 use h2_num::{Bytes, NoMemory};
 use h2_ref::{Check, Kind, Ref};
 use std::alloc::Global;
 
-// The bytes of a zone, and their base-2 logarithm.
-const ZONE_BYTES: u64 = 33554432;
-
+// The base-2 logarithm of the bytes of a zone.
 const ZONE_BITS: u8 = 25;
 
-// The first copy of the freemap lies here in each zone.
-const FIRST_COPY: u64 = 65536;
-
-// The two inodes lie in the first chunk that isn't reserved.
-const DIRECTORY_PLACE: u64 = 4194304;
-
-const PFS_PLACE: u64 = 4195328;
+// The copy of the freemap that the first checkpoint writes.
+const FIRST_COPY: u32 = 0;
 
 // The base-2 logarithm of the bytes of a block of an inode or a leaf.
 const SMALL_RADIX: u8 = 10;
@@ -65,7 +60,7 @@ fn make_leaf_ref(zone: u32, block: &[u8; SMALL_BLOCK_BYTES]) -> Ref
         kind: Kind::MapLeaf,
         key: ZONE_BYTES * zone as u64,
         keybits: ZONE_BITS,
-        place: ZONE_BYTES * zone as u64 + FIRST_COPY,
+        place: leaf_place(zone, FIRST_COPY),
         radix: SMALL_RADIX,
         id: 1,
         check: Check::Crc(crc32c(block)),
@@ -87,18 +82,24 @@ fn push_block(
 }
 
 // The pieces of the two inodes, and the reference to the PFS.
-fn plan_inodes(alloc: Global, pieces: &mut Vec<Piece>) -> Result<Ref, NoMemory>
-    requires { pieces.old.items ≡ [] }
+fn plan_inodes(
+    alloc: Global,
+    pieces: &mut Vec<Piece>,
+    blocks: &InodeBlocks,
+) -> Result<Ref, NoMemory>
+    requires none { pieces.old.items ≡ [] }
+    requires directory { blocks.now.directory.place ≡ directory_place }
+    requires pfs { blocks.now.pfs.place ≡ pfs_place }
     ensures count { OnOk result (length pieces.new.items ≡ 2) }
     ensures inodes { OnOk result (HasInodes pieces.new.items) }
     ensures pfs { IfOk result (λ r. r ≡ inode_ref pfs_place (block_at pieces.new.items 1)) }
 {
     let directory = root_directory_block();
-    let directory_ref = make_inode_ref(DIRECTORY_PLACE, &directory);
+    let directory_ref = make_inode_ref(blocks.directory.place, &directory);
     let pfs = root_pfs_block(&directory_ref);
-    push_block(alloc, pieces, DIRECTORY_PLACE, &directory)?;
-    push_block(alloc, pieces, PFS_PLACE, &pfs)?;
-    Ok(make_inode_ref(PFS_PLACE, &pfs))
+    push_block(alloc, pieces, blocks.directory.place, &directory)?;
+    push_block(alloc, pieces, blocks.pfs.place, &pfs)?;
+    Ok(make_inode_ref(blocks.pfs.place, &pfs))
 }
 
 // The piece of the leaf of a zone, and the reference to it.
@@ -107,7 +108,7 @@ fn plan_leaf(alloc: Global, pieces: &mut Vec<Piece>, zone: u32) -> Result<Ref, N
     ensures { IfOk result (λ r. (piece : Piece) × IsLeafPiece zone piece × (r ≡ leaf_ref zone (places piece.bytes)) × IsValid r × (pieces.new.items ≡ pieces.old.items ++ piece ∷ [])) }
 {
     let leaf = leaf_block(zone);
-    push_block(alloc, pieces, ZONE_BYTES * zone as u64 + FIRST_COPY, &leaf)?;
+    push_block(alloc, pieces, leaf_place(zone, FIRST_COPY), &leaf)?;
     Ok(make_leaf_ref(zone, &leaf))
 }
 
@@ -134,8 +135,9 @@ pub fn plan_volume(alloc: Global, zones: u32) -> Result<Plan, NoMemory>
     requires { IsZoneCount zones }
     ensures { IfOk result (λ plan. IsPlanned zones plan.pieces.items plan.header) }
 {
+    let blocks = take_inode_blocks(alloc, zones)?;
     let mut pieces = Vec::new(alloc);
-    let pfs = plan_inodes(alloc, &mut pieces)?;
+    let pfs = plan_inodes(alloc, &mut pieces, &blocks)?;
     let map = plan_leaves(alloc, &mut pieces, zones)?;
     let header = Header {
         number: 1,

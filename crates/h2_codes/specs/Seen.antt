@@ -9,3 +9,9 @@ IsChunkSet flags = length flags ≡ segment_chunks
 -- whether the chunk is in the set; past the list's end none is
 abbrev pub has_chunk : List Bool → ℕ → Bool
 has_chunk flags c = slice_index_or flags c false
+
+-- how many chunks are in the set
+abbrev pub count_in : List Bool → ℕ
+count_in [] = 0
+count_in (true ∷ flags) = 1 + count_in flags
+count_in (false ∷ flags) = count_in flags

@@ -4,13 +4,17 @@
 //! of it as a list of 256 flags (`specs/Seen`). No call takes memory, and none can refuse.
 #![tactic(auto)]
 
+mod byte;
 mod code;
+mod laws;
 mod seen;
 mod segment;
+mod word;
 
 pub use code::Code;
+pub use laws::layout_law;
 pub use seen::Seen;
-pub use segment::Segment;
+pub use segment::{SEGMENT_BYTES, Segment};
 
 #[cfg(test)]
 mod tests;

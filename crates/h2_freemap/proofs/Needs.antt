@@ -10,7 +10,7 @@ use Rattle.h2_freemap.specs.declared.cursor.Cursor.{Cursor}
 use Rattle.h2_freemap.specs.Space.{Space, code_of, cursor_of}
 use Rattle.h2_freemap.specs.Free.{free_of}
 use Rattle.h2_freemap.specs.Taking.{HasNoRoom, GoesTo, at_cursor, at_lowest, Takes}
-use Rattle.h2_freemap.specs.Need.{blocks_left, small_chunks, middle_chunks, need_of, need_of_one, need_of_all, small_of, middle_of, whole_of, TakesAll, HasCursorsInUse, NeedIsUsed, NeedIsEnough, TakesOnlyUse}
+use Rattle.h2_freemap.specs.Need.{blocks_left, small_chunks, middle_chunks, need_of, need_of_one, need_of_all, small_of, middle_of, whole_of, TakesAll, HasCursorsInUse, NeedIsUsed, NeedIsEnough, NeedGrows, NeedIsAtMost, TakesOnlyUse}
 use Rattle.h2_freemap.proofs.Taken.{cost, taken_free, taken_in_use}
 
 -- a block at the cursor is one less that has room
@@ -99,3 +99,9 @@ need_is_enough (first ∷ before) size after x y in_use (u, b, t, rest) enough =
     let less : free_of x ≡ free_of u + cost t.goes_to = taken_free first x u t.at in_use t.goes_to t.code in
     let step : need_of_all (first ∷ (before ++ size ∷ after)) x ≡ cost t.goes_to + need_of_all (before ++ size ∷ after) u = need_step (before ++ size ∷ after) first x u b t in
     need_is_enough before size after u y (taken_in_use first x u b in_use t) rest (omega (arith, enough))
+
+pub need_grows : NeedGrows
+need_grows small middle whole more_small more_middle more_whole x s m w = omega arith
+
+pub need_is_at_most : NeedIsAtMost
+need_is_at_most small middle whole x = omega arith

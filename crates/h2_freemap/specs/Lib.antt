@@ -7,3 +7,4 @@ pub mod Made
 pub mod Sweeping
 pub mod Pins
 pub mod Search
+pub mod TakingLaws

@@ -77,3 +77,11 @@ TakesOnlyUse = (sizes : List Size) (x y : Space) → TakesAll sizes x y → (c :
 -- Where the need of all is at most what is free, so is the need of each at its turn.
 abbrev pub NeedIsEnough : Type 0
 NeedIsEnough = (before : List Size) (size : Size) (after : List Size) (x y : Space) → HasCursorsInUse x → TakesAll before x y → need_of_all (before ++ size ∷ after) x ≤ free_of x → need_of_one size y ≤ free_of y
+
+-- More blocks don't need fewer chunks.
+abbrev pub NeedGrows : Type 0
+NeedGrows = (small middle whole more_small more_middle more_whole : ℕ) (x : Space) → small ≤ more_small → middle ≤ more_middle → whole ≤ more_whole → need_of small middle whole x ≤ need_of more_small more_middle more_whole x
+
+-- Whatever the cursors, blocks need no more chunks than they fill alone.
+abbrev pub NeedIsAtMost : Type 0
+NeedIsAtMost = (small middle whole : ℕ) (x : Space) → need_of small middle whole x ≤ small_chunks small + middle_chunks middle + whole

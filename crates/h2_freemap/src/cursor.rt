@@ -17,7 +17,7 @@ pub struct Cursor {
     pub used: u32,
 }
 
-// How many blocks of a size the cursor's chunk has room for; none where there is no cursor.
+/// How many blocks of a size the cursor's chunk has room for; none where there is no cursor.
 pub(crate) fn blocks_left(cursor: Option<Cursor>, size: Size) -> u32
     ensures { result ≡ blocks_left size cursor }
 {
@@ -27,7 +27,7 @@ pub(crate) fn blocks_left(cursor: Option<Cursor>, size: Size) -> u32
     }
 }
 
-// The cursor, where its chunk has room for a block of the size.
+/// The cursor, where its chunk has room for a block of the size.
 pub(crate) fn with_room(cursor: Option<Cursor>, size: Size) -> Option<Cursor>
     ensures same { IfSome result (λ at. cursor ≡ Some at) }
     ensures room { MatchOption result (HasNoRoom size cursor) (HasRoom size) }
@@ -39,7 +39,7 @@ pub(crate) fn with_room(cursor: Option<Cursor>, size: Size) -> Option<Cursor>
     Some(cursor)
 }
 
-// The cursor, unless its chunk is free.
+/// The cursor, unless its chunk is free.
 pub(crate) fn keep_cursor(cursor: Option<Cursor>, segments: &[Segment]) -> Option<Cursor>
     requires { IfSome cursor (λ at. at.chunk < 256 * length segments.now) }
     ensures { result ≡ kept_cursor segments.now cursor }

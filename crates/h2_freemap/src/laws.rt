@@ -1,10 +1,12 @@
-ghost use Rattle.h2_freemap.specs.Need.{NeedIsUsed, NeedIsEnough, TakesOnlyUse};
+ghost use Rattle.h2_freemap.specs.Need.{NeedIsUsed, NeedIsEnough, NeedGrows, NeedIsAtMost, TakesOnlyUse};
 
 /// A law of need and take. Taking blocks, in any order, makes as many free chunks used as their need
 /// says, and changes no other code. While the need of them all is at most what is free, each of them may
-/// be taken at its turn.
+/// be taken at its turn. More blocks need no fewer chunks, and none need more than they fill alone.
 pub fn need_law()
     ensures used { NeedIsUsed }
     ensures enough { NeedIsEnough }
     ensures only { TakesOnlyUse }
+    ensures grows { NeedGrows }
+    ensures at_most { NeedIsAtMost }
 {}

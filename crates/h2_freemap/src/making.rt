@@ -6,7 +6,7 @@ use h2_geom::ZONE_SEGMENTS;
 use h2_num::NoMemory;
 use std::alloc::Global;
 
-// The segments of a new volume: the first of each zone is reserved, and the others are free.
+/// The segments of a new volume: the first of each zone is reserved, and the others are free.
 pub(crate) fn fresh_segments(alloc: Global, count: u32) -> Result<Vec<Segment>, NoMemory>
     ensures { IfOk result (λ segments. AreFresh count segments.items) }
 {

@@ -9,8 +9,8 @@ use h2_codes::{Code, Segment};
 use h2_geom::SEGMENT_CHUNKS;
 use h2_num::Block;
 
-// The lowest free chunk of the segments, or None where no chunk is free. A segment without a free chunk
-// is passed over by its count.
+/// The lowest free chunk of the segments, or None where no chunk is free. A segment without a free chunk
+/// is passed over by its count.
 pub(crate) fn lowest_free(segments: &[Segment]) -> Option<u32>
     requires { length segments.now ≤ 4096 }
     ensures { MatchOption result (NoneFreeIn (256 * length segments.now) segments.now) (IsLowestIn segments.now) }
@@ -25,7 +25,7 @@ pub(crate) fn lowest_free(segments: &[Segment]) -> Option<u32>
     None
 }
 
-// How many chunks of the segments are free.
+/// How many chunks of the segments are free.
 pub(crate) fn count_free(segments: &[Segment]) -> u64
     requires { length segments.now ≤ 4096 }
     ensures count { result ≡ free_below (code_in segments.now) (256 * length segments.now) }
@@ -38,7 +38,7 @@ pub(crate) fn count_free(segments: &[Segment]) -> u64
     free
 }
 
-// 1 where the code is that of a free chunk, else 0.
+/// 1 where the code is that of a free chunk, else 0.
 pub(crate) fn one_if_free(code: Code) -> u64
     ensures { result ≡ tally Free code }
 {
@@ -48,7 +48,7 @@ pub(crate) fn one_if_free(code: Code) -> u64
     }
 }
 
-// The index of a block, or None where it isn't among them.
+/// The index of a block, or None where it isn't among them.
 pub(crate) fn find_block(blocks: &[Block], block: Block) -> Option<usize>
     ensures { MatchOption result (Contains blocks.now block → ⊥) (λ at. (at < length blocks.now) × (slice_index_or blocks.now at block ≡ block)) }
 {

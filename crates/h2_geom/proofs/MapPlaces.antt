@@ -1,9 +1,8 @@
 -- The blocks of the freemap are apart, and lie in reserved chunks.
-use Rattle.std.proofs.Common.{◌≡◌, ◌≢◌, ◌⊎◌, ◌<◌, ◌≤◌, ℕ, ◌+◌, ◌*◌, ◌/◌, ◌%◌, refl, sym, ap, ◌∙◌, inl, inr, arith}
-use Rattle.std.proofs.lemmas.Bool.{cases_lt, cases_eq}
-use Rattle.h2_geom.specs.Geometry.{disk_bytes, chunk_of, IsReserved}
+use Rattle.std.proofs.Common.{◌≡◌, ◌⊎◌, ◌<◌, ◌≤◌, ℕ, ◌+◌, sym, ap, ◌∙◌, inl, inr, arith}
+use Rattle.std.proofs.lemmas.Bool.{cases_lt}
 use Rattle.h2_geom.specs.Places.{MapBlock, IsMapBlock, IsApart, map_place, header_place, map_block_bytes, header_bytes}
-use Rattle.h2_geom.specs.Laws.{MapBlocksApart, MapApartFromHeaders, MapIsReserved, HeadersAreReserved}
+use Rattle.h2_geom.specs.Laws.{MapBlocksApart, MapApartFromHeaders, MapIsReserved, MapInZone, HeadersAreReserved}
 
 -- a block of a lower zone, or of the same zone and a lower copy, or of the same copy and a lower level,
 -- lies below the other
@@ -65,6 +64,12 @@ blocks_reserved b k h lt =
     let zones : b.zone < 512 = h.in_zones in
     let copies : b.copy < 4 = h.in_copies in
     (omega arith, omega arith)
+
+pub blocks_in_zone : MapInZone
+blocks_in_zone b h =
+    let levels : b.level < 3 = h.in_levels in
+    let copies : b.copy < 4 = h.in_copies in
+    (omega arith, omega arith, omega arith)
 
 pub headers_reserved : HeadersAreReserved
 headers_reserved slot k s lt = (omega arith, omega arith)

@@ -1,7 +1,7 @@
 -- Laws of the places of headers and of the freemap's blocks.
-use Rattle.std.specs.Prelude.{◌≡◌, ◌≢◌, ◌<◌, ◌≤◌, ℕ, ◌+◌}
+use Rattle.std.specs.Prelude.{◌≡◌, ◌≢◌, ◌<◌, ◌≤◌, ℕ, ◌+◌, ◌%◌}
 use Rattle.h2_geom.specs.Geometry.{disk_bytes, chunk_of, IsReserved}
-use Rattle.h2_geom.specs.Places.{MapBlock, IsMapBlock, IsApart, map_place, header_place, map_block_bytes, header_bytes}
+use Rattle.h2_geom.specs.Places.{MapBlock, IsMapBlock, IsApart, map_place, zone_place, header_place, map_block_bytes, header_bytes}
 
 -- two different blocks of the freemap have no byte in common
 abbrev pub MapBlocksApart : Type 0
@@ -14,6 +14,10 @@ MapApartFromHeaders = (b : MapBlock) (slot : ℕ) → IsMapBlock b → IsApart (
 -- each byte of a block of the freemap lies in a reserved chunk of the disk
 abbrev pub MapIsReserved : Type 0
 MapIsReserved = (b : MapBlock) (k : ℕ) → IsMapBlock b → k < map_block_bytes → (map_place b + k < disk_bytes) × IsReserved (chunk_of (map_place b + k))
+
+-- a block of the freemap lies in its zone behind the room of a header, at a multiple of its size
+abbrev pub MapInZone : Type 0
+MapInZone = (b : MapBlock) → IsMapBlock b → (zone_place b.zone + header_bytes ≤ map_place b) × (map_place b + map_block_bytes ≤ zone_place (b.zone + 1)) × (map_place b % map_block_bytes ≡ 0)
 
 -- each byte of a header's slot lies in a reserved chunk of the disk
 abbrev pub HeadersAreReserved : Type 0

@@ -1,5 +1,5 @@
 -- Where headers and the blocks of the freemap lie: all in the reserved first segments of zones.
-use Rattle.std.specs.Prelude.{◌≡◌, ◌<◌, ◌≤◌, ◌⊎◌, ℕ, ◌+◌, ◌*◌}
+use Rattle.std.specs.Prelude.{◌<◌, ◌≤◌, ◌⊎◌, ℕ, ◌+◌, ◌*◌}
 use Rattle.h2_geom.specs.Geometry.{zone_bytes, chunk_bytes}
 
 -- bytes of a header's slot

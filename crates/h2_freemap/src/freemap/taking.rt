@@ -87,7 +87,7 @@ impl Freemap {
         }
     }
 
-    // Makes a chunk used.
+    /// Makes a chunk of the volume used.
     pub(super) fn use_chunk(&mut self, chunk: u32)
         requires in_volume { chunk < chunk_count self.old }
         ensures code { ChangesCode chunk Used self.old self.new }

@@ -1,65 +1,117 @@
-use Rattle.std.proofs.Common.{rules, ◌≡◌, ◌≢◌, ◌⊎◌, ◌<◌, ◌≤◌, ◌+◌, ℕ, suc, Bool, List, length, set, take, slice_index_or, sym, ap, ◌∙◌, inl, inr, arith, get_or-set_same, get_or-set_other, length-set}
-use Rattle.std.proofs.lemmas.Bool.{cases_eq}
+use Rattle.std.proofs.Common.{rules, ◌≡◌, ◌<◌, ◌≤◌, ◌+◌, ◌*◌, ℕ, Bool, List, length, take, sym, ap, ◌∙◌, subst, arith}
 use Rattle.h2_codes.specs.declared.code.Code.{Code}
-use Rattle.h2_codes.specs.declared.code.Code.TheVariants.{Free, Reserved, Staged, Used}
-use Rattle.h2_codes.specs.Codes.{IsSegment, code_at, count_of, tally}
+use Rattle.h2_codes.specs.declared.code.Code.TheVariants.{Free, Staged, Used}
+use Rattle.h2_codes.specs.Codes.{code_at, count_of}
 use Rattle.h2_codes.specs.Seen.{has_chunk}
-use Rattle.h2_codes.specs.Bulkfree.{swept_code, tally_unseen, count_unseen}
-use Rattle.h2_codes.proofs.Counts.{any_default, count_of-set, count_unseen-take, count_le, tally_unseen_le, free-swept}
+use Rattle.h2_codes.specs.Bulkfree.{IsSwept, count_unseen, swept_code}
+use Rattle.h2_codes.specs.Packed.{codes_in}
+use Rattle.h2_codes.proofs.Counts.{count_of-swept, count_le, take-all}
+use Rattle.h2_codes.proofs.Lookup.{segment_length}
+use Rattle.h2_codes.proofs.Segments.{unseen_step, unseen_step_le, swept_below, swept_above, put_bytes}
 use Rattle.h2_codes.proofs.segment.Segment.apply.Goals as goal
 
--- one more chunk is swept
-swept_more : (old codes : List Code) (seen : List Bool) (k : ℕ) (r : Code) → k < length codes → r ≡ swept_code (has_chunk seen k) (code_at old k) → ((i : ℕ) → i < k → code_at codes i ≡ swept_code (has_chunk seen i) (code_at old i)) → (i : ℕ) → i < k + 1 → code_at (set codes k r) i ≡ swept_code (has_chunk seen i) (code_at old i)
-swept_more old codes seen k r lt e below i within = split (cases_eq i k)
-  where
-    split : (i ≡ k) ⊎ (i ≡ k → ⊥) → code_at (set codes k r) i ≡ swept_code (has_chunk seen i) (code_at old i)
-    split (inl same) = rw same (get_or-set_same codes k r Reserved lt ∙ e)
-    split (inr ne) = get_or-set_other codes k i r Reserved (λ f. ne f) ∙ below i (omega arith)
+pub overflow_add-staged : goal.overflow_add-staged
+overflow_add-staged c =
+    let lt : c.loop-j.j < 8 = c.loop-j-test.true in
+    let bound : c.loop-j.staged ≤ 32 * c.loop-j.j = c.loop-j.invariant.bounds.0 in
+    let more = unseen_step_le Used c.get_word-word.result c.word-marks.result in
+    let e = c.count_unseen-staged.ensures in
+    omega (arith, more, e)
 
-pub loop-c-preserved : goal.loop-c-preserved
-loop-c-preserved c =
-    let k : ℕ = c.loop-c.c in
-    let old : List Code = c.self.inside.codes in
-    let codes : List Code = c.loop-c.self-inside.codes in
-    let seen : List Bool = c.args.seen.now in
-    let size : length codes ≡ 256 = c.loop-c.invariant.size in
-    let old_size : length old ≡ 256 = c.self.invariant.0 in
-    let lt : k < 256 = search rules in
-    let here : code_at codes k ≡ code_at old k = c.loop-c.invariant.above k (omega arith) in
-    let read : slice_index_or codes k Free ≡ code_at old k = any_default codes k Free Reserved (omega arith) ∙ here in
-    let has : c.has-has.result ≡ has_chunk seen k = c.has-has.ensures.value in
-    let one : c.swept.result ≡ swept_code (has_chunk seen k) (code_at old k) = c.swept.ensures ∙ ap (λ (b : Bool). swept_code b (slice_index_or codes k Free)) has ∙ ap (swept_code (has_chunk seen k)) read in
-    let used : c.tally_unseen-staged.result ≡ tally_unseen Used (code_at old k) (has_chunk seen k) = c.tally_unseen-staged.ensures ∙ ap (λ (b : Bool). tally_unseen Used (slice_index_or codes k Free) b) has ∙ ap (λ (x : Code). tally_unseen Used x (has_chunk seen k)) read in
-    let staged : c.tally_unseen-freed.result ≡ tally_unseen Staged (code_at old k) (has_chunk seen k) = c.tally_unseen-freed.ensures ∙ ap (λ (b : Bool). tally_unseen Staged (slice_index_or codes k Free) b) has ∙ ap (λ (x : Code). tally_unseen Staged x (has_chunk seen k)) read in
-    let used_more = count_unseen-take Used old seen k (omega arith) in
-    let staged_more = count_unseen-take Staged old seen k (omega arith) in
-    let used_one = tally_unseen_le Used (code_at old k) (has_chunk seen k) in
-    let staged_one = tally_unseen_le Staged (code_at old k) (has_chunk seen k) in
-    let change = count_of-set Free codes k c.swept.result (omega arith) in
-    let freed_one = free-swept (has_chunk seen k) (code_at old k) in
-    let step : k + 1 ≡ suc k = omega arith in
-    let was_staged = c.loop-c.invariant.staged in
-    let was_freed = c.loop-c.invariant.freed in
-    let was_free = c.loop-c.invariant.free in
-    let was_bounds : (c.loop-c.staged ≤ k) × (c.loop-c.freed ≤ k) = c.loop-c.invariant.bounds in
-    let here_free : tally Free (code_at codes k) ≡ tally Free (code_at old k) = ap (tally Free) here in
-    let new_free : tally Free c.swept.result ≡ tally Free (swept_code (has_chunk seen k) (code_at old k)) = ap (tally Free) one in
+pub overflow_add-freed : goal.overflow_add-freed
+overflow_add-freed c =
+    let lt : c.loop-j.j < 8 = c.loop-j-test.true in
+    let bound : c.loop-j.freed ≤ 32 * c.loop-j.j = c.loop-j.invariant.bounds.1 in
+    let more = unseen_step_le Staged c.get_word-word.result c.word-marks.result in
+    let e = c.count_unseen-freed.ensures in
+    omega (arith, more, e)
+
+pub loop-j-preserved : goal.loop-j-preserved
+loop-j-preserved c =
+    let old : List ℕ = c.self.inside.codes in
+    let now : List ℕ = c.loop-j.self-inside.codes in
+    let new : List ℕ = c.put_word.new.bytes in
+    let flags : List Bool = c.args.seen.now in
+    let more_staged = unseen_step_le Used c.get_word-word.result c.word-marks.result in
+    let staged_is = c.count_unseen-staged.ensures in
+    let more_freed = unseen_step_le Staged c.get_word-word.result c.word-marks.result in
+    let freed_is = c.count_unseen-freed.ensures in
+    let staged_bound : c.loop-j.staged ≤ 32 * c.loop-j.j = c.loop-j.invariant.bounds.0 in
+    let freed_bound : c.loop-j.freed ≤ 32 * c.loop-j.j = c.loop-j.invariant.bounds.1 in
     record {
-      size = length-set codes k c.swept.result ∙ size;
-      below = swept_more old codes seen k c.swept.result (omega arith) one c.loop-c.invariant.below;
-      above = λ i le. get_or-set_other codes k i c.swept.result Reserved (λ e. omega arith) ∙ c.loop-c.invariant.above i (omega arith);
-      staged = rw step (omega (arith, used, was_staged, used_more));
-      freed = rw step (omega (arith, staged, was_freed, staged_more));
-      free = omega (arith, change, freed_one, was_free, staged, here_free, new_free);
-      kept = c.loop-c.invariant.kept;
-      bounds = (omega (arith, used, used_one, was_bounds), omega (arith, staged, staged_one, was_bounds));
+      size = c.put_word.array_long;
+      bytes = put_bytes now new c.loop-j.j c.sweep.result c.loop-j.invariant.bytes c.put_word.ensures.inside c.put_word.ensures.below c.put_word.ensures.above;
+      below = swept_below old now new flags c.loop-j.j c.get_word-word.result c.word-marks.result c.sweep.result c.loop-j.invariant.bytes c.loop-j.invariant.size c.put_word.array_long c.loop-j-test.true c.get_word-word.ensures c.loop-j.invariant.above c.loop-j.invariant.below c.word-marks.ensures.marks c.sweep.ensures c.put_word.ensures.inside c.put_word.ensures.below;
+      above = swept_above old now new c.loop-j.j c.loop-j.invariant.size c.put_word.array_long c.loop-j.invariant.above c.put_word.ensures.above;
+      staged = unseen_step old now flags Used c.loop-j.j c.get_word-word.result c.word-marks.result c.loop-j.staged c.count_unseen-staged.result c.self.invariant.0 c.loop-j.invariant.bytes c.loop-j.invariant.size c.loop-j-test.true c.get_word-word.ensures c.loop-j.invariant.above c.word-marks.ensures.marks staged_is c.loop-j.invariant.staged;
+      freed = unseen_step old now flags Staged c.loop-j.j c.get_word-word.result c.word-marks.result c.loop-j.freed c.count_unseen-freed.result c.self.invariant.0 c.loop-j.invariant.bytes c.loop-j.invariant.size c.loop-j-test.true c.get_word-word.ensures c.loop-j.invariant.above c.word-marks.ensures.marks freed_is c.loop-j.invariant.freed;
+      kept = c.loop-j.invariant.kept;
+      bounds = (omega (arith, more_staged, staged_is), omega (arith, more_freed, freed_is));
     }
+
+-- what the loop leaves, once all words are done
+done_swept : (old new : List ℕ) (flags : List Bool) (j : ℕ) → length new ≡ 64 → 8 ≤ j → ((c : ℕ) → c < 32 * j → code_at (codes_in new) c ≡ swept_code (has_chunk flags c) (code_at (codes_in old) c)) → IsSwept flags (codes_in old) (codes_in new)
+done_swept old new flags j len le below = record {
+  length_is = segment_length new len;
+  codes = λ c lt. below c (omega arith);
+}
+
+done_count : (old : List ℕ) (flags : List Bool) (code : Code) (j n : ℕ) → length old ≡ 64 → 8 ≤ j → n ≡ count_unseen code (take (32 * j) (codes_in old)) flags → n ≡ count_unseen code (codes_in old) flags
+done_count old flags code j n len le e =
+    let size = segment_length old len in
+    e ∙ ap (λ (codes : List Code). count_unseen code codes flags) (take-all (codes_in old) (32 * j) (omega (arith, size)))
+
+done_free : (old new : List ℕ) (flags : List Bool) (n : ℕ) → length old ≡ 64 → length new ≡ 64 → IsSwept flags (codes_in old) (codes_in new) → n ≡ count_unseen Staged (codes_in old) flags → count_of Free (codes_in new) ≡ count_of Free (codes_in old) + n
+done_free old new flags n len new_len swept e =
+    let size = segment_length old len in
+    let new_size = segment_length new new_len in
+    let freed = count_of-swept (codes_in old) (codes_in new) flags (new_size ∙ sym size) (λ c lt. swept.codes c (omega (arith, size))) in
+    omega (arith, freed, e)
 
 pub overflow_add-self : goal.overflow_add-self
 overflow_add-self c =
-    let size : length c.loop-c.self-inside.codes ≡ 256 = c.loop-c.invariant.size in
-    let kept : c.loop-c.self-inside.free ≡ c.self.inside.free = c.loop-c.invariant.kept in
-    let was : c.self.inside.free ≡ count_of Free c.self.inside.codes = c.self.invariant.1 in
-    let free : count_of Free c.loop-c.self-inside.codes ≡ count_of Free c.self.inside.codes + c.loop-c.freed = c.loop-c.invariant.free in
-    let most = count_le Free c.loop-c.self-inside.codes in
-    omega (arith, most)
+    let le : 8 ≤ c.loop-j.j = search rules in
+    let swept = done_swept c.self.inside.codes c.loop-j.self-inside.codes c.args.seen.now c.loop-j.j c.loop-j.invariant.size le c.loop-j.invariant.below in
+    let freed = done_count c.self.inside.codes c.args.seen.now Staged c.loop-j.j c.loop-j.freed c.self.invariant.0 le c.loop-j.invariant.freed in
+    let free = done_free c.self.inside.codes c.loop-j.self-inside.codes c.args.seen.now c.loop-j.freed c.self.invariant.0 c.loop-j.invariant.size swept freed in
+    let most = count_le Free (codes_in c.loop-j.self-inside.codes) in
+    let size = segment_length c.loop-j.self-inside.codes c.loop-j.invariant.size in
+    let kept : c.loop-j.self-inside.free ≡ c.self.inside.free = c.loop-j.invariant.kept in
+    let was : c.self.inside.free ≡ count_of Free (codes_in c.self.inside.codes) = c.self.invariant.2 in
+    omega (arith, free, most, size)
+
+pub invariant_of-self : goal.invariant_of-self
+invariant_of-self c =
+    let le : 8 ≤ c.loop-j.j = search rules in
+    let swept = done_swept c.self.inside.codes c.loop-j.self-inside.codes c.args.seen.now c.loop-j.j c.loop-j.invariant.size le c.loop-j.invariant.below in
+    let freed = done_count c.self.inside.codes c.args.seen.now Staged c.loop-j.j c.loop-j.freed c.self.invariant.0 le c.loop-j.invariant.freed in
+    let free = done_free c.self.inside.codes c.loop-j.self-inside.codes c.args.seen.now c.loop-j.freed c.self.invariant.0 c.loop-j.invariant.size swept freed in
+    let kept : c.loop-j.self-inside.free ≡ c.self.inside.free = c.loop-j.invariant.kept in
+    let was : c.self.inside.free ≡ count_of Free (codes_in c.self.inside.codes) = c.self.invariant.2 in
+    (c.loop-j.invariant.size, c.loop-j.invariant.bytes, omega (arith, free))
+
+pub returns-clause-swept : goal.returns-clause-swept
+returns-clause-swept c =
+    let le : 8 ≤ c.loop-j.j = search rules in
+    subst (λ (codes : List Code). IsSwept c.args.seen.now codes (codes_in c.loop-j.self-inside.codes)) c.self.view_is
+    (done_swept c.self.inside.codes c.loop-j.self-inside.codes c.args.seen.now c.loop-j.j c.loop-j.invariant.size le c.loop-j.invariant.below)
+
+pub returns-clause-staged : goal.returns-clause-staged
+returns-clause-staged c =
+    let le : 8 ≤ c.loop-j.j = search rules in
+    subst (λ (codes : List Code). c.loop-j.staged ≡ count_unseen Used codes c.args.seen.now) c.self.view_is
+    (done_count c.self.inside.codes c.args.seen.now Used c.loop-j.j c.loop-j.staged c.self.invariant.0 le c.loop-j.invariant.staged)
+
+pub returns-clause-freed : goal.returns-clause-freed
+returns-clause-freed c =
+    let le : 8 ≤ c.loop-j.j = search rules in
+    subst (λ (codes : List Code). c.loop-j.freed ≡ count_unseen Staged codes c.args.seen.now) c.self.view_is
+    (done_count c.self.inside.codes c.args.seen.now Staged c.loop-j.j c.loop-j.freed c.self.invariant.0 le c.loop-j.invariant.freed)
+
+pub returns-clause-free : goal.returns-clause-free
+returns-clause-free c =
+    let le : 8 ≤ c.loop-j.j = search rules in
+    let swept = done_swept c.self.inside.codes c.loop-j.self-inside.codes c.args.seen.now c.loop-j.j c.loop-j.invariant.size le c.loop-j.invariant.below in
+    let freed = done_count c.self.inside.codes c.args.seen.now Staged c.loop-j.j c.loop-j.freed c.self.invariant.0 le c.loop-j.invariant.freed in
+    subst (λ (codes : List Code). count_of Free (codes_in c.loop-j.self-inside.codes) ≡ count_of Free codes + c.loop-j.freed) c.self.view_is
+    (done_free c.self.inside.codes c.loop-j.self-inside.codes c.args.seen.now c.loop-j.freed c.self.invariant.0 c.loop-j.invariant.size swept freed)

@@ -1,9 +1,10 @@
-use Rattle.std.proofs.Common.{◌≡◌, ◌≤◌, ℕ}
+use Rattle.std.proofs.Common.{◌≤◌, ◌*◌, ◌/◌}
 use Rattle.h2_codes.specs.Codes.{NoneFree}
+use Rattle.h2_codes.specs.Packed.{codes_in}
 use Rattle.h2_codes.proofs.segment.Segment.next_free.Given as goal
 
-abbrev pub invariant-loop-c : goal.invariant-loop-c
-invariant-loop-c l = record {
-  none : NoneFree l.from l.c l.self-inside.codes;
-  start : l.from ≤ l.c;
+abbrev pub invariant-loop-j : goal.invariant-loop-j
+invariant-loop-j l = record {
+  none : NoneFree l.from (32 * l.j) (codes_in l.self-inside.codes);
+  start : l.from / 32 ≤ l.j;
 }

@@ -1,0 +1,6 @@
+use Rattle.std.proofs.Common.{refl, arith}
+use Rattle.h2_codes.proofs.Lookup.{all_bytes-replicate}
+use Rattle.h2_codes.proofs.segment.all_free.Goals as goal
+
+pub invariant_of-result : goal.invariant_of-result
+invariant_of-result c = (refl, all_bytes-replicate 64 0 (omega arith), refl)
