@@ -1,0 +1,17 @@
+pub mod Ledger
+pub mod Moves
+pub mod Sound
+pub mod Runs
+pub mod Passes
+pub mod Laws
+pub mod CountLaws
+pub mod PartLaws
+pub mod QuietLaws
+pub mod TakeLaws
+pub mod ApplyLaws
+pub mod SoundLaws
+pub mod RunLaws
+pub mod GrantLaws
+pub mod FreedLaws
+pub mod UnwrittenLaws
+pub mod PassLaws

@@ -1,0 +1,4 @@
+pub mod State
+pub mod Buying
+pub mod Steps
+pub mod PlainLedger
