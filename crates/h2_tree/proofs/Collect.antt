@@ -5,6 +5,7 @@ use Rattle.std.proofs.lemmas.List.{append-nil, take_more}
 use Rattle.std.proofs.lemmas.List.Elements.{filter-append}
 use Rattle.std.proofs.lemmas.Option.{slice_get_within, get_or_from_slice_get}
 use Rattle.h2_ref.specs.declared.reference.Ref.{Ref}
+use Rattle.h2_set.specs.Ranges.{is_indirect}
 use Rattle.h2_set.specs.RefSet.{RefSet}
 use Rattle.h2_set.specs.Forest.{Link, Forest, refs, loaded, told, untold, HasLeaves, done, one, near, far, LeavesOf, Below, IsSound, Walks}
 use Rattle.h2_set.specs.StayLaws.{Walks-leaves, stands_below}
