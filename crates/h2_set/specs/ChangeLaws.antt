@@ -129,44 +129,53 @@ leaves_swap leaf zero q (far {r = r} ind link inside rest) low high h read kind 
 leaves_swap leaf (suc i) q (far {r = r} {rs = rs} {below = b} {l = l} ind link inside rest) low high h read kind key k =
     rw (put-append_right leaf r.key (limit r) b l inside (past leaf r low high rs i q h read (omega (arith, key)))) (far ind link inside (leaves_swap leaf i q rest (limit r) high h.1 read kind key k))
 
--- a leaf that was put below one of the references
-pub leaves_replace : {f g : Forest} {at : ℕ} {rs l : List Ref} (leaf : Ref) (c i : ℕ) (q : Ref) → HasLeaves f at rs l → (qs : List Ref) → Alike rs qs → (low high : ℕ) → Rising low high rs → slice_get rs i ≡ Some q → is_indirect q ≡ true → f.link at q.key ≡ loaded c → holds leaf.key q ≡ true → ((k : ℕ) → g.link at k ≡ f.link at k) → ((j d : ℕ) (r : Ref) → slice_get rs j ≡ Some r → is_indirect r ≡ true → f.link at r.key ≡ loaded d → (j ≡ i → ⊥) → KeepsLeaves f g d) → ((b : List Ref) → LeavesOf f c b → LeavesOf g c (put leaf b)) → ((b : List Ref) → LeavesOf g c b → Rising q.key (limit q) b) → HasLeaves g at qs (put leaf l)
-leaves_replace leaf c i q done qs a low high h read ind link in_q links keep changed rising = absurd (none-some q read)
-leaves_replace leaf c i q (one k' rest) [] a low high h read ind link in_q links keep changed rising = absurd a
-leaves_replace leaf c zero q (one {r = r} k' rest) (x ∷ qs) a low high h read ind link in_q links keep changed rising = let same : r ≡ q = (cc) in let clash : false ≡ true = sym k' ∙ ap (λ (x : Ref). is_indirect x) same ∙ ind in cc
-leaves_replace {g = g} {at = at} leaf c (suc i) q (one {r = r} {rs = rs} {l = l} k' rest) (x ∷ qs) a low high h read ind link in_q links keep changed rising =
-    let le = holds_inside leaf.key q in_q in
-    let e = behind_apart leaf r (past leaf r low high rs i q h read le.0) in
-    let tail : HasLeaves g at qs (put leaf l) = leaves_replace leaf c i q rest qs a.1 (limit r) high h.1 read ind link in_q links (λ j d y read' ind' link' ne. keep (suc j) d y read' ind' link' (λ e'. ne (omega arith))) changed rising in
-    rw (a.0.leaf k', e.0, e.1) (one k' tail)
-leaves_replace leaf c i q (near ind' link' kids inside rest) [] a low high h read ind link in_q links keep changed rising = absurd a
-leaves_replace {f} {g} {at} leaf c zero q (near {c = d} {r = r} {rs = rs} {below = b} {l = l} ind' link' kids inside rest) (x ∷ qs) a low high h read ind link in_q links keep changed rising =
-    let same : r ≡ q = (cc) in
-    let dc : d ≡ c = grind (arith, link, link', ap (λ (x : Ref). f.link at x.key) same) in
-    let kids' : LeavesOf f c b = subst (λ z. LeavesOf f z b) dc kids in
-    let new_kids : LeavesOf g c (put leaf b) = changed b kids' in
-    let tail : HasLeaves g at qs l = leaves_move rest qs a.1 (λ j y read' ind''. links y.key) (λ j d y read' ind'' link''. keep (suc j) d y read' ind'' link'' (λ e'. omega (arith, e'))) in
-    let le = holds_inside leaf.key q in_q in
-    let lower : leaf.key < limit r = rw same le.1 in
-    let xq_key : x.key ≡ q.key = a.0.key ∙ ap (λ (x : Ref). x.key) same in
-    let xq_bits : x.keybits ≡ q.keybits = a.0.keybits ∙ ap (λ (x : Ref). x.keybits) same in
-    let link'' : g.link at x.key ≡ loaded c = ap (λ z. g.link at z) xq_key ∙ links q.key ∙ link in
-    rw (put-append_left leaf (limit r) high b l (leaves_rising rest (limit r) high h.1) lower) (near (ap leads_on a.0.kind ∙ ind') link'' new_kids (same_range x q (put leaf b) xq_key xq_bits (rising (put leaf b) new_kids)) tail)
-leaves_replace {g = g} {at = at} leaf c (suc i) q (near {c = d} {r = r} {rs = rs} {below = b} {l = l} ind' link' kids inside rest) (x ∷ qs) a low high h read ind link in_q links keep changed rising =
-    let le = holds_inside leaf.key q in_q in
-    let tail : HasLeaves g at qs (put leaf l) = leaves_replace leaf c i q rest qs a.1 (limit r) high h.1 read ind link in_q links (λ j d y read' ind'' link'' ne. keep (suc j) d y read' ind'' link'' (λ e'. ne (omega arith))) changed rising in
-    let link'' : g.link at x.key ≡ loaded d = rw a.0.key (links r.key ∙ link') in
-    rw (put-append_right leaf r.key (limit r) b l inside (past leaf r low high rs i q h read le.0)) (near (ap leads_on a.0.kind ∙ ind') link'' (keep 0 d r refl ind' link' (λ e'. omega (arith, e')) b kids) (same_range x r b a.0.key a.0.keybits inside) tail)
-leaves_replace leaf c i q (far ind' link' inside rest) [] a low high h read ind link in_q links keep changed rising = absurd a
-leaves_replace {f} {at = at} leaf c zero q (far {r = r} {below = b} ind' link' inside rest) (x ∷ qs) a low high h read ind link in_q links keep changed rising =
-    let same : r ≡ q = (cc) in
-    let clash : told b ≡ loaded c = sym link' ∙ ap (λ (x : Ref). f.link at x.key) same ∙ link in
-    cc
-leaves_replace {g = g} {at = at} leaf c (suc i) q (far {r = r} {rs = rs} {below = b} {l = l} ind' link' inside rest) (x ∷ qs) a low high h read ind link in_q links keep changed rising =
-    let le = holds_inside leaf.key q in_q in
-    let tail : HasLeaves g at qs (put leaf l) = leaves_replace leaf c i q rest qs a.1 (limit r) high h.1 read ind link in_q links (λ j d y read' ind'' link'' ne. keep (suc j) d y read' ind'' link'' (λ e'. ne (omega arith))) changed rising in
-    let link'' : g.link at x.key ≡ told b = rw a.0.key (links r.key ∙ link') in
-    rw (put-append_right leaf r.key (limit r) b l inside (past leaf r low high rs i q h read le.0)) (far (ap leads_on a.0.kind ∙ ind') link'' (same_range x r b a.0.key a.0.keybits inside) tail)
+-- the key goes past a reference that ends before one whose range holds it
+past_key : (key : ℕ) (r : Ref) (low high : ℕ) (rs : List Ref) (i : ℕ) (q : Ref) → Rising low high (r ∷ rs) → slice_get rs i ≡ Some q → q.key ≤ key → limit r ≤ key
+past_key key r low high rs i q h read le = let above = place_above (limit r) high rs i q h.1 read in omega (arith, above, le)
+
+-- one change at a key of the leaves below one of the references
+module _ (F : List Ref → List Ref) (key : ℕ) (left : (low high : ℕ) (xs ys : List Ref) → Rising low high ys → key < low → F (xs ++ ys) ≡ F xs ++ ys) (right : (low mid : ℕ) (xs ys : List Ref) → Rising low mid xs → mid ≤ key → F (xs ++ ys) ≡ xs ++ F ys) where
+  -- a change at one key passes a reference that ends before it
+  pass_one : (r : Ref) (l : List Ref) → limit r ≤ key → F (r ∷ l) ≡ r ∷ F l
+  pass_one r l le = right r.key (limit r) (r ∷ []) l (omega arith, omega arith) le
+
+  pub leaves_replace : {f g : Forest} {at : ℕ} {rs l : List Ref} (c i : ℕ) (q : Ref) → HasLeaves f at rs l → (qs : List Ref) → Alike rs qs → (low high : ℕ) → Rising low high rs → slice_get rs i ≡ Some q → is_indirect q ≡ true → f.link at q.key ≡ loaded c → holds key q ≡ true → ((k : ℕ) → g.link at k ≡ f.link at k) → ((j d : ℕ) (r : Ref) → slice_get rs j ≡ Some r → is_indirect r ≡ true → f.link at r.key ≡ loaded d → (j ≡ i → ⊥) → KeepsLeaves f g d) → ((b : List Ref) → LeavesOf f c b → LeavesOf g c (F b)) → ((b : List Ref) → LeavesOf g c b → Rising q.key (limit q) b) → HasLeaves g at qs (F l)
+  leaves_replace c i q done qs a low high h read ind link in_q links keep changed rising = absurd (none-some q read)
+  leaves_replace c i q (one k' rest) [] a low high h read ind link in_q links keep changed rising = absurd a
+  leaves_replace c zero q (one {r = r} k' rest) (x ∷ qs) a low high h read ind link in_q links keep changed rising = let same : r ≡ q = (cc) in let clash : false ≡ true = sym k' ∙ ap (λ (x : Ref). is_indirect x) same ∙ ind in cc
+  leaves_replace {g = g} {at = at} c (suc i) q (one {r = r} {rs = rs} {l = l} k' rest) (x ∷ qs) a low high h read ind link in_q links keep changed rising =
+      let le = holds_inside key q in_q in
+      let e : F (r ∷ l) ≡ r ∷ F l = pass_one r l (past_key key r low high rs i q h read le.0) in
+      let tail : HasLeaves g at qs (F l) = leaves_replace c i q rest qs a.1 (limit r) high h.1 read ind link in_q links (λ j d y read' ind' link' ne. keep (suc j) d y read' ind' link' (λ e'. ne (omega arith))) changed rising in
+      rw (a.0.leaf k', e) (one k' tail)
+  leaves_replace c i q (near ind' link' kids inside rest) [] a low high h read ind link in_q links keep changed rising = absurd a
+  leaves_replace {f} {g} {at} c zero q (near {c = d} {r = r} {rs = rs} {below = b} {l = l} ind' link' kids inside rest) (x ∷ qs) a low high h read ind link in_q links keep changed rising =
+      let same : r ≡ q = (cc) in
+      let dc : d ≡ c = grind (arith, link, link', ap (λ (x : Ref). f.link at x.key) same) in
+      let kids' : LeavesOf f c b = subst (λ z. LeavesOf f z b) dc kids in
+      let new_kids : LeavesOf g c (F b) = changed b kids' in
+      let tail : HasLeaves g at qs l = leaves_move rest qs a.1 (λ j y read' ind''. links y.key) (λ j d y read' ind'' link''. keep (suc j) d y read' ind'' link'' (λ e'. omega (arith, e'))) in
+      let le = holds_inside key q in_q in
+      let lower : key < limit r = rw same le.1 in
+      let xq_key : x.key ≡ q.key = a.0.key ∙ ap (λ (x : Ref). x.key) same in
+      let xq_bits : x.keybits ≡ q.keybits = a.0.keybits ∙ ap (λ (x : Ref). x.keybits) same in
+      let link'' : g.link at x.key ≡ loaded c = ap (λ z. g.link at z) xq_key ∙ links q.key ∙ link in
+      rw (left (limit r) high b l (leaves_rising rest (limit r) high h.1) lower) (near (ap leads_on a.0.kind ∙ ind') link'' new_kids (same_range x q (F b) xq_key xq_bits (rising (F b) new_kids)) tail)
+  leaves_replace {g = g} {at = at} c (suc i) q (near {c = d} {r = r} {rs = rs} {below = b} {l = l} ind' link' kids inside rest) (x ∷ qs) a low high h read ind link in_q links keep changed rising =
+      let le = holds_inside key q in_q in
+      let tail : HasLeaves g at qs (F l) = leaves_replace c i q rest qs a.1 (limit r) high h.1 read ind link in_q links (λ j d y read' ind'' link'' ne. keep (suc j) d y read' ind'' link'' (λ e'. ne (omega arith))) changed rising in
+      let link'' : g.link at x.key ≡ loaded d = rw a.0.key (links r.key ∙ link') in
+      rw (right r.key (limit r) b l inside (past_key key r low high rs i q h read le.0)) (near (ap leads_on a.0.kind ∙ ind') link'' (keep 0 d r refl ind' link' (λ e'. omega (arith, e')) b kids) (same_range x r b a.0.key a.0.keybits inside) tail)
+  leaves_replace c i q (far ind' link' inside rest) [] a low high h read ind link in_q links keep changed rising = absurd a
+  leaves_replace {f} {at = at} c zero q (far {r = r} {below = b} ind' link' inside rest) (x ∷ qs) a low high h read ind link in_q links keep changed rising =
+      let same : r ≡ q = (cc) in
+      let clash : told b ≡ loaded c = sym link' ∙ ap (λ (x : Ref). f.link at x.key) same ∙ link in
+      cc
+  leaves_replace {g = g} {at = at} c (suc i) q (far {r = r} {rs = rs} {below = b} {l = l} ind' link' inside rest) (x ∷ qs) a low high h read ind link in_q links keep changed rising =
+      let le = holds_inside key q in_q in
+      let tail : HasLeaves g at qs (F l) = leaves_replace c i q rest qs a.1 (limit r) high h.1 read ind link in_q links (λ j d y read' ind'' link'' ne. keep (suc j) d y read' ind'' link'' (λ e'. ne (omega arith))) changed rising in
+      let link'' : g.link at x.key ≡ told b = rw a.0.key (links r.key ∙ link') in
+      rw (right r.key (limit r) b l inside (past_key key r low high rs i q h read le.0)) (far (ap leads_on a.0.kind ∙ ind') link'' (same_range x r b a.0.key a.0.keybits inside) tail)
 
 -- multiples of p lie at least p apart
 pub step_up : (a b p : ℕ) → a % p ≡ 0 → b % p ≡ 0 → a < b → a + p ≤ b

@@ -22,6 +22,22 @@ without-append key low mid (x ∷ xs) ys h le =
     let pos = pow_pos x.keybits in
     rw (apart_keys x.key key (omega (arith, top, pos, le))) (ap (λ (l : List Ref). x ∷ l) (without-append key (limit x) mid xs ys h.1 le))
 
+-- leaves above a key don't lose it
+without_above : (key low high : ℕ) (ys : List Ref) → Rising low high ys → key < low → without key ys ≡ ys
+without_above key low high [] h lt = refl
+without_above key low high (y ∷ ys) h lt =
+    let pos = pow_pos y.keybits in
+    let other : nat_eq y.key key ≡ false = (let above = h.0 in grind (arith, nat_tests)) in
+    rw other (ap (λ (l : List Ref). y ∷ l) (without_above key (limit y) high ys h.1 (omega (arith, h.0, lt, pos))))
+
+pub without-append_left : (key low high : ℕ) (xs ys : List Ref) → Rising low high ys → key < low → without key (xs ++ ys) ≡ without key xs ++ ys
+without-append_left key low high [] ys h lt = without_above key low high ys h lt
+without-append_left key low high (x ∷ xs) ys h lt = step (nat_eq x.key key) (without-append_left key low high xs ys h lt)
+  where
+    step : (b : Bool) → without key (xs ++ ys) ≡ without key xs ++ ys → cond b (xs ++ ys) (x ∷ without key (xs ++ ys)) ≡ cond b xs (x ∷ without key xs) ++ ys
+    step true ih = refl
+    step false ih = ap (λ (l : List Ref). x ∷ l) ih
+
 below_key : (r : Ref) (low high : ℕ) (rs : List Ref) (i : ℕ) (q : Ref) (key : ℕ) → Rising low high (r ∷ rs) → slice_get rs i ≡ Some q → q.key ≤ key → limit r ≤ key
 below_key r low high rs i q key h read le = let above = place_above (limit r) high rs i q h.1 read in omega (arith, above, le)
 

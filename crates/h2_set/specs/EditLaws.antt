@@ -96,3 +96,40 @@ set_cut s i h lt = record { rising = Rising-remove 0 (2 ^ 64) s.refs i lt h.risi
 -- an element that was read by its place
 pub read_at : (rs : List Ref) (i : ℕ) (x : Ref) → i < length rs → x ≡ slice_index_or rs i x → slice_get rs i ≡ Some x
 read_at rs i x lt e = slice_get_read rs (length rs) i x refl lt e
+
+-- references in order have keys from the low end on
+key_above : (low high : ℕ) (rs : List Ref) (i : ℕ) (q : Ref) → Rising low high rs → slice_get rs i ≡ Some q → low ≤ q.key
+key_above low high [] i q h read = absurd (none-some q read)
+key_above low high (r ∷ rs) zero q h read = let same : r ≡ q = (cc) in rw (← same) h.0
+key_above low high (r ∷ rs) (suc i) q h read = let rest = key_above (limit r) high rs i q h.1 read in let pos = pow_pos r.keybits in omega arith
+
+-- what is left after one is taken out stood there before
+pub remove_from : (rs : List Ref) (i j : ℕ) (r : Ref) → slice_get (remove rs i) j ≡ Some r → (k : ℕ) × (slice_get rs k ≡ Some r)
+remove_from [] zero j r read = absurd (none-some r read)
+remove_from [] (suc i) j r read = absurd (none-some r read)
+remove_from (x ∷ xs) zero j r read = (suc j, read)
+remove_from (x ∷ xs) (suc i) zero r read = (0, read)
+remove_from (x ∷ xs) (suc i) (suc j) r read = let it = remove_from xs i j r read in (suc it.0, it.1)
+
+-- and all others are left
+pub remove_keeps : (rs : List Ref) (i j : ℕ) (r : Ref) → slice_get rs j ≡ Some r → (j ≡ i → ⊥) → (k : ℕ) × (slice_get (remove rs i) k ≡ Some r)
+remove_keeps [] i j r read ne = absurd (none-some r read)
+remove_keeps (x ∷ xs) zero zero r read ne = absurd (ne refl)
+remove_keeps (x ∷ xs) zero (suc j) r read ne = (j, read)
+remove_keeps (x ∷ xs) (suc i) zero r read ne = (0, read)
+remove_keeps (x ∷ xs) (suc i) (suc j) r read ne = let it = remove_keeps xs i j r read (λ e. ne (ap suc e)) in (suc it.0, it.1)
+
+-- none is left with the key of the one that was taken out
+pub remove_lacks : (low high : ℕ) (rs : List Ref) (i j : ℕ) (q r : Ref) → Rising low high rs → slice_get rs i ≡ Some q → slice_get (remove rs i) j ≡ Some r → r.key ≡ q.key → ⊥
+remove_lacks low high [] i j q r h read read' e = none-some q read
+remove_lacks low high (x ∷ xs) zero j q r h read read' e =
+    let same : x ≡ q = (cc) in
+    let above = key_above (limit x) high xs j r h.1 read' in
+    let pos = pow_pos x.keybits in
+    omega (arith, above, pos, e, ap (λ (y : Ref). y.key) same)
+remove_lacks low high (x ∷ xs) (suc i) zero q r h read read' e =
+    let same : x ≡ r = (cc) in
+    let above = key_above (limit x) high xs i q h.1 read in
+    let pos = pow_pos x.keybits in
+    omega (arith, above, pos, e, ap (λ (y : Ref). y.key) same)
+remove_lacks low high (x ∷ xs) (suc i) (suc j) q r h read read' e = remove_lacks (limit x) high xs i j q r h.1 read read' e

@@ -238,6 +238,7 @@ pub record Alters (f g : Forest) (at : ℕ) : Type 0 where
   pub tree : (m : ℕ) → f.stands m ≡ true → f.root m ≡ f.root at → Keeps f g m
   pub above : (m : ℕ) → f.stands m ≡ true → (f.root m ≡ f.root at → ⊥) → Renews f g m
   pub capacity : (m : ℕ) → f.stands m ≡ true → let s = f.set m in let t = g.set m in t.capacity ≡ s.capacity
+  pub none_new : (m : ℕ) → g.stands m ≡ true → f.stands m ≡ true
   pub spare : g.spare ≡ f.spare
   pub failed : g.failed ≡ f.failed
   pub bad : g.bad ≡ f.bad
@@ -264,6 +265,7 @@ pub record GoesBelow (f : Forest) (m at : ℕ) (s : RefSet) : Type 0 where
 
 -- node m of another tree belongs to what a leaf names, to which a reference of node at leads that s lacks
 pub record GoesWith (f : Forest) (m at : ℕ) (s : RefSet) : Type 0 where
+  pub other : f.root m ≡ f.root at → ⊥
   pub key : ℕ
   pub leaf : Ref
   pub loses : Loses f at s key
@@ -292,6 +294,7 @@ pub record Stores (f g : Forest) (at : ℕ) (s : RefSet) : Type 0 where
   pub copies : g.copies at ≡ f.copies at
   pub link : (i : ℕ) (r : Ref) → slice_get s.refs i ≡ Some r → is_indirect r ≡ true → g.link at r.key ≡ f.link at r.key
   pub others : (m : ℕ) → f.stands m ≡ true → (m ≡ at → ⊥) → (GoesBelow f m at s → ⊥) → (GoesWith f m at s → ⊥) → Same f g m
+  pub none_new : (m : ℕ) → g.stands m ≡ true → f.stands m ≡ true
   pub spare : g.spare ≡ f.spare
   pub room : g.room ≡ f.room
   pub failed : g.failed ≡ f.failed
@@ -313,6 +316,7 @@ pub record ReadiesOnly (f g : Forest) : Type 0 where
   pub sound : IsSound g
   pub fixed : Fixed f g
   pub same : (m : ℕ) → f.stands m ≡ true → Same f g m
+  pub none_new : (m : ℕ) → g.stands m ≡ true → f.stands m ≡ true
   pub spare : f.spare ≤ g.spare
   pub room : g.room ≡ f.room
   pub failed : g.failed ≡ f.failed

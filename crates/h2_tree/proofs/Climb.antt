@@ -39,7 +39,7 @@ pub found_in : (f g : Forest) (key root : ℕ) (o : Option Ref) → IsSound f �
 found_in f g key root o sound walk stands reached l h = reaches_find walk.sound reached (walk.stays root stands).place.stands l (Walks-leaves f g sound walk root stands l h)
 
 -- two references whose ranges hold one key are one
-same_holder : (low high key : ℕ) (rs : List Ref) (i j : ℕ) (q r : Ref) → Rising low high rs → slice_get rs i ≡ Some q → slice_get rs j ≡ Some r → holds key q ≡ true → holds key r ≡ true → r ≡ q
+pub same_holder : (low high key : ℕ) (rs : List Ref) (i j : ℕ) (q r : Ref) → Rising low high rs → slice_get rs i ≡ Some q → slice_get rs j ≡ Some r → holds key q ≡ true → holds key r ≡ true → r ≡ q
 same_holder low high key rs i j q r h read_q read_r in_q in_r =
     let a = holds_inside key q in_q in
     let b = holds_inside key r in_r in

@@ -44,7 +44,7 @@ no_leaves (one leaf rest) e = cc
 no_leaves (near ind link kids inside rest) e = cc
 no_leaves (far ind link inside rest) e = cc
 
-last_leaf : {f : Forest} {at : ℕ} {rs l : List Ref} → HasLeaves f at rs l → (r : Ref) → rs ≡ r ∷ [] → is_indirect r ≡ false → l ≡ r ∷ []
+pub last_leaf : {f : Forest} {at : ℕ} {rs l : List Ref} → HasLeaves f at rs l → (r : Ref) → rs ≡ r ∷ [] → is_indirect r ≡ false → l ≡ r ∷ []
 last_leaf done r e k = cc
 last_leaf (one {r = q} {rs = rs} leaf rest) r e k =
     let none : rs ≡ [] = (cc) in
@@ -54,7 +54,7 @@ last_leaf (one {r = q} {rs = rs} leaf rest) r e k =
 last_leaf (near {r = q} ind link kids inside rest) r e k = let same : q ≡ r = (cc) in let clash : true ≡ false = sym ind ∙ ap (λ (x : Ref). is_indirect x) same ∙ k in cc
 last_leaf (far {r = q} ind link inside rest) r e k = let same : q ≡ r = (cc) in let clash : true ≡ false = sym ind ∙ ap (λ (x : Ref). is_indirect x) same ∙ k in cc
 
-last_below : {f : Forest} {at : ℕ} {rs l : List Ref} → HasLeaves f at rs l → (r : Ref) → rs ≡ r ∷ [] → is_indirect r ≡ true → Below f at r.key l
+pub last_below : {f : Forest} {at : ℕ} {rs l : List Ref} → HasLeaves f at rs l → (r : Ref) → rs ≡ r ∷ [] → is_indirect r ≡ true → Below f at r.key l
 last_below done r e k = cc
 last_below (one {r = q} leaf rest) r e k = let same : q ≡ r = (cc) in let clash : false ≡ true = sym leaf ∙ ap (λ (x : Ref). is_indirect x) same ∙ k in cc
 last_below {f} {at} (near {c = c} {r = q} {rs = rs} {below = b} {l = l} ind link kids inside rest) r e k =

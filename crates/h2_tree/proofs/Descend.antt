@@ -10,7 +10,7 @@ use Rattle.h2_set.specs.Forest.{Forest, refs, loaded, HasLeaves, LeavesOf, Keeps
 use Rattle.h2_set.specs.StayLaws.{leaves_stay, Walks-leaves, Walks-trans, Fixed-trans, InPlace-trans}
 use Rattle.h2_set.specs.RenewLaws.{Keeps-Renews, Renews-trans}
 use Rattle.h2_set.specs.LeafLaws.{leaves_rising, holds_inside, find_below}
-use Rattle.h2_set.specs.ChangeLaws.{Keeps-Stays, Keeps-trans, leaves_replace, limit_inside, apart_places}
+use Rattle.h2_set.specs.ChangeLaws.{Keeps-Stays, Keeps-trans, leaves_replace, put-append_left, put-append_right, limit_inside, apart_places}
 use Rattle.h2_tree.specs.Changes.{Under, Takes, Inserts, PathUnloaded}
 use Rattle.h2_tree.proofs.Climb.{reaches_child}
 
@@ -99,7 +99,7 @@ module _ (f h : Forest) (at i c : ℕ) (leaf q : Ref) (sound : IsSound f) (stand
         sound = ins.sound;
         fixed = Fixed-trans f h g walks.fixed ins.fixed;
         place = InPlace-trans f h g at there.place kept.place;
-        leaves = λ l hl. leaves_replace leaf c i q (Walks-leaves f h sound walks at stands l hl) (refs g at) kept.alike _ _ node.inside read_h ind link in_q kept.link keep ins.leaves rising;
+        leaves = λ l hl. leaves_replace (put leaf) leaf.key (put-append_left leaf) (put-append_right leaf) c i q (Walks-leaves f h sound walks at stands l hl) (refs g at) kept.alike _ _ node.inside read_h ind link in_q kept.link keep ins.leaves rising;
         tree = λ m st root out.
             let k = loads.keeps m st (differs m out) in
             Keeps-trans f h g m k (ins.tree m k.place.stands (k.place.root ∙ root ∙ sym there.place.root ∙ sym child.root) (below_c m st out));

@@ -6,3 +6,5 @@ mod Edit
 mod Parted
 mod Descend
 mod Readied
+mod Only
+mod Removal

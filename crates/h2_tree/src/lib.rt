@@ -9,7 +9,9 @@
 mod inserting;
 mod listing;
 mod looking_up;
+mod removing;
 
 pub use inserting::insert;
 pub use looking_up::lookup;
+pub use removing::remove;
 pub use listing::range;
