@@ -118,6 +118,8 @@ pub record IsSoundNode (f : Forest) (m : ℕ) : Type 0 where
 
 pub record IsSound (f : Forest) : Type 0 where
   pub node : (m : ℕ) → f.stands m ≡ true → IsSoundNode f m
+  -- what is held stands
+  pub held : (m : ℕ) → f.held m ≡ true → f.stands m ≡ true
 
 -- the same reference, but for where the block of an indirect one lies
 pub record IsAlike (r q : Ref) : Type 0 where

@@ -8,3 +8,6 @@ mod Descend
 mod Readied
 mod Only
 mod Removal
+mod RemoveBelow
+mod Taking
+mod TakeBelow

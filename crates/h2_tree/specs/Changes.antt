@@ -33,6 +33,11 @@ pub record Inserts (f g : Forest) (at : ℕ) (leaf : Ref) : Type 0 where
   pub room : f.room ≤ g.room + 63
   pub spare : f.spare ≤ g.spare + 1
 
+-- nothing but loads took place, and none below nodes that aren't under node at
+pub record WalksUnder (f g : Forest) (at : ℕ) : Type 0 where
+  pub walks : Walks f g
+  pub keeps : (m : ℕ) → f.stands m ≡ true → (f.root m ≡ f.root at → Under f m at → ⊥) → Keeps f g m
+
 -- the reference at place i of node at leads to this leaf alone, by loaded nodes
 pub data LeadsOnly (f : Forest) : ℕ → ℕ → Ref → Type 0 where
   itself : {at : ℕ} {r : Ref} → (i : ℕ) → slice_get (refs f at) i ≡ Some r → is_indirect r ≡ false → LeadsOnly f at i r
@@ -55,9 +60,9 @@ pub record Removes (f g : Forest) (at key : ℕ) : Type 0 where
 
 -- what taking out the leaf with the key did at node at: there is none, or it is out, or the node has no other
 abbrev pub TakesOut : Forest → Forest → ℕ → ℕ → Taken → Type 0
-TakesOut f g at key Nothing = Walks f g × ((l : List Ref) → LeavesOf f at l → at_key key l ≡ None)
+TakesOut f g at key Nothing = WalksUnder f g at × ((l : List Ref) → LeavesOf f at l → at_key key l ≡ None)
 TakesOut f g at key (Out leaf) = Removes f g at key × ((l : List Ref) → LeavesOf f at l → at_key key l ≡ Some leaf)
-TakesOut f g at key (Sole leaf) = Walks f g × (length (refs g at) ≡ 1) × LeadsOnly g at 0 leaf × (leaf.key ≡ key)
+TakesOut f g at key (Sole leaf) = WalksUnder f g at × (length (refs g at) ≡ 1) × LeadsOnly g at 0 leaf × (leaf.key ≡ key)
 
 -- a leaf whose key is from `from` to `to`
 abbrev pub is_between : ℕ → ℕ → Ref → Bool
