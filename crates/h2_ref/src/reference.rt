@@ -100,3 +100,9 @@ impl Ref {
         if self.radix == 0 { 0 } else { 1 << self.radix }
     }
 }
+
+impl Default for Ref {
+    fn default() -> Ref {
+        Ref::empty()
+    }
+}

@@ -1,0 +1,19 @@
+//! Sets of references, and the trait of a forest of them.
+//!
+//! A set is seen as a list of references whose ranges of keys are disjoint and ascend, and a capacity of 4
+//! or 32 (`specs/RefSet`). A full set that shall take one more is split by the split rule: the least aligned
+//! range of keys that holds at least half of the references goes into a block of its own (`IsSplitOf`).
+//!
+//! [`Sets`] is a forest of such sets, wherever its nodes come from: trees whose nodes are loaded, or told by a
+//! disk, or neither (`specs/Forest`). What a tree means is one sorted list of leaves (`HasLeaves`), and each
+//! call of the trait has one relation between the forest before and after it.
+#![tactic(auto)]
+
+mod range;
+mod set;
+mod sets;
+mod split;
+
+pub use range::{holds, is_indirect};
+pub use set::{PutAnswer, Set, Split};
+pub use sets::{NodeId, Sets};
