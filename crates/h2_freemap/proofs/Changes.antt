@@ -16,7 +16,8 @@ use Rattle.h2_freemap.specs.Space.{Space, chunk_count, code_in, code_of, cursor_
 use Rattle.h2_freemap.specs.Free.{free_below, free_of}
 use Rattle.h2_freemap.specs.Search.{with_code}
 use Rattle.h2_freemap.specs.Taking.{with_cursor}
-use Rattle.h2_freemap.specs.Sweeping.{unless_free, kept_cursor}
+use Rattle.h2_freemap.specs.Sweeping.{kept_cursor}
+use Rattle.h2_freemap.specs.SweepingLaws.{kept_is}
 use Rattle.h2_freemap.specs.Consistent.{IsCursor, IsConsistent}
 use Rattle.h2_freemap.proofs.Counting.{free_changed}
 use Rattle.h2_freemap.proofs.SegmentCodes.{with_code_here, with_code_other, with_code_segments, count_more}
@@ -114,17 +115,6 @@ cursor_consistent Middle cursor x ok is = record { zone_count = ok.zone_count; s
     cursors Middle at e = let same : cursor ≡ at = cc in same_cursor Middle x (with_cursor Middle cursor x) at refl refl (subst (λ (c : Cursor). IsCursor Middle x c) same is)
     cursors Whole at e = same_cursor Whole x (with_cursor Middle cursor x) at refl refl (ok.cursors Whole at e)
 cursor_consistent Whole cursor x ok is = ok
-
--- what a cursor is left after a pass
-pub kept_is : (segments : List (List Code)) (cursor : Option Cursor) (at : Cursor) → kept_cursor segments cursor ≡ Some at → (cursor ≡ Some at) × (code_in segments at.chunk ≢ Free)
-kept_is segments None at e = cc
-kept_is segments (Some c) at e = split (code_in segments c.chunk) refl e
-  where
-    split : (code : Code) → code_in segments c.chunk ≡ code → unless_free code c ≡ Some at → (Some c ≡ Some at) × (code_in segments at.chunk ≢ Free)
-    split Free is left = cc
-    split Reserved is left = (left, λ free. let same : c ≡ at = cc in let here : code_in segments c.chunk ≡ code_in segments at.chunk = ap (λ (x : Cursor). code_in segments x.chunk) same in cc)
-    split Staged is left = (left, λ free. let same : c ≡ at = cc in let here : code_in segments c.chunk ≡ code_in segments at.chunk = ap (λ (x : Cursor). code_in segments x.chunk) same in cc)
-    split Used is left = (left, λ free. let same : c ≡ at = cc in let here : code_in segments c.chunk ≡ code_in segments at.chunk = ap (λ (x : Cursor). code_in segments x.chunk) same in cc)
 
 -- a segment has other codes, and cursors in free chunks are forgotten
 abbrev pub swept_at : Space → ℕ → List Code → Space

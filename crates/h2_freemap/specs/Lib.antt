@@ -8,3 +8,4 @@ pub mod Sweeping
 pub mod Pins
 pub mod Search
 pub mod TakingLaws
+pub mod SweepingLaws

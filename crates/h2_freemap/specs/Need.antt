@@ -15,10 +15,11 @@ abbrev pub blocks_left : Size → Option Cursor → ℕ
 blocks_left size None = 0
 blocks_left size (Some cursor) = (chunk_bytes - cursor.used) / bytes_of size
 
--- how many chunks so many blocks fill or begin to fill
+-- how many chunks so many small blocks fill or begin to fill
 abbrev pub small_chunks : ℕ → ℕ
 small_chunks blocks = (blocks + 15) / 16
 
+-- and so many middle ones
 abbrev pub middle_chunks : ℕ → ℕ
 middle_chunks blocks = (blocks + 3) / 4
 
@@ -70,7 +71,7 @@ HasCursorsInUse x = (size : Size) (cursor : Cursor) → cursor_of x size ≡ Som
 abbrev pub NeedIsUsed : Type 0
 NeedIsUsed = (sizes : List Size) (x y : Space) → HasCursorsInUse x → TakesAll sizes x y → free_of x ≡ free_of y + need_of_all sizes x
 
--- No code but those of free or staged chunks that become used changes.
+-- Each chunk's code is as before, or used.
 abbrev pub TakesOnlyUse : Type 0
 TakesOnlyUse = (sizes : List Size) (x y : Space) → TakesAll sizes x y → (c : ℕ) → (code_of y c ≡ code_of x c) ⊎ (code_of y c ≡ Used)
 

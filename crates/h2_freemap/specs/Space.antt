@@ -40,7 +40,7 @@ cursor_of x Whole = None
 abbrev pub InVolume : Space → Block → Type 0
 InVolume x b = chunk_of b.place < chunk_count x
 
--- one code is another, and all else is as before
+-- a chunk has this code, and all other codes are as before
 pub record ChangesCode (chunk : ℕ) (code : Code) (x y : Space) : Type 0 where
   pub zones : y.zones ≡ x.zones
   pub changed : code_of y chunk ≡ code

@@ -15,9 +15,10 @@ use h2_codes::Code;
 use h2_geom::{SEGMENT_CHUNKS, chunk_place};
 use h2_num::Block;
 
-// How many blocks of a shared size a chunk holds.
+// How many blocks of 1 KiB a chunk holds.
 const SMALL_PER_CHUNK: u32 = 16;
 
+// How many of 4 KiB.
 const MIDDLE_PER_CHUNK: u32 = 4;
 
 impl Freemap {
@@ -79,6 +80,7 @@ impl Freemap {
         ensures value { result ≡ cursor_of self.now size }
         ensures consistent { IsConsistent self.now }
     {
+        // A field is read, so that the caller learns what holds of each freemap.
         let _geometry = &self.geometry;
         match size {
             Size::Small => self.small,
