@@ -25,3 +25,5 @@ pub use laws::{header_law, refusal_law};
 pub use reading::read_from;
 pub use writing::write_into;
 
+#[cfg(test)]
+mod tests;
