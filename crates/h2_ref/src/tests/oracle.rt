@@ -30,7 +30,7 @@ pub fn refusal(b: &[u8; 128]) -> Option<RefFault> {
     };
     let [low, _, _, _, _, _, _, _] = number(b, 16).to_le_bytes();
     let radix = low % 64;
-    let place = number(b, 16) - radix as u64;
+    let place = number(b, 16) / 64 * 64;
     let key = number(b, 8);
     let keybits = b[2];
     let id = number(b, 24);
