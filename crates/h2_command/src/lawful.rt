@@ -50,11 +50,21 @@ pub fn is_pfs_name(name: &[u8]) -> bool
     are_pfs_name_bytes(name)
 }
 
+#[tactic(auto, using(h2_dirkey::specs::NameLaws::no_fault))]
+fn is_name(name: &Name) -> bool
+    ensures { IsTrue result ↔ IsName name.now }
+{
+    match check_name(name.as_slice()) {
+        Ok(()) => true,
+        Err(_) => false,
+    }
+}
+
 fn are_names(names: &[Name]) -> bool
     ensures { IsTrue result ↔ All IsName names.now }
 {
     for name in names {
-        if check_name(name.as_slice()).is_err() {
+        if !is_name(name) {
             return false;
         }
     }

@@ -5,6 +5,7 @@ use crate::reply::Reply;
 use h2_num::{Bytes, Names};
 
 /// What a reply carries.
+#[derive(Clone, Copy)]
 enum Group {
     Lists,
     Numbers,

@@ -1,42 +1,46 @@
--- What a list of items says: replies, and marks of what the volume did beside them.
-use Rattle.std.specs.Prelude.{◌≡◌, ◌⊎◌, ℕ, ◌+◌, ◌-◌, ◌^◌, ◌<◌, ◌≤◌, List, [], ◌∷◌, length, map, take, slice_index, slice_get, max, Bool, true, false, cond, nat_eq, nat_le, ◌&&◌, Option, Some, None}
+-- What a history says of the forest, and what it may look like.
+use Rattle.std.specs.Prelude.{◌≡◌, ◌⊎◌, ℕ, ◌+◌, ◌-◌, ◌^◌, ◌<◌, ◌≤◌, List, [], ◌∷◌, ◌++◌, take, max, Bool, true, false, cond, nat_eq, ◌&&◌, Option, Some, None}
 use Rattle.std.specs.Bool.{MatchBool}
-use Rattle.std.specs.List.{filter, list_any}
-use Rattle.std.specs.List.Sorted.{IsNonDecreasing}
+use Rattle.std.specs.List.{list_any}
 use Rattle.h2_command.specs.declared.command.Command.{Command}
 use Rattle.h2_command.specs.declared.command.Command.TheVariants.{Bulkfree}
 use Rattle.h2_command.specs.declared.reply.Reply.{Reply}
-use Rattle.h2_command.specs.declared.reply.Reply.TheVariants.{Done, Bulk, Running, NoSpace, Io, BadBlock, NoMemory}
+use Rattle.h2_command.specs.declared.reply.Reply.TheVariants.{Done, Bulk, Io}
 use Rattle.h2_command.specs.declared.history.Entry.{Entry}
 use Rattle.h2_command.specs.declared.history.Mark.{Mark}
 use Rattle.h2_command.specs.declared.history.Mark.TheVariants.{Freeze, HeaderOut, HeaderDone, ScanBegin, Applied}
 use Rattle.h2_command.specs.declared.history.Item.{Item}
-use Rattle.h2_command.specs.declared.history.Item.TheVariants.{Call, Noted}
+use Rattle.h2_command.specs.declared.history.Item.TheVariants.{Call, Mark as Marked}
+use Rattle.h2_command.specs.Replies.{is_outside}
+use Rattle.h2_forest.specs.declared.legality.Opening.{Opening}
+use Rattle.h2_forest.specs.declared.legality.LastPass.{LastPass}
+use Rattle.h2_forest.specs.declared.legality.LastPass.TheVariants.{Ended, Runs}
+use Rattle.h2_forest.specs.declared.legality.Flush.{Flush}
+use Rattle.h2_forest.specs.declared.legality.Stage.{Stage}
+use Rattle.h2_forest.specs.declared.legality.Stage.TheVariants.{Durable, Frozen, Out}
+use Rattle.h2_forest.specs.declared.legality.Pass.{Pass}
+use Rattle.h2_forest.specs.declared.legality.Pass.TheVariants.{Idle, Scanned}
 use Rattle.h2_forest.specs.Forest.{PlainForest, answer}
 
--- the refusals from outside, which change nothing in the forest and the handles
-abbrev pub is_outside : Reply → Bool
-is_outside (Running client) = true
-is_outside (NoSpace need free) = true
-is_outside (Io before after) = true
-is_outside (BadBlock place) = true
-is_outside NoMemory = true
-is_outside _ = false
+-- each item is allowed in the state that the items before it left
+abbrev pub Each : {S : Type 0} → (S → Item → Type 0) → (S → Item → S) → S → List Item → Type 0
+Each allowed next s [] = Unit {0}
+Each allowed next s (x ∷ h) = allowed s x × Each allowed next (next s x) h
 
--- the forest after an entry, and after each item in turn
-abbrev pub after_entry : PlainForest → Entry → PlainForest
-after_entry f e = cond (is_outside e.reply) f (answer f e.client e.command).1
+-- the state that items leave
+abbrev pub after : {S : Type 0} → (S → Item → S) → S → List Item → S
+after next s [] = s
+after next s (x ∷ h) = after next (next s x) h
 
-abbrev pub after_items : PlainForest → List Item → PlainForest
-after_items f [] = f
-after_items f (Call e ∷ h) = after_items (after_entry f e) h
-after_items f (Noted m ∷ h) = after_items f h
+-- the forest after an item. A refusal from outside changes nothing, and neither does a mark
+abbrev pub after_item : PlainForest → Item → PlainForest
+after_item f (Call e) = cond (is_outside e.reply) f (answer f e.client e.command).1
+after_item f (Marked m) = f
 
--- the forest before the item at a place
+-- the forest before the item at a place of a history
 abbrev pub forest_at : List Item → PlainForest → ℕ → PlainForest
-forest_at h first i = after_items first (take i h)
+forest_at h first i = after after_item first (take i h)
 
--- a Bulk as the reply to bulkfree
 abbrev pub is_bulkfree : Command → Bool
 is_bulkfree Bulkfree = true
 is_bulkfree _ = false
@@ -49,144 +53,194 @@ is_bulk _ = false
 abbrev pub StandsFor : Command → Reply → Reply → Type 0
 StandsFor command reply due = MatchBool (is_bulkfree command && is_bulk reply) (due ≡ Done) (reply ≡ due)
 
-abbrev pub IsRight : PlainForest → Entry → Type 0
-IsRight f e = (is_outside e.reply ≡ true) ⊎ StandsFor e.command e.reply (answer f e.client e.command).0
+-- an entry's reply is a refusal from outside, or stands for the forest's
+abbrev pub IsRightEntry : PlainForest → Entry → Type 0
+IsRightEntry f e = (is_outside e.reply ≡ true) ⊎ StandsFor e.command e.reply (answer f e.client e.command).0
 
--- each reply is right at its place
+abbrev pub IsRight : PlainForest → Item → Type 0
+IsRight f (Call e) = IsRightEntry f e
+IsRight f (Marked m) = Unit {0}
+
+-- each reply is the forest's at its place
 abbrev pub RepliesAreRight : PlainForest → List Item → Type 0
-RepliesAreRight f [] = Unit {0}
-RepliesAreRight f (Call e ∷ h) = IsRight f e × RepliesAreRight (after_entry f e) h
-RepliesAreRight f (Noted m ∷ h) = RepliesAreRight f h
+RepliesAreRight first h = Each IsRight after_item first h
 
--- each Io has counts that rise, from an earlier Io's on, unless they stand at the last value
-abbrev pub FaultsRise : ℕ → List Item → Type 0
-FaultsRise floor [] = Unit {0}
-FaultsRise floor (Call e ∷ h) = elim e.reply [
-  | Io before after ↦ (floor ≤ before) × (((before < after) ⊎ (after ≡ 2 ^ 64 - 1)) × FaultsRise (max floor after) h)
-  | _ ↦ FaultsRise floor h
-]
-FaultsRise floor (Noted m ∷ h) = FaultsRise floor h
+-- the two counts of an Io
+abbrev pub io_reply : Reply → Option (ℕ × ℕ)
+io_reply (Io before after) = Some (before, after)
+io_reply _ = None
 
--- the entries in the order of the history
-abbrev pub entries_of : List Item → List Entry
-entries_of [] = []
-entries_of (Call e ∷ h) = e ∷ entries_of h
-entries_of (Noted m ∷ h) = entries_of h
+abbrev pub io_of : Item → Option (ℕ × ℕ)
+io_of (Call e) = io_reply e.reply
+io_of (Marked m) = None
 
-abbrev pub indices_of : ℕ → List Item → List ℕ
-indices_of client h = map {A = Entry} {B = ℕ} (λ e. e.index) (filter (λ e. nat_eq e.client client) (entries_of h))
+-- the count rose from where an earlier Io left it, or stands at its last value
+abbrev pub IsRise : ℕ → Option (ℕ × ℕ) → Type 0
+IsRise floor (Some counts) = (floor ≤ counts.0) × ((counts.0 < counts.1) ⊎ (counts.1 ≡ 2 ^ 64 - 1))
+IsRise floor None = Unit {0}
 
--- a client's entries have the indices 0, 1, 2 and on
+abbrev pub risen : ℕ → Option (ℕ × ℕ) → ℕ
+risen floor (Some counts) = max floor counts.1
+risen floor None = floor
+
+-- each Io has a count of faults that rose, and no earlier Io ended above where it began
+abbrev pub FaultsRise : List Item → Type 0
+FaultsRise h = Each (λ floor x. IsRise floor (io_of x)) (λ floor x. risen floor (io_of x)) 0 h
+
+-- the index of a client's entry
+abbrev pub index_of : ℕ → Item → Option ℕ
+index_of client (Call e) = cond (nat_eq e.client client) (Some e.index) None
+index_of client (Marked m) = None
+
+abbrev pub IsCounted : ℕ → Option ℕ → Type 0
+IsCounted next (Some index) = index ≡ next
+IsCounted next None = Unit {0}
+
+abbrev pub counted : ℕ → Option ℕ → ℕ
+counted next (Some index) = index + 1
+counted next None = next
+
+-- the entries of a client have the indices 0, 1, 2 and on
 abbrev pub CountsUp : ℕ → List Item → Type 0
-CountsUp client h = (k : ℕ) → k < length (indices_of client h) → slice_index (indices_of client h) k ≡ k
+CountsUp client h = Each (λ next x. IsCounted next (index_of client x)) (λ next x. counted next (index_of client x)) 0 h
 
--- phases never fall
-abbrev pub PhasesRise : List Item → Type 0
-PhasesRise h = IsNonDecreasing (map {A = Entry} {B = ℕ} (λ e. e.phase) (entries_of h))
+-- the phase of an entry
+abbrev pub phase_of : Item → Option ℕ
+phase_of (Call e) = Some e.phase
+phase_of (Marked m) = None
 
--- the moments of the marks
-abbrev pub moments_of : List Item → List ℕ
-moments_of [] = []
-moments_of (Noted (Freeze number moment) ∷ h) = moment ∷ moments_of h
-moments_of (Noted (HeaderOut number moment) ∷ h) = moment ∷ moments_of h
-moments_of (Noted (HeaderDone number moment) ∷ h) = moment ∷ moments_of h
-moments_of (_ ∷ h) = moments_of h
+-- the moment of a mark
+abbrev pub mark_moment : Mark → Option ℕ
+mark_moment (Freeze number moment) = Some moment
+mark_moment (HeaderOut number moment) = Some moment
+mark_moment (HeaderDone number moment) = Some moment
+mark_moment _ = None
 
--- how far the flush of the newest Freeze has come: its header is done, it has begun, or its header is out
-pub data Flushed : Type 0 where
-  AllDone : Flushed
-  Frozen : Flushed
-  IsOut : Flushed
+abbrev pub moment_of : Item → Option ℕ
+moment_of (Call e) = None
+moment_of (Marked m) = mark_moment m
 
--- Freezes rise by one from a number on; after each come one HeaderOut or more and then one HeaderDone, before the next
-abbrev pub FlushesInOrder : ℕ → Flushed → List Item → Type 0
-FlushesInOrder n s [] = Unit {0}
-FlushesInOrder n AllDone (Noted (Freeze number moment) ∷ h) = (number ≡ n + 1) × FlushesInOrder number Frozen h
-FlushesInOrder n Frozen (Noted (Freeze number moment) ∷ h) = ⊥
-FlushesInOrder n IsOut (Noted (Freeze number moment) ∷ h) = ⊥
-FlushesInOrder n AllDone (Noted (HeaderOut number moment) ∷ h) = ⊥
-FlushesInOrder n Frozen (Noted (HeaderOut number moment) ∷ h) = (number ≡ n) × FlushesInOrder n IsOut h
-FlushesInOrder n IsOut (Noted (HeaderOut number moment) ∷ h) = (number ≡ n) × FlushesInOrder n IsOut h
-FlushesInOrder n AllDone (Noted (HeaderDone number moment) ∷ h) = ⊥
-FlushesInOrder n Frozen (Noted (HeaderDone number moment) ∷ h) = ⊥
-FlushesInOrder n IsOut (Noted (HeaderDone number moment) ∷ h) = (number ≡ n) × FlushesInOrder n AllDone h
-FlushesInOrder n s (_ ∷ h) = FlushesInOrder n s h
+abbrev pub IsFrom : ℕ → Option ℕ → Type 0
+IsFrom low (Some n) = low ≤ n
+IsFrom low None = Unit {0}
 
--- a scan begins only for a header that was done before; done has the numbers so far
-abbrev pub ScansAreLate : List ℕ → List Item → Type 0
-ScansAreLate done [] = Unit {0}
-ScansAreLate done (Noted (HeaderDone number moment) ∷ h) = ScansAreLate (number ∷ done) h
-ScansAreLate done (Noted (ScanBegin number) ∷ h) = (list_any (nat_eq number) done ≡ true) × ScansAreLate done h
-ScansAreLate done (_ ∷ h) = ScansAreLate done h
+abbrev pub or_later : ℕ → Option ℕ → ℕ
+or_later low (Some n) = n
+or_later low None = low
 
--- the Applied marks of a pass so far, with their sums; a pass that has replied is none
-pub data Pass : Type 0 where
-  NoPass : Pass
-  Scanned : ℕ → ℕ → ℕ → Pass
+-- numbers that some items have never fall
+abbrev pub NeverFalls : (Item → Option ℕ) → List Item → Type 0
+NeverFalls number h = Each (λ low x. IsFrom low (number x)) (λ low x. or_later low (number x)) 0 h
 
--- a pass that has ended has none of its marks or all of them
+-- where a mark may stand: a Freeze has the next number and follows a durable header; a header is out once
+-- or more after its Freeze, and then durable once
+abbrev pub IsFlushStep : Flush → Mark → Type 0
+IsFlushStep flush (Freeze number moment) = (flush.stage ≡ Durable) × (number ≡ flush.number + 1)
+IsFlushStep flush (HeaderOut number moment) = ¬ (flush.stage ≡ Durable) × (number ≡ flush.number)
+IsFlushStep flush (HeaderDone number moment) = (flush.stage ≡ Out) × (number ≡ flush.number)
+IsFlushStep flush _ = Unit {0}
+
+abbrev pub flush_step : Flush → Mark → Flush
+flush_step flush (Freeze number moment) = record { number = number; stage = Frozen }
+flush_step flush (HeaderOut number moment) = record flush { stage = Out }
+flush_step flush (HeaderDone number moment) = record flush { stage = Durable }
+flush_step flush _ = flush
+
+abbrev pub IsFlushItem : Flush → Item → Type 0
+IsFlushItem flush (Call e) = Unit {0}
+IsFlushItem flush (Marked m) = IsFlushStep flush m
+
+abbrev pub after_flush_item : Flush → Item → Flush
+after_flush_item flush (Call e) = flush
+after_flush_item flush (Marked m) = flush_step flush m
+
+-- flushes stand one after the other, from the opening header's number on. Only the last one may lack its end
+abbrev pub FlushesInOrder : ℕ → List Item → Type 0
+FlushesInOrder opened h = Each IsFlushItem after_flush_item (record { number = opened; stage = Durable }) h
+
+-- the numbers whose header became durable, after one more item
+abbrev pub durable_mark : List ℕ → Mark → List ℕ
+durable_mark numbers (HeaderDone number moment) = numbers ++ number ∷ []
+durable_mark numbers _ = numbers
+
+abbrev pub after_durable : List ℕ → Item → List ℕ
+after_durable numbers (Call e) = numbers
+after_durable numbers (Marked m) = durable_mark numbers m
+
+abbrev pub IsScanOf : List ℕ → Mark → Type 0
+IsScanOf numbers (ScanBegin number) = list_any (λ n. nat_eq n number) numbers ≡ true
+IsScanOf numbers _ = Unit {0}
+
+abbrev pub IsLateScan : List ℕ → Item → Type 0
+IsLateScan numbers (Call e) = Unit {0}
+IsLateScan numbers (Marked m) = IsScanOf numbers m
+
+-- a scan begins only for a header that became durable before
+abbrev pub ScansAreLate : List Item → Type 0
+ScansAreLate h = Each IsLateScan after_durable [] h
+
+-- a pass that has ended applied none of the segments, or all of them
 abbrev pub HasEnded : ℕ → Pass → Type 0
-HasEnded segments NoPass = Unit {0}
+HasEnded segments Idle = Unit {0}
 HasEnded segments (Scanned applied staged freed) = (applied ≡ 0) ⊎ (applied ≡ segments)
 
--- one more segment, in ascending order
+-- a pass applies the segments in ascending order, from the first on
 abbrev pub IsNext : ℕ → ℕ → Pass → Type 0
-IsNext segments segment NoPass = ⊥
+IsNext segments segment Idle = ⊥
 IsNext segments segment (Scanned applied staged freed) = (segment ≡ applied) × (segment < segments)
 
+-- the sums over a pass that has applied all segments
+abbrev pub AreSums : ℕ → ℕ → ℕ → Pass → Type 0
+AreSums segments staged freed Idle = ⊥
+AreSums segments staged freed (Scanned applied s f) = (applied ≡ segments) × ((staged ≡ s) × (freed ≡ f))
+
 abbrev pub with_applied : Pass → ℕ → ℕ → Pass
-with_applied NoPass staged freed = NoPass
+with_applied Idle staged freed = Idle
 with_applied (Scanned applied s f) staged freed = Scanned (applied + 1) (s + staged) (f + freed)
 
--- the numbers of a Bulk are the sums over a complete pass
-abbrev pub IsSum : ℕ → Pass → ℕ → ℕ → Type 0
-IsSum segments NoPass staged freed = ⊥
-IsSum segments (Scanned applied s f) staged freed = (applied ≡ segments) × ((staged ≡ s) × (freed ≡ f))
+abbrev pub IsPassMark : ℕ → Pass → Mark → Type 0
+IsPassMark segments p (ScanBegin number) = HasEnded segments p
+IsPassMark segments p (Applied segment staged freed) = IsNext segments segment p
+IsPassMark segments p _ = Unit {0}
 
--- passes stand one after the other, and each Bulk has the sums of its pass. The last pass may still run
-abbrev pub PassesInOrder : ℕ → Bool → Pass → List Item → Type 0
-PassesInOrder segments running p [] = (running ≡ true) ⊎ HasEnded segments p
-PassesInOrder segments running p (Noted (ScanBegin number) ∷ h) = HasEnded segments p × PassesInOrder segments running (Scanned 0 0 0) h
-PassesInOrder segments running p (Noted (Applied segment staged freed) ∷ h) = IsNext segments segment p × PassesInOrder segments running (with_applied p staged freed) h
-PassesInOrder segments running p (Call e ∷ h) = elim e.reply [
-  | Bulk seen staged freed ↦ IsSum segments p staged freed × PassesInOrder segments running NoPass h
-  | _ ↦ PassesInOrder segments running p h
-]
-PassesInOrder segments running p (_ ∷ h) = PassesInOrder segments running p h
+abbrev pub after_pass_mark : Pass → Mark → Pass
+after_pass_mark p (ScanBegin number) = Scanned 0 0 0
+after_pass_mark p (Applied segment staged freed) = with_applied p staged freed
+after_pass_mark p _ = p
 
--- the history of a volume that was opened at a header, with its number of segments; running tells whether a pass still runs
-pub record Legal (opened segments : ℕ) (running : Bool) (first : PlainForest) (h : List Item) : Type 0 where
+-- a Bulk has the sums of its pass, which ends with it
+abbrev pub IsPassReply : ℕ → Pass → Reply → Type 0
+IsPassReply segments p (Bulk seen staged freed) = AreSums segments staged freed p
+IsPassReply segments p _ = Unit {0}
+
+abbrev pub after_pass_reply : Pass → Reply → Pass
+after_pass_reply p (Bulk seen staged freed) = Idle
+after_pass_reply p _ = p
+
+abbrev pub IsPassItem : ℕ → Pass → Item → Type 0
+IsPassItem segments p (Call e) = IsPassReply segments p e.reply
+IsPassItem segments p (Marked m) = IsPassMark segments p m
+
+abbrev pub after_pass_item : Pass → Item → Pass
+after_pass_item p (Call e) = after_pass_reply p e.reply
+after_pass_item p (Marked m) = after_pass_mark p m
+
+-- the last pass has ended too, unless it still runs
+abbrev pub EndsWell : Opening → Pass → Type 0
+EndsWell opening p = (opening.last_pass ≡ Runs) ⊎ HasEnded opening.segments p
+
+-- passes stand one after the other, and each Bulk has the sums of its pass
+pub record PassesInOrder (opening : Opening) (h : List Item) : Type 0 where
+  pub each : Each (IsPassItem opening.segments) after_pass_item Idle h
+  pub last : EndsWell opening (after after_pass_item Idle h)
+
+-- the history of a volume that was opened so, with a first forest
+pub record Legal (opening : Opening) (first : PlainForest) (h : List Item) : Type 0 where
   pub replies : RepliesAreRight first h
-  pub faults : FaultsRise 0 h
-  pub indices : (client : ℕ) → CountsUp client h
-  pub phases : PhasesRise h
-  pub flushes : FlushesInOrder opened AllDone h
-  pub moments : IsNonDecreasing (moments_of h)
-  pub scans : ScansAreLate [] h
-  pub passes : PassesInOrder segments running NoPass h
-
--- the greatest number whose header was done by a moment
-abbrev pub done_by : ℕ → ℕ → List Item → ℕ
-done_by moment n [] = n
-done_by moment n (Noted (HeaderDone number at) ∷ h) = done_by moment (cond (nat_le at moment) (max n number) n) h
-done_by moment n (_ ∷ h) = done_by moment n h
-
--- whether the header with a number was out by a moment
-abbrev pub out_by : ℕ → ℕ → List Item → Bool
-out_by moment n [] = false
-out_by moment n (Noted (HeaderOut number at) ∷ h) = cond (nat_eq number n && nat_le at moment) true (out_by moment n h)
-out_by moment n (_ ∷ h) = out_by moment n h
-
--- the headers that a power cut at a moment may leave
-abbrev pub IsLanding : ℕ → List Item → ℕ → ℕ → Type 0
-IsLanding opened h moment n = (n ≡ done_by moment opened h) ⊎ ((n ≡ done_by moment opened h + 1) × (out_by moment n h ≡ true))
-
--- the forest at the mark of a Freeze
-abbrev pub frozen_from : ℕ → PlainForest → List Item → Option PlainForest
-frozen_from n f [] = None
-frozen_from n f (Noted (Freeze number moment) ∷ h) = cond (nat_eq number n) (Some f) (frozen_from n f h)
-frozen_from n f (Call e ∷ h) = frozen_from n (after_entry f e) h
-frozen_from n f (_ ∷ h) = frozen_from n f h
-
-abbrev pub frozen_forest : ℕ → PlainForest → List Item → ℕ → Option PlainForest
-frozen_forest opened first h n = cond (nat_eq n opened) (Some first) (frozen_from n first h)
+  pub faults : FaultsRise h
+  pub indices : (client : ℕ) → client < 8 → CountsUp client h
+  pub phases : NeverFalls phase_of h
+  pub flushes : FlushesInOrder opening.number h
+  pub moments : NeverFalls moment_of h
+  pub scans : ScansAreLate h
+  pub passes : PassesInOrder opening h

@@ -4,8 +4,8 @@ ghost use Rattle.h2_forest.specs.Pfs.{made, linked, unlinked, removed, moved, li
 ghost use Rattle.h2_contents.specs.Payload.{payload_bytes};
 ghost use Rattle.h2_command.specs.Lawful.{Lawful};
 
-use crate::command::{Command, Path, Payload, Reply};
-use crate::contents::Contents;
+use h2_command::{Command, Path, Payload, Reply};
+use h2_contents::Contents;
 use crate::directory::Directory;
 use crate::handles::Handles;
 use crate::pfs::{Pfs, follow};
