@@ -17,9 +17,11 @@ some_same y x g = cc
 
 -- what is left from a place on
 left_is : (h : List Item) (i : ℕ) (x : Item) → i < length h → x ≡ get_or h i x → drop i h ≡ x ∷ drop (i + 1) h
-left_is [] i x lt is = absurd (omega arith)
-left_is (y ∷ h) zero x lt is = ap (λ z. z ∷ h) (sym is)
-left_is (y ∷ h) (suc i) x lt is = left_is h i x (omega arith) is
+left_is h i x lt is = rw add-one (drop-cons h i x lt ∙ ap (λ z. z ∷ drop (suc i) h) (sym is))
+
+-- one more item is taken
+one_taken : (h : List Item) (i : ℕ) (x : Item) → i < length h → x ≡ get_or h i x → take (i + 1) h ≡ take i h ++ x ∷ []
+one_taken h i x lt is = take_more h i x lt ∙ ap (λ y. take i h ++ y ∷ []) (sym is)
 
 none_left : (h : List Item) (i : ℕ) → length h ≤ i → drop i h ≡ []
 none_left [] zero ge = refl
@@ -55,8 +57,16 @@ module _ {S : Type 0} (allowed : S → Item → Type 0) (next : S → Item → S
 
   -- the first of what is left isn't allowed
   pub each_fails : (s : S) (h : List Item) (i : ℕ) (x : Item) (P : Type 0) → i < length h → x ≡ get_or h i x → (Each allowed next s (drop i h) ↔ P) → (allowed s x → ⊥) → P → ⊥
-  each_fails s h i x P lt is e no p = no ((subst (Each allowed next s) (left_is h i x lt is) (e.1 p)).0)
+  each_fails s h i x P lt is e never p = never ((subst (Each allowed next s) (left_is h i x lt is) (e.1 p)).0)
 
   -- nothing is left
   pub each_ends : (s : S) (h : List Item) (i : ℕ) (P : Type 0) → length h ≤ i → (Each allowed next s (drop i h) ↔ P) → P
   each_ends s h i P ge e = e.0 (subst (Each allowed next s) (sym (none_left h i ge)) tt)
+
+  -- the state after the items up to a place, and the one there
+  pub after_taken : (s : S) (h : List Item) (i : ℕ) (x : Item) → i < length h → x ≡ get_or h i x → after next s (take (i + 1) h) ≡ next (after next s (take i h)) x
+  after_taken s h i x lt is = ap (after next s) (one_taken h i x lt is) ∙ after_push s (take i h) x
+
+  -- each of the items up to a place, and the one there
+  pub each_taken : (s : S) (h : List Item) (i : ℕ) (x : Item) → i < length h → x ≡ get_or h i x → Each allowed next s (take i h) → allowed (after next s (take i h)) x → Each allowed next s (take (i + 1) h)
+  each_taken s h i x lt is e a = subst (Each allowed next s) (sym (one_taken h i x lt is)) (each_push s (take i h) x e a)

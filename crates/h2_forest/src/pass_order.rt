@@ -1,4 +1,4 @@
-ghost use Rattle.std.specs.Prelude.{◌≡◌, ◌↔◌, ◌×◌, IsTrue, IfOk, OnOk, OnErr};
+ghost use Rattle.std.specs.Prelude.{◌≡◌, ◌↔◌, IsTrue, IfOk, OnOk, OnErr};
 ghost use Rattle.h2_forest.specs.History.{IsLateScan, after_durable, ScansAreLate, HasEnded, IsNext, AreSums, with_applied, IsPassMark, after_pass_mark, IsPassReply, after_pass_reply, IsPassItem, after_pass_item, EndsWell, PassesInOrder};
 ghost use Rattle.h2_forest.specs.HistoryLaws.{SumsFit};
 
