@@ -1,6 +1,6 @@
 pub mod Payload
 pub mod Bytes
-pub mod Changes
-pub mod ChangeLaws
+pub mod ByteLaws
 pub mod Windows
-pub mod WindowLaws
+pub mod Pages
+pub mod PageLaws

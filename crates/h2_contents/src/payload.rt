@@ -1,6 +1,6 @@
-ghost use Rattle.std.specs.Prelude.{◌≡◌, ◌<◌, ◌≤◌, ◌+◌, ◌^◌, ℕ, length, slice_index, IfOk};
+ghost use Rattle.std.specs.Prelude.{◌≡◌, ◌<◌, ◌≤◌, ◌+◌, ◌^◌, ℕ, length, slice_index, replicate, IfOk, IfSome};
 ghost use Rattle.h2_contents.specs.Payload.{payload_bytes};
-ghost use Rattle.h2_contents.specs.Windows.{laid};
+ghost use Rattle.h2_contents.specs.Windows.{laid, LaysInto};
 
 use h2_num::{Bytes, NoMemory};
 use std::alloc::Global;
@@ -8,8 +8,44 @@ use std::alloc::Global;
 /// The bytes of a write.
 #[derive(Drop, Debug)]
 pub enum Payload {
+    /// These bytes.
     Plain(Bytes),
+    /// One byte so many times.
     Repeat { count: u32, byte: u8 },
+}
+
+/// Lays bytes that stand at `off` of a file into a window on it that begins at `start`.
+fn lay_bytes(bytes: &[u8], off: u64, window: &mut [u8], start: u64)
+    requires { start + length window.old ≤ 2 ^ 41 }
+    ensures { LaysInto off bytes.now start window.old window.new }
+{
+    let from = off.max(start);
+    let end = off
+        .saturating_add(bytes.len() as u64)
+        .min(start + window.len() as u64);
+    if from >= end {
+        return;
+    }
+    for at in from..end {
+        window[(at - start) as usize] = bytes[(at - off) as usize];
+    }
+}
+
+/// Lays one byte, which stands `count` times from `off` of a file on, into a window that begins at `start`.
+fn lay_repeated(count: u32, byte: u8, off: u64, window: &mut [u8], start: u64)
+    requires { start + length window.old ≤ 2 ^ 41 }
+    ensures { LaysInto off (replicate count byte) start window.old window.new }
+{
+    let from = off.max(start);
+    let end = off
+        .saturating_add(count as u64)
+        .min(start + window.len() as u64);
+    if from >= end {
+        return;
+    }
+    for at in from..end {
+        window[(at - start) as usize] = byte;
+    }
 }
 
 impl Payload {
@@ -36,31 +72,33 @@ impl Payload {
         }
     }
 
-    /// The byte at a place.
-    fn byte(&self, at: usize) -> u8
-        requires { at < length (payload_bytes self.now) }
-        ensures { result ≡ slice_index (payload_bytes self.now) at }
+    /// Lays the bytes, which stand at `off` of a file, into a window on it that begins at `start`. The
+    /// window ends at 2^41 at most.
+    pub fn lay(&self, off: u64, window: &mut [u8], start: u64)
+        requires { start + length window.old ≤ 2 ^ 41 }
+        ensures { LaysInto off (payload_bytes self.now) start window.old window.new }
     {
         match self {
-            Payload::Plain(bytes) => bytes.as_slice()[at],
-            Payload::Repeat { count: _, byte } => *byte,
+            Payload::Plain(bytes) => lay_bytes(bytes.as_slice(), off, window, start),
+            Payload::Repeat { count, byte } => lay_repeated(*count, *byte, off, window, start),
         }
     }
 
-    /// Lays the bytes at a place of the file into a window on it, which begins at another.
-    pub fn lay(&self, window: &mut [u8], start: u64, off: u64)
-        requires { start + length window.old ≤ 2 ^ 40 }
-        ensures { (k : ℕ) → k < length window.new → slice_index window.new k ≡ laid off (payload_bytes self.now) (start + k) (slice_index window.old k) }
+    /// The byte that stands at each place of the page that begins at `start`, where the bytes stand at
+    /// `off` and repeat one byte over the whole page.
+    pub(crate) fn byte_of_page(&self, off: u64, start: u64) -> Option<u8>
+        requires { start ≤ 2 ^ 40 }
+        ensures { IfSome result (λ byte. (k : ℕ) → k < 16384 → (old : ℕ) → laid off (payload_bytes self.now) (start + k) old ≡ byte) }
     {
-        let from = off.max(start);
-        let end = off
-            .saturating_add(self.len() as u64)
-            .min(start + window.len() as u64);
-        if from >= end {
-            return;
+        let Payload::Repeat { count, byte } = self else {
+            return None;
+        };
+        if off > start {
+            return None;
         }
-        for at in from..end {
-            window[(at - start) as usize] = self.byte((at - off) as usize);
+        if off + (*count as u64) < start + 16384 {
+            return None;
         }
+        Some(*byte)
     }
 }

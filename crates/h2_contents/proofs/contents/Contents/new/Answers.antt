@@ -1,11 +1,9 @@
-use Rattle.std.proofs.Common.{◌≡◌, arith, ap, sym, ◌∙◌, [], length, refl, lit≤}
-use Rattle.h2_contents.specs.Changes.{after_changes, IsKept}
-use Rattle.h2_contents.specs.ChangeLaws.{nothing_kept}
+use Rattle.h2_contents.specs.Pages.{byte_in}
+use Rattle.h2_contents.specs.PageLaws.{kept_nothing, no_bytes}
 use Rattle.h2_contents.proofs.contents.Contents.new.Goals as goal
 
 pub invariant_of-result : goal.invariant_of-result
-invariant_of-result c = rw c.new.ensures.items nothing_kept
+invariant_of-result c = kept_nothing c.new.result c.new.ensures
 
 pub returns : goal.returns
-unfolding after_changes
-returns c = ap (after_changes []) c.new.ensures.items
+returns c = no_bytes (byte_in c.new.result)

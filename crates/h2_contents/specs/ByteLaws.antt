@@ -1,16 +1,17 @@
--- What a change does byte by byte.
-use Rattle.std.specs.Prelude.{◌≡◌, ◌⊎◌, ℕ, zero, suc, ◌+◌, ◌-◌, ◌<◌, ◌≤◌, min, List, [], ◌∷◌, ◌++◌, length, take, drop, replicate, cond, Bool, true, false, nat_lt, nat_le, ◌&&◌, refl}
+-- What a read, a write and a cut do byte by byte.
+use Rattle.std.specs.Prelude.{◌≡◌, ◌⊎◌, ℕ, zero, suc, ◌+◌, ◌-◌, ◌<◌, ◌≤◌, min, max, List, [], ◌∷◌, ◌++◌, length, take, drop, replicate, cond, Bool, true, false, nat_lt, nat_le, ◌&&◌, refl}
 use Rattle.std.proofs.Common.{arith, ap, sym, ◌∙◌, inl, inr, get_or, length-append, length-take, length-drop}
 use Rattle.std.proofs.lemmas.Bool.{cases_lt}
 use Rattle.std.proofs.lemmas.Bool.Decides.{nat_tests}
 use Rattle.std.proofs.lemmas.List.{length-replicate, get_or-take, get_or-drop, get_or_append_left, get_or-append_right, get_or_past, ext_get_or, take_more}
-use Rattle.h2_contents.specs.declared.contents.Change.{Change}
-use Rattle.h2_contents.specs.declared.contents.Change.TheVariants.{Put, Cut}
-use Rattle.h2_contents.specs.Payload.{payload_bytes}
 use Rattle.h2_contents.specs.Bytes.{grown, written_at, cut_to, read_at}
-use Rattle.h2_contents.specs.Changes.{changed, after_changes}
-use Rattle.h2_contents.specs.ChangeLaws.{length-written_at, one_more_change}
-use Rattle.h2_contents.specs.Windows.{laid, byte_after}
+use Rattle.h2_contents.specs.Windows.{laid}
+
+pub length-written_at : (bytes : List ℕ) (off : ℕ) (new : List ℕ) → length (written_at bytes off new) ≡ max (length bytes) (off + length new)
+length-written_at bytes off new = simp (length-append, length-take, length-drop, length-replicate) (omega arith)
+
+pub length-cut_to : (bytes : List ℕ) (size : ℕ) → length (cut_to bytes size) ≡ size
+length-cut_to bytes size = simp (length-append, length-take, length-replicate) (omega arith)
 
 zeros : (n i : ℕ) → get_or {A = ℕ} (replicate n 0) i 0 ≡ 0
 zeros zero i = refl
@@ -75,26 +76,11 @@ byte_written bytes off new i = elim (cases_lt i off) [
     ]
 ]
 
--- a byte of the file after a change
-pub byte_changed : (bytes : List ℕ) (c : Change) (i : ℕ) → get_or (changed bytes c) i 0 ≡ byte_after c i (get_or bytes i 0)
-byte_changed bytes (Put off payload) i = byte_written bytes off (payload_bytes payload) i
-byte_changed bytes (Cut size) i = byte_cut bytes size i
-
 -- a window that has each byte of the file from a place on is what is read there
 pub window_is_read : (bytes window : List ℕ) (off len : ℕ) → length window ≡ min (length bytes - off) len → ((k : ℕ) → k < length window → get_or window k 0 ≡ get_or bytes (off + k) 0) → window ≡ read_at bytes off len
 window_is_read bytes window off len size same = ext_get_or 0 window (read_at bytes off len)
     (size ∙ sym (length-take len (drop off bytes) ∙ ap (λ n. min len n) (length-drop off bytes) ∙ omega arith))
     (λ i lt. same i lt ∙ sym (get_or-take len (drop off bytes) i 0 (omega arith) ∙ get_or-drop off bytes i 0))
-
-pub byte_of_none : (i : ℕ) → 0 ≡ get_or (after_changes [] []) i 0
-unfolding after_changes
-byte_of_none i = refl
-
--- a byte after one more change
-pub next_byte : (changes : List Change) (i : ℕ) (x : Change) → i < length changes → x ≡ get_or changes i x → (at old : ℕ) → old ≡ get_or (after_changes [] (take i changes)) at 0 → byte_after x at old ≡ get_or (after_changes [] (take (i + 1) changes)) at 0
-next_byte changes i x lt is at old e =
-    ap (byte_after x at) e ∙ sym (byte_changed (after_changes [] (take i changes)) x at)
-    ∙ sym (ap (λ cs. get_or (after_changes [] cs) at 0) (take_more changes i x lt ∙ ap (λ y. take i changes ++ y ∷ []) (sym is)) ∙ ap (λ bs. get_or bs at 0) (one_more_change [] (take i changes) x))
 
 pub read_past : (bytes : List ℕ) (off len : ℕ) → length bytes ≤ off → [] ≡ read_at bytes off len
 read_past bytes off len h = ext_get_or 0 [] (read_at bytes off len) (sym (length-take len (drop off bytes) ∙ ap (λ n. min len n) (length-drop off bytes) ∙ omega arith)) (λ i lt. absurd (omega arith))
