@@ -1,4 +1,4 @@
-ghost use Rattle.std.specs.Prelude.{◌≡◌, ◌<◌, length, IfOk, OnOk, OnErr, Some, None, MatchOption, slice_index_or, is_some, ℕ};
+ghost use Rattle.std.specs.Prelude.{◌≡◌, ◌<◌, ◌≤◌, length, IfOk, OnOk, OnErr, Some, None, MatchOption, slice_index_or, is_some, ℕ};
 ghost use Rattle.h2_forest.specs.Forest.{answer, fresh, pfs_named, pfs_with_id, in_pfs, ask_pfs, opened, write_reply, cut_reply, snapshot_reply, create_reply, delete_reply, with_pfs, bare_table};
 ghost use Rattle.h2_forest.specs.Pfs.{made, linked, unlinked, removed, moved, listed, stated};
 ghost use Rattle.h2_contents.specs.Payload.{payload_bytes};
@@ -111,7 +111,8 @@ impl Forest {
         client: u32,
         command: &Command,
     ) -> Result<Reply, NoMemory>
-        requires { Lawful command.now }
+        requires client { client < 8 }
+        requires lawful { Lawful command.now }
         ensures ok { IfOk result (λ reply. (reply, self.new) ≡ answer self.old client command.now) }
         ensures err { OnErr result (self.new ≡ self.old) }
     {
@@ -283,6 +284,7 @@ impl Forest {
         off: u64,
         payload: &Payload,
     ) -> Result<Reply, NoMemory>
+        requires { length (payload_bytes payload.now) ≤ 1048576 }
         ensures ok { IfOk result (λ reply. (reply, self.new) ≡ write_reply self.old (opened self.old client handle) off (payload_bytes payload.now)) }
         ensures err { OnErr result (self.new ≡ self.old) }
     {
@@ -292,9 +294,7 @@ impl Forest {
         let Some((at, _)) = find_id(&self.list, id) else {
             return Ok(Reply::NoHandle);
         };
-        let Ok(count) = u32::try_from(payload.len()) else {
-            return Err(NoMemory);
-        };
+        let count = payload.len() as u32;
         if off > SIZE_LIMIT {
             return Ok(Reply::Long);
         }
@@ -304,8 +304,7 @@ impl Forest {
         if count == 0 {
             return Ok(Reply::Wrote(0));
         }
-        let copy = payload.copy(alloc)?;
-        self.list[at].table.write(alloc, inode, off, copy)?;
+        self.list[at].table.write(alloc, inode, off, payload)?;
         Ok(Reply::Wrote(count))
     }
 

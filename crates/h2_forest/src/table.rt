@@ -42,24 +42,27 @@ impl Node {
         }
     }
 
-    fn write(&mut self, off: u64, payload: Payload) -> Result<(), NoMemory>
-        requires { off + length (payload_bytes payload) ≤ 2 ^ 40 }
-        ensures ok { OnOk result (self.new ≡ with_bytes (λ bytes. written_at bytes off (payload_bytes payload)) self.old) }
+    /// Puts bytes at a place of a file; a directory stays. Want of memory changes nothing.
+    fn write(&mut self, alloc: Global, off: u64, payload: &Payload) -> Result<(), NoMemory>
+        requires few { length (payload_bytes payload.now) ≤ 1048576 }
+        requires within { off + length (payload_bytes payload.now) ≤ 2 ^ 40 }
+        ensures ok { OnOk result (self.new ≡ with_bytes (λ bytes. written_at bytes off (payload_bytes payload.now)) self.old) }
         ensures err { OnErr result (self.new ≡ self.old) }
     {
         match self {
-            Node::File(contents, _) => contents.write(off, payload),
+            Node::File(contents, _) => contents.write(alloc, off, payload),
             Node::Directory(_) => Ok(()),
         }
     }
 
-    fn cut(&mut self, size: u64) -> Result<(), NoMemory>
+    /// Gives a file a size; a directory stays. Want of memory changes nothing.
+    fn cut(&mut self, alloc: Global, size: u64) -> Result<(), NoMemory>
         requires { size ≤ 2 ^ 40 }
         ensures ok { OnOk result (self.new ≡ with_bytes (λ bytes. cut_to bytes size) self.old) }
         ensures err { OnErr result (self.new ≡ self.old) }
     {
         match self {
-            Node::File(contents, _) => contents.cut(size),
+            Node::File(contents, _) => contents.cut(alloc, size),
             Node::Directory(_) => Ok(()),
         }
     }
@@ -248,17 +251,18 @@ impl Table {
         alloc: Global,
         number: u64,
         off: u64,
-        payload: Payload,
+        payload: &Payload,
     ) -> Result<(), NoMemory>
-        requires { off + length (payload_bytes payload) ≤ 2 ^ 40 }
-        ensures ok { OnOk result (self.new ≡ rewritten self.old number (λ bytes. written_at bytes off (payload_bytes payload))) }
+        requires few { length (payload_bytes payload.now) ≤ 1048576 }
+        requires within { off + length (payload_bytes payload.now) ≤ 2 ^ 40 }
+        ensures ok { OnOk result (self.new ≡ rewritten self.old number (λ bytes. written_at bytes off (payload_bytes payload.now))) }
         ensures err { OnErr result (self.new ≡ self.old) }
     {
         if self.node(number).is_none() {
             return Ok(());
         }
         let mut node = self.replace(number, Node::File(Contents::new(alloc), 0));
-        let done = node.write(off, payload);
+        let done = node.write(alloc, off, payload);
         let _ = self.replace(number, node);
         done
     }
@@ -273,7 +277,7 @@ impl Table {
             return Ok(());
         }
         let mut node = self.replace(number, Node::File(Contents::new(alloc), 0));
-        let done = node.cut(size);
+        let done = node.cut(alloc, size);
         let _ = self.replace(number, node);
         done
     }

@@ -14,7 +14,7 @@ pub returns-clause-ok : goal.returns-clause-ok
 returns-clause-ok c = on_ok c.write-done.result (λ e.
     put_back c.args.self.now c.replace-node.new.self c.replace.new.self c.args.number _ _ c.replace-node.ensures.after c.replace.ensures.after
     ∙ ap (λ node. map.insert c.args.self.now c.args.number node) e
-    ∙ sym (changed_is c.args.self.now c.args.number c.replace-node.result (with_bytes (λ bytes. written_at bytes c.args.off (payload_bytes c.args.payload))) c.replace-node.ensures.before)) c.write-done.ensures.ok
+    ∙ sym (changed_is c.args.self.now c.args.number c.replace-node.result (with_bytes (λ bytes. written_at bytes c.args.off (payload_bytes c.args.payload.now))) c.replace-node.ensures.before)) c.write-done.ensures.ok
 
 pub returns-clause-err : goal.returns-clause-err
 returns-clause-err c = on_err c.write-done.result (λ e.
