@@ -26,7 +26,11 @@ pub enum Command {
     /// Closes a handle.
     Close(u32),
     /// Reads at most `len` bytes from the place `off` on.
-    ReadAt { handle: u32, off: u64, len: u32 },
+    ReadAt {
+        handle: u32,
+        off: u64,
+        len: u32,
+    },
     /// Writes bytes at the place `off`.
     WriteAt {
         handle: u32,
@@ -34,13 +38,19 @@ pub enum Command {
         payload: Payload,
     },
     /// Makes a file's size smaller or larger.
-    Cut { handle: u32, size: u64 },
+    Cut {
+        handle: u32,
+        size: u64,
+    },
     /// Makes all that was done durable.
     Sync,
     /// Runs a pass that frees what is unused.
     Bulkfree,
     /// Makes a new PFS with what another has.
-    Snapshot { source: Name, name: Name },
+    Snapshot {
+        source: Name,
+        name: Name,
+    },
     /// Makes an empty PFS.
     PfsCreate(Name),
     /// Takes a PFS away.

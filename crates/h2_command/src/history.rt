@@ -23,15 +23,30 @@ pub struct Entry {
 #[derive(Clone, Copy, Debug, PartialEq, Eq)]
 pub enum Mark {
     /// All that is dirty was frozen, for this header.
-    Freeze { number: u64, moment: u64 },
+    Freeze {
+        number: u64,
+        moment: u64,
+    },
     /// A write of the header began, at this moment; it may have failed.
-    HeaderOut { number: u64, moment: u64 },
+    HeaderOut {
+        number: u64,
+        moment: u64,
+    },
     /// The header is durable: its sync succeeded, and reached this moment.
-    HeaderDone { number: u64, moment: u64 },
+    HeaderDone {
+        number: u64,
+        moment: u64,
+    },
     /// A pass begins to scan what was frozen for this header.
-    ScanBegin { number: u64 },
+    ScanBegin {
+        number: u64,
+    },
     /// The pass applied what it saw to a segment: so many chunks were staged, and so many freed.
-    Applied { segment: u32, staged: u32, freed: u32 },
+    Applied {
+        segment: u32,
+        staged: u32,
+        freed: u32,
+    },
 }
 
 /// One thing that happened.

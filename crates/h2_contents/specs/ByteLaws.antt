@@ -71,9 +71,9 @@ pub byte_written : (bytes : List ℕ) (off : ℕ) (new : List ℕ) (i : ℕ) →
 byte_written bytes off new i = elim (cases_lt i off) [
   | inl lt ↦ before_new bytes off new i lt ∙ outside_test off i (length new) (get_or new (i - off) 0) (get_or bytes i 0) (inl lt)
   | inr ge ↦ elim (cases_lt i (off + length new)) [
-      | inl lt ↦ in_new bytes off new i ge lt ∙ inside_test off i (length new) (get_or new (i - off) 0) (get_or bytes i 0) ge lt
-      | inr far ↦ after_new bytes off new i far ∙ outside_test off i (length new) (get_or new (i - off) 0) (get_or bytes i 0) (inr far)
-    ]
+    | inl lt ↦ in_new bytes off new i ge lt ∙ inside_test off i (length new) (get_or new (i - off) 0) (get_or bytes i 0) ge lt
+    | inr far ↦ after_new bytes off new i far ∙ outside_test off i (length new) (get_or new (i - off) 0) (get_or bytes i 0) (inr far)
+  ]
 ]
 
 -- a window that has each byte of the file from a place on is what is read there

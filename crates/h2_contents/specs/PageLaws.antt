@@ -177,8 +177,10 @@ cut_without old m size none keeps i = elim (cases_lt i size) [
   where
     lt_true : (a b : ℕ) → a < b → nat_lt a b ≡ true
     lt_true a b h = grind (arith, nat_tests)
+
     lt_false : (a b : ℕ) → b ≤ a → nat_lt a b ≡ false
     lt_false a b h = grind (arith, nat_tests)
+
     gone : (i / 16384 < size / 16384 + 1) ⊎ (size / 16384 + 1 ≤ i / 16384) → size ≤ i → page_byte (cond (nat_lt (i / 16384) (size / 16384 + 1)) (get old (i / 16384)) None) (i % 16384) ≡ 0
     gone (inl here) from = ap (λ o. page_byte o (i % 16384)) (cond_true _ _ _ (lt_true _ _ here) ∙ ap (get old) (let e : i / 16384 ≡ size / 16384 = omega arith in e) ∙ none)
     gone (inr past) from = ap (λ o. page_byte o (i % 16384)) (cond_false _ _ _ (lt_false _ _ past))
@@ -220,6 +222,7 @@ cut_with old m size page cut keeps i = elim (cases_eq (i / 16384) (size / 16384)
     within : i / 16384 ≡ size / 16384 → (i < size) ⊎ (size ≤ i) → cond (nat_lt (i % 16384) (size % 16384)) (byte_in old i) 0 ≡ cond (nat_lt i size) (byte_in old i) 0
     within at (inl below) = lt_yes (i % 16384) (size % 16384) (byte_in old i) 0 (omega arith) ∙ sym (lt_yes i size (byte_in old i) 0 below)
     within at (inr from) = lt_no (i % 16384) (size % 16384) (byte_in old i) 0 (omega arith) ∙ sym (lt_no i size (byte_in old i) 0 from)
+
     elsewhere : (i / 16384 ≡ size / 16384 → ⊥) → (i < size) ⊎ (size ≤ i) → page_byte (cond (nat_lt (i / 16384) (size / 16384 + 1)) (get old (i / 16384)) None) (i % 16384) ≡ cond (nat_lt i size) (byte_in old i) 0
     elsewhere else (inl below) = ap (λ o. page_byte o (i % 16384)) (cond_true _ _ _ (kept_test (i / 16384) (size / 16384 + 1) (omega arith))) ∙ sym (lt_yes i size (byte_in old i) 0 below)
     elsewhere else (inr from) = ap (λ o. page_byte o (i % 16384)) (cond_false _ _ _ (gone_test (i / 16384) (size / 16384 + 1) (past else from))) ∙ sym (lt_no i size (byte_in old i) 0 from)

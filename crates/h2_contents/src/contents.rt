@@ -76,12 +76,7 @@ impl Contents {
 
     /// Puts at most 1,048,576 bytes at a place, over zeros where nothing was. Want of memory changes
     /// nothing.
-    pub fn write(
-        &mut self,
-        alloc: Global,
-        off: u64,
-        payload: &Payload,
-    ) -> Result<(), NoMemory>
+    pub fn write(&mut self, alloc: Global, off: u64, payload: &Payload) -> Result<(), NoMemory>
         requires few { length (payload_bytes payload.now) ≤ 1048576 }
         requires within { off + length (payload_bytes payload.now) ≤ 2 ^ 40 }
         ensures ok { OnOk result (self.new ≡ written_at self.old off (payload_bytes payload.now)) }

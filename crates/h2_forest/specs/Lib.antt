@@ -9,6 +9,7 @@ pub mod Forest
 pub mod Codes
 pub mod History
 pub mod HistoryLaws
+pub mod Parts
 pub mod Landing
 pub mod Whole
 pub mod Replay

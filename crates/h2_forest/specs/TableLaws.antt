@@ -42,7 +42,6 @@ some_of None h = h
 pub stands : (t : Table) (n : ℕ) → IsSome (entries_at t n) → IsSome (get t n)
 stands t n h = some_of (get t n) h
 
-
 pub none_here : (o : Option Node) → o ≡ None → IsSome o → ⊥
 none_here None e h = cc
 none_here (Some x) e h = cc

@@ -1,23 +1,28 @@
 ghost use Rattle.std.specs.Prelude.{◌≡◌, ◌<◌, ◌≤◌, length, IfOk, OnOk, OnErr, Some, None, MatchOption, slice_index_or, is_some, ℕ};
+ghost use Rattle.std.specs.FinMap as map;
 ghost use Rattle.h2_forest.specs.Forest.{answer, fresh, pfs_named, pfs_with_id, in_pfs, ask_pfs, opened, write_reply, cut_reply, snapshot_reply, create_reply, delete_reply, with_pfs, bare_table};
 ghost use Rattle.h2_forest.specs.Pfs.{made, linked, unlinked, removed, moved, listed, stated};
 ghost use Rattle.h2_contents.specs.Payload.{payload_bytes};
 ghost use Rattle.h2_command.specs.Lawful.{Lawful};
 
-use h2_command::{Command, Path, Payload, Reply};
-use h2_contents::Contents;
 use crate::directory::Directory;
 use crate::handles::Handles;
 use crate::pfs::{Pfs, follow};
+use crate::pfs_list::{find_id, find_pfs, has_name};
 use crate::table::{Node, Table};
+use h2_command::{Command, Path, Payload, Reply};
+use h2_contents::Contents;
 use h2_num::{Bytes, Name, Names, NoMemory};
 use std::alloc::Global;
 use std::marker::Model;
 
+/// The most PFSs.
+const PFSS: usize = 64;
+
 /// The most bytes that a file has.
 const SIZE_LIMIT: u64 = 1_099_511_627_776;
 
-/// The plain forest with the open handles.
+/// The plain forest with the open handles: what the volume is for those who use it.
 #[derive(Drop)]
 pub struct Forest {
     next_pfs: u64,
@@ -37,42 +42,9 @@ impl Model for Forest {
     ghost view = { λ f. record { next_pfs = f.next_pfs; pfss = f.list.items; handles = f.handles } };
 }
 
-/// The PFS with a name, and its place in the list.
-fn find_pfs<'a>(list: &'a [Pfs], name: &Name) -> Option<(usize, &'a Pfs)>
-    ensures { MatchOption result (pfs_named name.now list.now ≡ None) (λ found. (pfs_named name.now list.now ≡ Some (found.0, found.1.now)) × ((found.0 < length list.now) × ((d : Pfs) → slice_index_or list.now found.0 d ≡ found.1.now))) }
-{
-    for (i, pfs) in list.iter().enumerate() {
-        if pfs.name == *name {
-            return Some((i, pfs));
-        }
-    }
-    None
-}
-
-/// The PFS with an id, and its place in the list.
-fn find_id(list: &[Pfs], id: u64) -> Option<(usize, &Pfs)>
-    ensures { MatchOption result (pfs_with_id id list.now ≡ None) (λ found. (pfs_with_id id list.now ≡ Some (found.0, found.1.now)) × ((found.0 < length list.now) × ((d : Pfs) → slice_index_or list.now found.0 d ≡ found.1.now))) }
-{
-    for (i, pfs) in list.iter().enumerate() {
-        if pfs.id == id {
-            return Some((i, pfs));
-        }
-    }
-    None
-}
-
-/// Whether a PFS has a name.
-fn has_name(list: &[Pfs], name: &Name) -> bool
-    ensures { result ≡ is_some (pfs_named name.now list.now) }
-{
-    match find_pfs(list, name) {
-        Some(_) => true,
-        None => false,
-    }
-}
-
 impl Forest {
-    /// The forest of a formatted volume.
+    /// The forest of a formatted volume: a PFS `ROOT` with an empty root directory. The error is want of
+    /// memory.
     pub fn fresh(alloc: Global) -> Result<Forest, NoMemory>
         ensures { IfOk result (λ f. f ≡ fresh) }
     {
@@ -104,7 +76,23 @@ impl Forest {
         Ok(())
     }
 
-    /// The reply to a command, and the change that it makes.
+    /// A forest of these PFSs, in the order of their ids, without open handles. The next PFS gets the id
+    /// `next_pfs`.
+    pub fn of_pfss(alloc: Global, next_pfs: u64, list: Vec<Pfs>) -> Forest
+        ensures next_pfs { result.next_pfs ≡ next_pfs }
+        ensures pfss { result.pfss ≡ list.items }
+        ensures closed { result.handles ≡ map.empty }
+    {
+        Forest {
+            next_pfs,
+            list,
+            handles: Handles::new(alloc),
+        }
+    }
+
+    /// The reply of the plain forest to a client's command, and the change that it makes. The client is below
+    /// 8, and the command is lawful. Sync and Bulkfree are done and change nothing here. Want of memory
+    /// changes nothing.
     pub fn apply(
         &mut self,
         alloc: Global,
@@ -308,13 +296,7 @@ impl Forest {
         Ok(Reply::Wrote(count))
     }
 
-    fn cut(
-        &mut self,
-        alloc: Global,
-        client: u32,
-        handle: u32,
-        size: u64,
-    ) -> Result<Reply, NoMemory>
+    fn cut(&mut self, alloc: Global, client: u32, handle: u32, size: u64) -> Result<Reply, NoMemory>
         ensures ok { IfOk result (λ reply. (reply, self.new) ≡ cut_reply self.old (opened self.old client handle) size) }
         ensures err { OnErr result (self.new ≡ self.old) }
     {
@@ -341,7 +323,7 @@ impl Forest {
         if has_name(&self.list, name) {
             return Ok(Reply::Exists);
         }
-        if self.list.len() >= 64 {
+        if self.list.len() >= PFSS {
             return Ok(Reply::Full);
         }
         let next = from.next;
@@ -357,7 +339,7 @@ impl Forest {
         if has_name(&self.list, name) {
             return Ok(Reply::Exists);
         }
-        if self.list.len() >= 64 {
+        if self.list.len() >= PFSS {
             return Ok(Reply::Full);
         }
         let table = bare_table(alloc)?;

@@ -1,6 +1,6 @@
 ghost use Rattle.std.specs.Prelude.{◌≡◌, ◌↔◌, ◌<◌, ◌^◌, ℕ, IsTrue, IfOk, All, length};
 ghost use Rattle.h2_command.specs.Lawful.{IsLawfulItem};
-ghost use Rattle.h2_forest.specs.History.{RepliesAreRight, FaultsRise, CountsUp, NeverFalls, phase_of, moment_of, FlushesInOrder, ScansAreLate, PassesInOrder};
+ghost use Rattle.h2_forest.specs.History.{Legal, RepliesAreRight, FaultsRise, CountsUp, NeverFalls, phase_of, moment_of, FlushesInOrder, ScansAreLate, PassesInOrder};
 
 use crate::flush_order::flushes_are_in_order;
 use crate::forest::Forest;
@@ -45,6 +45,22 @@ pub fn judge(
         scans,
         passes: passes_are_in_order(opening, items),
     })
+}
+
+/// Whether a history is legal for a volume that was opened so with a first forest. The history has fewer
+/// than 2^32 items, and each is lawful. The error is want of memory.
+pub fn is_legal(
+    alloc: Global,
+    opening: Opening,
+    first: Forest,
+    history: &History,
+) -> Result<bool, NoMemory>
+    requires lawful { All IsLawfulItem history.now.items }
+    requires short { length history.now.items < 2 ^ 32 }
+    ensures { IfOk result (λ legal. IsTrue legal ↔ Legal opening first history.now.items) }
+{
+    let legality = judge(alloc, opening, first, history)?;
+    Ok(legality.is_legal())
 }
 
 fn is_same(told: Replay) -> bool

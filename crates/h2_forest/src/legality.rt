@@ -1,3 +1,6 @@
+ghost use Rattle.std.specs.Prelude.{◌≡◌};
+ghost use Rattle.h2_forest.specs.Parts.{all_hold};
+
 /// Whether a run's last pass of bulkfree has ended.
 #[derive(Clone, Copy, Debug, PartialEq, Eq)]
 pub enum LastPass {
@@ -71,7 +74,9 @@ pub struct Legality {
 
 impl Legality {
     /// Whether all parts hold.
-    pub fn is_legal(&self) -> bool {
+    pub fn is_legal(&self) -> bool
+        ensures { result ≡ all_hold self.now }
+    {
         self.replies
             && self.faults
             && self.indices

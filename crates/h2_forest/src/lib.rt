@@ -16,6 +16,7 @@ mod judging;
 mod legality;
 mod pass_order;
 mod pfs;
+mod pfs_list;
 mod replay_result;
 mod replaying;
 mod table;
@@ -26,7 +27,7 @@ pub use h2_command::{Command, Entry, History, Item, Mark, Path, Payload, Reply, 
 pub use h2_contents::Contents;
 pub use h2_num::{Bytes, Name, Names};
 pub use handles::Handles;
-pub use judging::judge;
+pub use judging::{is_legal, judge};
 pub use legality::{LastPass, Legality, Opening};
 pub use pfs::Pfs;
 pub use replay_result::Replay;

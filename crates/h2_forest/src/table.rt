@@ -6,9 +6,9 @@ ghost use Rattle.h2_forest.specs.Table.{entries_at, entered, left, looked_up, re
 ghost use Rattle.h2_contents.specs.Bytes.{written_at, cut_to};
 ghost use Rattle.h2_contents.specs.Payload.{payload_bytes};
 
+use crate::directory::Directory;
 use h2_command::{Payload, Reply};
 use h2_contents::Contents;
-use crate::directory::Directory;
 use h2_num::{Name, NoMemory};
 use std::alloc::Global;
 use std::collections::BTreeMap;

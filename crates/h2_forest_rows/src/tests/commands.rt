@@ -16,7 +16,11 @@ fn short_number(words: &[&str], i: usize) -> Result<u32, Fail> {
 }
 
 pub fn name(alloc: Global, text: &str) -> Result<Name, Fail> {
-    Ok(Name::from_slice(alloc, text.as_bytes()).ok().ok_or("memory")?)
+    Ok(
+        Name::from_slice(alloc, text.as_bytes())
+            .ok()
+            .ok_or("memory")?,
+    )
 }
 
 /// A name; `a*64` is the letter 64 times.
@@ -38,7 +42,10 @@ fn path(alloc: Global, words: &[&str], i: usize) -> Result<Path, Fail> {
     let mut names = Names::new(alloc);
     for part in rest.split("/") {
         if !part.is_empty() {
-            names.push(repeated_name(alloc, part)?).ok().ok_or("memory")?;
+            names
+                .push(repeated_name(alloc, part)?)
+                .ok()
+                .ok_or("memory")?;
         }
     }
     Ok(Path {
@@ -73,44 +80,76 @@ fn payload(alloc: Global, words: &[&str], i: usize) -> Result<Payload, Fail> {
     Ok(Payload::Plain(Bytes::from_vec(bytes)))
 }
 
+fn of_one_path(word: &str, path: Path) -> Result<Command, Fail> {
+    match word {
+        "mkdir" => Ok(Command::Mkdir(path)),
+        "create" => Ok(Command::Create(path)),
+        "rm" => Ok(Command::Rm(path)),
+        "rmdir" => Ok(Command::Rmdir(path)),
+        "ls" => Ok(Command::Ls(path)),
+        "stat" => Ok(Command::Stat(path)),
+        "open" => Ok(Command::Attach(path)),
+        _ => Err("no command of a path".into()),
+    }
+}
+
+fn of_two_paths(word: &str, path: Path, other: Path) -> Result<Command, Fail> {
+    match word {
+        "link" => Ok(Command::Link(path, other)),
+        "mv" => Ok(Command::Mv(path, other)),
+        _ => Err("no command of two paths".into()),
+    }
+}
+
+fn of_a_handle(alloc: Global, w: &[&str]) -> Result<Command, Fail> {
+    let handle = short_number(w, 1)?;
+    match word(w, 0)? {
+        "close" => Ok(Command::Close(handle)),
+        "read" => Ok(Command::ReadAt {
+            handle,
+            off: number(w, 2)?,
+            len: short_number(w, 3)?,
+        }),
+        "write" => Ok(Command::WriteAt {
+            handle,
+            off: number(w, 2)?,
+            payload: payload(alloc, w, 3)?,
+        }),
+        "cut" => Ok(Command::Cut {
+            handle,
+            size: number(w, 2)?,
+        }),
+        _ => Err("no command of a handle".into()),
+    }
+}
+
+fn of_a_pfs(alloc: Global, w: &[&str]) -> Result<Command, Fail> {
+    let first = name(alloc, word(w, 1)?)?;
+    match word(w, 0)? {
+        "snapshot" => Ok(Command::Snapshot {
+            source: first,
+            name: name(alloc, word(w, 2)?)?,
+        }),
+        "pfs-create" => Ok(Command::PfsCreate(first)),
+        "pfs-delete" => Ok(Command::PfsDelete(first)),
+        _ => Err("no command of a PFS".into()),
+    }
+}
+
+fn of_words(alloc: Global, w: &[&str]) -> Result<Command, Fail> {
+    match word(w, 0)? {
+        "sync" => Ok(Command::Sync),
+        "bulkfree" => Ok(Command::Bulkfree),
+        "pfs-list" => Ok(Command::PfsList),
+        "snapshot" | "pfs-create" | "pfs-delete" => of_a_pfs(alloc, w),
+        "close" | "read" | "write" | "cut" => of_a_handle(alloc, w),
+        "link" | "mv" => of_two_paths(word(w, 0)?, path(alloc, w, 1)?, path(alloc, w, 2)?),
+        _ => of_one_path(word(w, 0)?, path(alloc, w, 1)?),
+    }
+}
+
 /// The command of a line.
 pub fn command(alloc: Global, line: &str) -> Result<Command, Fail> {
     let words = line.split_whitespace().collect::<Vec<&str>>(alloc)?;
-    let w = words.as_slice();
-    Ok(match word(w, 0)? {
-        "mkdir" => Command::Mkdir(path(alloc, w, 1)?),
-        "create" => Command::Create(path(alloc, w, 1)?),
-        "link" => Command::Link(path(alloc, w, 1)?, path(alloc, w, 2)?),
-        "rm" => Command::Rm(path(alloc, w, 1)?),
-        "rmdir" => Command::Rmdir(path(alloc, w, 1)?),
-        "mv" => Command::Mv(path(alloc, w, 1)?, path(alloc, w, 2)?),
-        "ls" => Command::Ls(path(alloc, w, 1)?),
-        "stat" => Command::Stat(path(alloc, w, 1)?),
-        "open" => Command::Attach(path(alloc, w, 1)?),
-        "close" => Command::Close(short_number(w, 1)?),
-        "read" => Command::ReadAt {
-            handle: short_number(w, 1)?,
-            off: number(w, 2)?,
-            len: short_number(w, 3)?,
-        },
-        "write" => Command::WriteAt {
-            handle: short_number(w, 1)?,
-            off: number(w, 2)?,
-            payload: payload(alloc, w, 3)?,
-        },
-        "cut" => Command::Cut {
-            handle: short_number(w, 1)?,
-            size: number(w, 2)?,
-        },
-        "sync" => Command::Sync,
-        "bulkfree" => Command::Bulkfree,
-        "snapshot" => Command::Snapshot {
-            source: name(alloc, word(w, 1)?)?,
-            name: name(alloc, word(w, 2)?)?,
-        },
-        "pfs-create" => Command::PfsCreate(name(alloc, word(w, 1)?)?),
-        "pfs-delete" => Command::PfsDelete(name(alloc, word(w, 1)?)?),
-        "pfs-list" => Command::PfsList,
-        _ => return Err("no command".into()),
-    })
+    of_words(alloc, &words)
 }

@@ -49,14 +49,35 @@ fn applied(segment: u32) -> Item {
 // pass of bulkfree; two syncs whose disk failed.
 fn item(k: usize) -> Item {
     match k {
-        0 => Item::Mark(Mark::Freeze { number: 2, moment: 0 }),
-        1 => Item::Mark(Mark::HeaderOut { number: 2, moment: 3 }),
-        2 => Item::Mark(Mark::HeaderDone { number: 2, moment: 5 }),
+        0 => Item::Mark(Mark::Freeze {
+            number: 2,
+            moment: 0,
+        }),
+        1 => Item::Mark(Mark::HeaderOut {
+            number: 2,
+            moment: 3,
+        }),
+        2 => Item::Mark(Mark::HeaderDone {
+            number: 2,
+            moment: 5,
+        }),
         3 => call(0, 0, 0, Command::Sync, Reply::Done),
-        4 => Item::Mark(Mark::Freeze { number: 3, moment: 5 }),
-        5 => Item::Mark(Mark::HeaderOut { number: 3, moment: 8 }),
-        6 => Item::Mark(Mark::HeaderOut { number: 3, moment: 9 }),
-        7 => Item::Mark(Mark::HeaderDone { number: 3, moment: 11 }),
+        4 => Item::Mark(Mark::Freeze {
+            number: 3,
+            moment: 5,
+        }),
+        5 => Item::Mark(Mark::HeaderOut {
+            number: 3,
+            moment: 8,
+        }),
+        6 => Item::Mark(Mark::HeaderOut {
+            number: 3,
+            moment: 9,
+        }),
+        7 => Item::Mark(Mark::HeaderDone {
+            number: 3,
+            moment: 11,
+        }),
         8 => Item::Mark(Mark::ScanBegin { number: 3 }),
         9 => applied(0),
         10 => applied(1),
@@ -69,18 +90,111 @@ fn item(k: usize) -> Item {
 // What breaks one part alone: the place, and what stands there.
 fn broken(k: usize) -> (usize, Item, Legality) {
     match k {
-        0 => (3, call(0, 0, 0, Command::Sync, Reply::NoEntry), Legality { replies: false, ..ALL }),
-        1 => (13, call(1, 1, 1, Command::Sync, io(0, 3)), Legality { faults: false, ..ALL }),
-        2 => (13, call(1, 1, 1, Command::Sync, io(3, 3)), Legality { faults: false, ..ALL }),
-        3 => (13, call(1, 1, 2, Command::Sync, io(1, 3)), Legality { indices: false, ..ALL }),
-        4 => (13, call(0, 1, 1, Command::Sync, io(1, 3)), Legality { phases: false, ..ALL }),
-        5 => (4, Item::Mark(Mark::Freeze { number: 4, moment: 5 }), Legality { flushes: false, ..ALL }),
-        6 => (1, Item::Mark(Mark::HeaderDone { number: 2, moment: 3 }), Legality { flushes: false, ..ALL }),
-        7 => (6, Item::Mark(Mark::HeaderOut { number: 3, moment: 7 }), Legality { moments: false, ..ALL }),
-        8 => (8, Item::Mark(Mark::ScanBegin { number: 4 }), Legality { scans: false, ..ALL }),
-        9 => (10, applied(0), Legality { passes: false, ..ALL }),
-        10 => (11, call(0, 1, 0, Command::Bulkfree, bulk(3, 6)), Legality { passes: false, ..ALL }),
-        11 => (9, applied(1), Legality { passes: false, ..ALL }),
+        0 => (
+            3,
+            call(0, 0, 0, Command::Sync, Reply::NoEntry),
+            Legality {
+                replies: false,
+                ..ALL
+            },
+        ),
+        1 => (
+            13,
+            call(1, 1, 1, Command::Sync, io(0, 3)),
+            Legality {
+                faults: false,
+                ..ALL
+            },
+        ),
+        2 => (
+            13,
+            call(1, 1, 1, Command::Sync, io(3, 3)),
+            Legality {
+                faults: false,
+                ..ALL
+            },
+        ),
+        3 => (
+            13,
+            call(1, 1, 2, Command::Sync, io(1, 3)),
+            Legality {
+                indices: false,
+                ..ALL
+            },
+        ),
+        4 => (
+            13,
+            call(0, 1, 1, Command::Sync, io(1, 3)),
+            Legality {
+                phases: false,
+                ..ALL
+            },
+        ),
+        5 => (
+            4,
+            Item::Mark(Mark::Freeze {
+                number: 4,
+                moment: 5,
+            }),
+            Legality {
+                flushes: false,
+                ..ALL
+            },
+        ),
+        6 => (
+            1,
+            Item::Mark(Mark::HeaderDone {
+                number: 2,
+                moment: 3,
+            }),
+            Legality {
+                flushes: false,
+                ..ALL
+            },
+        ),
+        7 => (
+            6,
+            Item::Mark(Mark::HeaderOut {
+                number: 3,
+                moment: 7,
+            }),
+            Legality {
+                moments: false,
+                ..ALL
+            },
+        ),
+        8 => (
+            8,
+            Item::Mark(Mark::ScanBegin { number: 4 }),
+            Legality {
+                scans: false,
+                ..ALL
+            },
+        ),
+        9 => (
+            10,
+            applied(0),
+            Legality {
+                passes: false,
+                ..ALL
+            },
+        ),
+        10 => (
+            11,
+            call(0, 1, 0, Command::Bulkfree, bulk(3, 6)),
+            Legality {
+                passes: false,
+                ..ALL
+            },
+        ),
+        11 => (
+            9,
+            applied(1),
+            Legality {
+                passes: false,
+                ..ALL
+            },
+        ),
         _ => (13, call(1, 1, 1, Command::Sync, io(1, u64::MAX)), ALL),
     }
 }

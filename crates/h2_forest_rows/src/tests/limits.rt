@@ -6,11 +6,7 @@ use std::process::Abort;
 use std::test::Fail;
 
 // The reply to one line.
-fn told(
-    rt: &(impl Abort + AllocGlobal),
-    forest: &mut Forest,
-    line: &str,
-) -> Result<String, Fail> {
+fn told(rt: &(impl Abort + AllocGlobal), forest: &mut Forest, line: &str) -> Result<String, Fail> {
     let alloc = rt.alloc();
     let command = command(alloc, line)?;
     let reply = reply_to(alloc, forest, 0, &command)?;

@@ -30,35 +30,41 @@ fn bytes(alloc: Global, bytes: &[u8]) -> Result<String, Fail> {
     Ok(text)
 }
 
+fn word(reply: &Reply) -> &'static str {
+    match reply {
+        Reply::Done => "ok",
+        Reply::NoEntry => "no-entry",
+        Reply::Exists => "exists",
+        Reply::NotDir => "not-dir",
+        Reply::IsDir => "is-dir",
+        Reply::NotEmpty => "not-empty",
+        Reply::Full => "full",
+        Reply::LinksFull => "links-full",
+        Reply::Loop => "loop",
+        Reply::NoPfs => "no-pfs",
+        Reply::NoHandle => "no-handle",
+        Reply::HandlesFull => "handles-full",
+        Reply::Long => "long",
+        _ => "outside",
+    }
+}
+
 pub fn text(alloc: Global, reply: &Reply) -> Result<String, Fail> {
-    Ok(match reply {
-        Reply::Done => format!(in alloc; "ok")?,
-        Reply::List(list) => names(alloc, "list", list.items())?,
+    match reply {
+        Reply::List(list) => names(alloc, "list", list.items()),
+        Reply::Pfs(list) => names(alloc, "pfs", list.items()),
+        Reply::Got(got) => bytes(alloc, got.as_slice()),
         Reply::Dir { number, entries } => {
-            format!(in alloc; "dir inode {} entries {}", *number, *entries)?
+            Ok(format!(in alloc; "dir inode {} entries {}", *number, *entries)?)
         }
         Reply::File {
             number,
             links,
             size,
-        } => format!(in alloc; "file inode {} links {} size {}", *number, *links, *size)?,
-        Reply::Handle(handle) => format!(in alloc; "handle {}", *handle)?,
-        Reply::Got(got) => bytes(alloc, got.as_slice())?,
-        Reply::Wrote(count) => format!(in alloc; "wrote {}", *count)?,
-        Reply::Pfs(list) => names(alloc, "pfs", list.items())?,
-        Reply::NoEntry => format!(in alloc; "no-entry")?,
-        Reply::Exists => format!(in alloc; "exists")?,
-        Reply::NotDir => format!(in alloc; "not-dir")?,
-        Reply::IsDir => format!(in alloc; "is-dir")?,
-        Reply::NotEmpty => format!(in alloc; "not-empty")?,
-        Reply::Full => format!(in alloc; "full")?,
-        Reply::LinksFull => format!(in alloc; "links-full")?,
-        Reply::Loop => format!(in alloc; "loop")?,
-        Reply::NoPfs => format!(in alloc; "no-pfs")?,
-        Reply::InUse(handles) => format!(in alloc; "in-use {}", *handles)?,
-        Reply::NoHandle => format!(in alloc; "no-handle")?,
-        Reply::HandlesFull => format!(in alloc; "handles-full")?,
-        Reply::Long => format!(in alloc; "long")?,
-        _ => format!(in alloc; "outside")?,
-    })
+        } => Ok(format!(in alloc; "file inode {} links {} size {}", *number, *links, *size)?),
+        Reply::Handle(handle) => Ok(format!(in alloc; "handle {}", *handle)?),
+        Reply::Wrote(count) => Ok(format!(in alloc; "wrote {}", *count)?),
+        Reply::InUse(handles) => Ok(format!(in alloc; "in-use {}", *handles)?),
+        _ => Ok(String::from_str(alloc, word(reply))?),
+    }
 }

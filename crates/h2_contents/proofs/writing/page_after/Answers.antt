@@ -8,5 +8,5 @@ use Rattle.h2_contents.proofs.writing.page_after.Goals as goal
 pub returns-in-None : goal.returns-in-None
 returns-in-None c =
     subst (λ o. IfOk c.written-in-None-2.result (IsPageAfter c.args.number c.args.off (payload_bytes c.args.payload.now) o)) c.in-None.ensures
-      (page_of_none c.written-in-None-2.result c.args.number c.args.off (payload_bytes c.args.payload.now)
-        (subst (λ z. IfOk c.written-in-None-2.result (IsPageAfter c.args.number c.args.off (payload_bytes c.args.payload.now) (Some z))) c.filled.ensures c.written-in-None-2.ensures))
+    (page_of_none c.written-in-None-2.result c.args.number c.args.off (payload_bytes c.args.payload.now)
+    (subst (λ z. IfOk c.written-in-None-2.result (IsPageAfter c.args.number c.args.off (payload_bytes c.args.payload.now) (Some z))) c.filled.ensures c.written-in-None-2.ensures))

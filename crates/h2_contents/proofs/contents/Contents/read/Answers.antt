@@ -20,5 +20,5 @@ returns c =
     c.from_vec-2.ensures
     ∙ whole_window c.show_pages.new.window _ c.in_ok-window.window.len (omega arith)
     ∙ window_is_read (first_bytes (byte_in c.self.inside.pages) c.self.inside.size) c.show_pages.new.window c.args.off c.args.len long
-        (λ k h. c.show_pages.ensures k h ∙ sym (kept_at c.self.inside.pages c.self.inside.size (c.args.off + k) c.self.invariant))
+    (λ k h. c.show_pages.ensures k h ∙ sym (kept_at c.self.inside.pages c.self.inside.size (c.args.off + k) c.self.invariant))
     ∙ ap (λ bytes. read_at bytes c.args.off c.args.len) c.self.view_is

@@ -11,24 +11,24 @@ loop-number-init c = ap (λ es. put_all nat_cmp_total nat_cmp-IsAntisymmetric (f
 pub loop-number-preserved-in_ok-insert : goal.loop-number-preserved-in_ok-insert
 loop-number-preserved-in_ok-insert c =
     ap (λ m. put_all nat_cmp_total nat_cmp-IsAntisymmetric m c.next.new.self)
-      (one_inserted nat_cmp_total nat_cmp-IsAntisymmetric c.loop-number.pages.entries c.insert.new.self.entries c.in-Some.number.now c.in_ok-copy.field-0 c.in_ok-insert.ensures.updates.0
-       ∙ ap (λ v. insert (from_entries {R = nat_cmp} c.loop-number.pages.entries) c.in-Some.number.now v) c.in_ok-copy.ensures)
+    (one_inserted nat_cmp_total nat_cmp-IsAntisymmetric c.loop-number.pages.entries c.insert.new.self.entries c.in-Some.number.now c.in_ok-copy.field-0 c.in_ok-insert.ensures.updates.0
+    ∙ ap (λ v. insert (from_entries {R = nat_cmp} c.loop-number.pages.entries) c.in-Some.number.now v) c.in_ok-copy.ensures)
     ∙ ap (λ es. put_all nat_cmp_total nat_cmp-IsAntisymmetric (from_entries {R = nat_cmp} c.loop-number.pages.entries) es) (sym c.in-Some.ensures.steps)
     ∙ c.loop-number.invariant
 
 pub loop-number-preserved-in_ok-insert-2 : goal.loop-number-preserved-in_ok-insert-2
 loop-number-preserved-in_ok-insert-2 c =
     ap (λ m. put_all nat_cmp_total nat_cmp-IsAntisymmetric m c.next.new.self)
-      (one_inserted nat_cmp_total nat_cmp-IsAntisymmetric c.loop-number.pages.entries c.insert.new.self.entries c.in-Some.number.now c.in_ok-copy.field-0 c.in_ok-insert.ensures.updates.0
-       ∙ ap (λ v. insert (from_entries {R = nat_cmp} c.loop-number.pages.entries) c.in-Some.number.now v) c.in_ok-copy.ensures)
+    (one_inserted nat_cmp_total nat_cmp-IsAntisymmetric c.loop-number.pages.entries c.insert.new.self.entries c.in-Some.number.now c.in_ok-copy.field-0 c.in_ok-insert.ensures.updates.0
+    ∙ ap (λ v. insert (from_entries {R = nat_cmp} c.loop-number.pages.entries) c.in-Some.number.now v) c.in_ok-copy.ensures)
     ∙ ap (λ es. put_all nat_cmp_total nat_cmp-IsAntisymmetric (from_entries {R = nat_cmp} c.loop-number.pages.entries) es) (sym c.in-Some.ensures.steps)
     ∙ c.loop-number.invariant
 
 pub loop-number-preserved : goal.loop-number-preserved
 loop-number-preserved c =
     ap (λ m. put_all nat_cmp_total nat_cmp-IsAntisymmetric m c.next.new.self)
-      (one_inserted nat_cmp_total nat_cmp-IsAntisymmetric c.loop-number.pages.entries c.insert.new.self.entries c.in-Some.number.now c.in_ok-copy.field-0 c.in_ok-insert.ensures.updates.0
-       ∙ ap (λ v. insert (from_entries {R = nat_cmp} c.loop-number.pages.entries) c.in-Some.number.now v) c.in_ok-copy.ensures)
+    (one_inserted nat_cmp_total nat_cmp-IsAntisymmetric c.loop-number.pages.entries c.insert.new.self.entries c.in-Some.number.now c.in_ok-copy.field-0 c.in_ok-insert.ensures.updates.0
+    ∙ ap (λ v. insert (from_entries {R = nat_cmp} c.loop-number.pages.entries) c.in-Some.number.now v) c.in_ok-copy.ensures)
     ∙ ap (λ es. put_all nat_cmp_total nat_cmp-IsAntisymmetric (from_entries {R = nat_cmp} c.loop-number.pages.entries) es) (sym c.in-Some.ensures.steps)
     ∙ c.loop-number.invariant
 

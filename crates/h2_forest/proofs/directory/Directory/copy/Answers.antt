@@ -5,15 +5,14 @@ use Rattle.std.specs.FinMap.{from_entries, insert, empty, slice_cmp-IsAntisymmet
 use Rattle.h2_maps.specs.Maps.{put_all, put_all_sorted, one_inserted}
 use Rattle.h2_forest.proofs.directory.Directory.copy.Goals as goal
 
-
 pub loop-name-init : goal.loop-name-init
 loop-name-init c = ap (λ es. put_all nat_list_cmp_total (slice_cmp-IsAntisymmetric nat_cmp-IsAntisymmetric) (from_entries {R = slice_cmp nat_cmp} es) c.into_iter-name-iterator.result) c.new-entries.ensures.empty
 
 pub loop-name-preserved : goal.loop-name-preserved
 loop-name-preserved c =
     ap (λ m. put_all nat_list_cmp_total (slice_cmp-IsAntisymmetric nat_cmp-IsAntisymmetric) m c.next.new.self)
-      (one_inserted nat_list_cmp_total (slice_cmp-IsAntisymmetric nat_cmp-IsAntisymmetric) c.loop-name.entries.entries c.insert.new.self.entries c.in_ok-copy.field-0 c.in-Some.number.now c.in_ok-insert.ensures.updates.0
-       ∙ ap (λ k. insert (from_entries {R = slice_cmp nat_cmp} c.loop-name.entries.entries) k c.in-Some.number.now) c.in_ok-copy.ensures)
+    (one_inserted nat_list_cmp_total (slice_cmp-IsAntisymmetric nat_cmp-IsAntisymmetric) c.loop-name.entries.entries c.insert.new.self.entries c.in_ok-copy.field-0 c.in-Some.number.now c.in_ok-insert.ensures.updates.0
+    ∙ ap (λ k. insert (from_entries {R = slice_cmp nat_cmp} c.loop-name.entries.entries) k c.in-Some.number.now) c.in_ok-copy.ensures)
     ∙ ap (λ es. put_all nat_list_cmp_total (slice_cmp-IsAntisymmetric nat_cmp-IsAntisymmetric) (from_entries {R = slice_cmp nat_cmp} c.loop-name.entries.entries) es) (sym c.in-Some.ensures.steps)
     ∙ c.loop-name.invariant
 

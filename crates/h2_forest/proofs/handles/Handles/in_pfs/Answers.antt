@@ -11,4 +11,4 @@ returns c =
     ∙ ap (λ rest. c.loop-at.count + count_by (λ (x : ℕ × ℕ). nat_eq x.0 c.args.pfs) rest) (sym c.in-None.ensures.steps.0)
     ∙ c.loop-at.invariant
     ∙ ap (count_by (λ (x : ℕ × ℕ). nat_eq x.0 c.args.pfs)) (c.into_iter-at-iterator.ensures.into_iter_gives ∙ c.values-at-items.ensures.rest
-        ∙ sym (kept_values handles_total exact_handles c.self.inside.open.entries c.values-at-items.ensures.ordered) ∙ ap map.values c.self.view_is)
+    ∙ sym (kept_values handles_total exact_handles c.self.inside.open.entries c.values-at-items.ensures.ordered) ∙ ap map.values c.self.view_is)
