@@ -1,0 +1,15 @@
+pub mod Node
+pub mod Table
+pub mod TableLaws
+pub mod Steps
+pub mod Pfs
+pub mod Handles
+pub mod HandleLaws
+pub mod Forest
+pub mod Codes
+pub mod History
+pub mod HistoryLaws
+pub mod Parts
+pub mod Landing
+pub mod Whole
+pub mod Replay

@@ -1,0 +1,39 @@
+ghost use Rattle.std.specs.Prelude.{◌≡◌, ◌<◌, length, Some, None, MatchOption, slice_index_or, is_some};
+ghost use Rattle.h2_forest.specs.Forest.{pfs_named, pfs_with_id};
+
+use crate::pfs::Pfs;
+use h2_num::Name;
+
+/// The PFS with a name, and its place in the list.
+pub fn find_pfs<'a>(list: &'a [Pfs], name: &Name) -> Option<(usize, &'a Pfs)>
+    ensures { MatchOption result (pfs_named name.now list.now ≡ None) (λ found. (pfs_named name.now list.now ≡ Some (found.0, found.1.now)) × ((found.0 < length list.now) × ((d : Pfs) → slice_index_or list.now found.0 d ≡ found.1.now))) }
+{
+    for (i, pfs) in list.iter().enumerate() {
+        if pfs.name == *name {
+            return Some((i, pfs));
+        }
+    }
+    None
+}
+
+/// The PFS with an id, and its place in the list.
+pub fn find_id(list: &[Pfs], id: u64) -> Option<(usize, &Pfs)>
+    ensures { MatchOption result (pfs_with_id id list.now ≡ None) (λ found. (pfs_with_id id list.now ≡ Some (found.0, found.1.now)) × ((found.0 < length list.now) × ((d : Pfs) → slice_index_or list.now found.0 d ≡ found.1.now))) }
+{
+    for (i, pfs) in list.iter().enumerate() {
+        if pfs.id == id {
+            return Some((i, pfs));
+        }
+    }
+    None
+}
+
+/// Whether a PFS has a name.
+pub fn has_name(list: &[Pfs], name: &Name) -> bool
+    ensures { result ≡ is_some (pfs_named name.now list.now) }
+{
+    match find_pfs(list, name) {
+        Some(_) => true,
+        None => false,
+    }
+}
