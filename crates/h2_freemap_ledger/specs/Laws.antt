@@ -1,8 +1,6 @@
 -- What the freemap does are moves of the ledger.
 use Rattle.std.specs.Prelude.{ℕ, true, ◌≡◌, ◌≢◌, ◌+◌, ◌≤◌, Some, List, ◌∷◌, ◌++◌}
-use Rattle.std.specs.List.{Contains}
 use Rattle.h2_num.specs.declared.block.Block.{Block}
-use Rattle.h2_codes.specs.declared.code.Code.{Code}
 use Rattle.std.specs.Prelude.{Bool}
 use Rattle.h2_freemap.specs.declared.size.Size.{Size}
 use Rattle.h2_freemap.specs.Space.{Space, code_of}

@@ -1,5 +1,5 @@
 -- A ledger that has the codes and cursors of a freemap, and what else is done to it beside the freemap's part of a move.
-use Rattle.std.specs.Prelude.{ℕ, suc, Bool, IsTrue, ◌≡◌, ◌≢◌, ◌⊎◌, ◌↔◌, ◌+◌, ◌*◌, ◌<◌, ◌≤◌, List, Option, Some, None}
+use Rattle.std.specs.Prelude.{ℕ, suc, Bool, IsTrue, ◌≡◌, ◌⊎◌, ◌↔◌, ◌+◌, ◌*◌, ◌<◌, ◌≤◌, List, Option, Some, None}
 use Rattle.h2_num.specs.declared.block.Block.{Block}
 use Rattle.h2_geom.specs.Geometry.{segment_of, in_segment, segment_chunks}
 use Rattle.h2_codes.specs.Seen.{has_chunk}
@@ -11,8 +11,8 @@ use Rattle.h2_ledger.specs.declared.cursor.SharedSize.{SharedSize}
 use Rattle.h2_ledger.specs.declared.cursor.SharedSize.TheVariants.{Small, Middle}
 use Rattle.h2_ledger.specs.declared.cursor.Cursor.{Cursor}
 use Rattle.h2_ledger.specs.declared.pass.Pass.TheVariants.{Idle, Scanning}
-use Rattle.h2_ledger.specs.Ledger.{Ledger, free_below, block_chunk, HasBlockIn}
-use Rattle.h2_ledger.specs.Moves.{Move, take_next, take_first, take_whole, Same, Within, WithinAnd, RootsStay, PassStays, UsesLessen}
+use Rattle.h2_ledger.specs.Ledger.{Ledger, free_below, HasBlockIn}
+use Rattle.h2_ledger.specs.Moves.{Move, take_next, take_first, take_whole, Same, WithinAnd, RootsStay, PassStays, UsesLessen}
 
 -- a shared size as a size of the freemap
 abbrev pub size_of : SharedSize → Size

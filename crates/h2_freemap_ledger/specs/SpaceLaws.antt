@@ -1,8 +1,8 @@
 -- Proofs of the laws of the freemap and the ledger.
-use Rattle.std.proofs.Common.{ℕ, zero, suc, Bool, true, false, IsTrue, Option, Some, None, List, [], ◌∷◌, ◌++◌, ◌≡◌, ◌≢◌, ◌⊎◌, ◌+◌, ◌-◌, ◌*◌, ◌/◌, ◌^◌, ◌<◌, ◌≤◌, refl, sym, ap, ◌∙◌, subst, inl, inr, arith, pow_pos}
+use Rattle.std.proofs.Common.{ℕ, zero, suc, true, false, Option, Some, None, List, [], ◌∷◌, ◌++◌, ◌≡◌, ◌≢◌, ◌⊎◌, ◌+◌, ◌-◌, ◌/◌, ◌^◌, ◌<◌, ◌≤◌, refl, sym, ap, ◌∙◌, subst, inl, inr, arith, pow_pos}
 use Rattle.std.proofs.lemmas.Bool.{cases_eq, cases_Bool}
 use Rattle.h2_num.specs.declared.block.Block.{Block}
-use Rattle.h2_geom.specs.Geometry.{chunk_bytes, segment_of, in_segment, segment_chunks, chunks_of, chunk_place}
+use Rattle.h2_geom.specs.Geometry.{chunk_bytes, segment_of, in_segment, chunks_of, chunk_place}
 use Rattle.h2_codes.specs.declared.code.Code.{Code}
 use Rattle.h2_codes.specs.declared.code.Code.TheVariants.{Free, Reserved, Staged, Used}
 use Rattle.h2_codes.specs.Codes.{tally}
@@ -16,18 +16,16 @@ use Rattle.h2_freemap.specs.Free as counting
 use Rattle.h2_freemap.specs.Free.{free_of, IsLowestFree}
 use Rattle.h2_freemap.specs.Taking as taking
 use Rattle.h2_freemap.specs.Taking.{bytes_of, HasRoom, HasNoRoom, GoesTo, at_cursor, at_lowest, cursor_behind, Takes}
-use Rattle.h2_freemap.specs.Need.{blocks_left, small_chunks, middle_chunks, need_of, need_of_one, need_of_all, small_of, middle_of, whole_of, TakesAll, HasCursorsInUse, NeedIsUsed}
+use Rattle.h2_freemap.specs.Need.{blocks_left, need_of, need_of_one, need_of_all, small_of, middle_of, whole_of, TakesAll, HasCursorsInUse, NeedIsUsed}
 use Rattle.h2_freemap.specs.Pins.{is_in_use}
-use Rattle.h2_freemap.specs.Pins as pinning
-use Rattle.h2_freemap.specs.Sweeping.{unless_free, kept_cursor, Sweeps}
+use Rattle.h2_freemap.specs.Sweeping.{unless_free, kept_cursor}
 use Rattle.h2_ledger.specs.declared.cursor.SharedSize.{SharedSize}
 use Rattle.h2_ledger.specs.declared.cursor.SharedSize.TheVariants.{Small, Middle}
 use Rattle.h2_ledger.specs.declared.cursor.Cursor.{Cursor}
-use Rattle.h2_ledger.specs.Ledger.{Ledger, one_if_free, free_below, block_chunk, block_bytes, LiesInOneChunk, IsTaken, HasBlockIn}
+use Rattle.h2_ledger.specs.Ledger.{Ledger, one_if_free, free_below, block_chunk, block_bytes, IsTaken, HasBlockIn}
 use Rattle.h2_ledger.specs.Moves.{Move, take_next, take_first, take_whole, adopt, apply, radix_of, Makes, WithinAnd, Joins, IsAtCursor, IsFilled, IsAtLowest, IsPaid, IsGranted, at_whole, TakesNext, TakesFirst, TakesWhole, Adopts, Applies}
 use Rattle.h2_ledger.specs.Moves as ledger
-use Rattle.h2_ledger.specs.Sound.{IsSound}
-use Rattle.h2_freemap_ledger.specs.Space.{size_of, as_cursor, IsTakeOf, HasSpace, PaysFor, JoinsBeside, SeesMarked, AppliesBeside}
+use Rattle.h2_freemap_ledger.specs.Space.{size_of, as_cursor, IsTakeOf, HasSpace, PaysFor, JoinsBeside}
 use Rattle.h2_freemap_ledger.specs.Laws.{TakeMoves, TakeIsGranted, AdoptMoves, ApplyMoves, PaidIsFree, ReservationPays}
 
 -- The two ways to count free chunks agree

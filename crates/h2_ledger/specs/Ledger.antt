@@ -1,6 +1,6 @@
 -- What a copy-on-write volume keeps of its space: the code of each chunk, and which blocks are in use by whom.
 -- Sets of blocks are values of a type `Set` that the reader chooses, with `b ∈ s` for its members.
-use Rattle.std.specs.Prelude.{ℕ, zero, suc, ◌≡◌, ◌⊎◌, ◌+◌, ◌/◌, ◌%◌, ◌^◌, ◌≤◌, Option, Some}
+use Rattle.std.specs.Prelude.{ℕ, zero, suc, ◌≡◌, ◌⊎◌, ◌+◌, ◌%◌, ◌^◌, ◌≤◌, Option, Some}
 use Rattle.h2_num.specs.declared.block.Block.{Block}
 use Rattle.h2_geom.specs.Geometry.{chunk_bytes, chunk_of}
 use Rattle.h2_codes.specs.declared.code.Code.{Code}

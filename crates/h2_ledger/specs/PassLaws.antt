@@ -1,21 +1,19 @@
 -- Passes over a list of moves: none ends half-applied, and so two successive complete passes free what they find unmarked.
-use Rattle.std.proofs.Common.{ℕ, suc, ◌≡◌, ◌≢◌, ◌⊎◌, ◌*◌, ◌<◌, ◌≤◌, Some, List, [], ◌∷◌, ◌++◌, refl, sym, ap, ◌∙◌, subst, inl, inr, arith, append_assoc, append-nil}
+use Rattle.std.proofs.Common.{ℕ, suc, ◌≡◌, ◌≢◌, ◌⊎◌, ◌*◌, ◌<◌, ◌≤◌, List, [], ◌∷◌, ◌++◌, refl, sym, ◌∙◌, subst, inl, inr, arith, append_assoc, append-nil}
 use Rattle.std.proofs.lemmas.Bool.{cases_eq, cases_lt}
-use Rattle.std.proofs.lemmas.List.Elements.{Contains-append_left, Contains-append_right, Contains-append_cases, Contains-push, Contains-push_cases}
+use Rattle.std.proofs.lemmas.List.Elements.{Contains-append_left, Contains-append_right, Contains-push, Contains-push_cases}
 use Rattle.std.specs.List.{Contains, AllByRecursion}
 use Rattle.h2_num.specs.declared.block.Block.{Block}
 use Rattle.h2_geom.specs.Geometry.{segment_chunks, segment_of}
-use Rattle.h2_codes.specs.declared.code.Code.TheVariants.{Free}
-use Rattle.h2_ledger.specs.declared.pass.Pass.{Pass}
 use Rattle.h2_ledger.specs.declared.pass.Pass.TheVariants.{Idle, Begun, Marked, Scanning}
 use Rattle.h2_ledger.specs.Ledger.{Ledger}
 use Rattle.h2_ledger.specs.Moves.{Move, take_next, take_first, take_whole, adopt, relink, reserve, freeze, freeze_of_pass, complete, begin_pass, begin_scan, end_pass, apply, Makes, PassStays, Applies}
 use Rattle.h2_ledger.specs.Sound.{IsSound}
-use Rattle.h2_ledger.specs.Runs.{NoJoinIn, Spares, Stays, Run, AppliesUnmarked, IsOpened}
-use Rattle.h2_ledger.specs.Passes.{IsComplete, AreSuccessive, IsTwiceUnmarked}
+use Rattle.h2_ledger.specs.Runs.{NoJoinIn, Spares, Stays, Run, IsOpened}
+use Rattle.h2_ledger.specs.Passes.{IsComplete}
 use Rattle.h2_ledger.specs.Laws.{AppliesAllOrRuns, FreesAfterTwoPasses}
 use Rattle.h2_ledger.specs.SoundLaws.{keeps_sound}
-use Rattle.h2_ledger.specs.RunLaws.{stays_sound, runs_sound, opens_sound}
+use Rattle.h2_ledger.specs.RunLaws.{runs_sound, opens_sound}
 use Rattle.h2_ledger.specs.FreedLaws.{Past, past_on, past_after, past_along, past_settled, frees_twice_unmarked}
 
 -- more moves have no fewer applies

@@ -1,6 +1,6 @@
 -- The move by which a pass applies a segment.
-use Rattle.std.proofs.Common.{Option, Some, None, List, ℕ, suc, ◌≡◌, ◌≢◌, ◌⊎◌, ◌+◌, ◌-◌, ◌*◌, ◌<◌, ◌≤◌, length, refl, sym, ap, ◌∙◌, subst, inl, inr, arith}
-use Rattle.std.proofs.lemmas.Bool.{cases_eq, cases_lt}
+use Rattle.std.proofs.Common.{Option, Some, None, List, ℕ, ◌≡◌, ◌≢◌, ◌⊎◌, ◌+◌, ◌-◌, ◌*◌, ◌<◌, ◌≤◌, refl, sym, ap, ◌∙◌, subst, inl, inr, arith}
+use Rattle.std.proofs.lemmas.Bool.{cases_lt}
 use Rattle.h2_num.specs.declared.block.Block.{Block}
 use Rattle.h2_geom.specs.Geometry.{segment_chunks, segment_of}
 use Rattle.h2_codes.specs.declared.code.Code.{Code}

@@ -1,5 +1,5 @@
 -- Moves by which a block joins.
-use Rattle.std.proofs.Common.{Option, Some, None, List, [], ◌∷◌, ◌++◌, ℕ, suc, ◌≡◌, ◌≢◌, ◌⊎◌, ◌+◌, ◌-◌, ◌*◌, ◌^◌, ◌<◌, ◌≤◌, length, set, refl, sym, ap, ◌∙◌, subst, inl, inr, arith, length-set, get_or-set_other, get_or-set_same, pow_pos}
+use Rattle.std.proofs.Common.{Option, Some, None, List, [], ◌∷◌, ◌++◌, ℕ, ◌≡◌, ◌≢◌, ◌⊎◌, ◌+◌, ◌*◌, ◌^◌, ◌<◌, ◌≤◌, length, set, refl, sym, ap, ◌∙◌, subst, inl, inr, arith, length-set, get_or-set_other, get_or-set_same, pow_pos}
 use Rattle.std.proofs.Math.ListN.{get_or-eq_default}
 use Rattle.std.proofs.lemmas.Bool.{cases_lt}
 use Rattle.std.proofs.lemmas.List.Elements.{Contains-push, Contains-push_cases}
@@ -7,19 +7,19 @@ use Rattle.std.specs.List.{Contains}
 use Rattle.h2_num.specs.declared.block.Block.{Block}
 use Rattle.h2_geom.specs.Geometry.{chunk_bytes}
 use Rattle.h2_codes.specs.declared.code.Code.{Code}
-use Rattle.h2_codes.specs.declared.code.Code.TheVariants.{Free, Reserved, Used}
+use Rattle.h2_codes.specs.declared.code.Code.TheVariants.{Reserved, Used}
 use Rattle.h2_codes.specs.Codes.{code_at}
 use Rattle.h2_ledger.specs.declared.cursor.SharedSize.{SharedSize}
 use Rattle.h2_ledger.specs.declared.cursor.SharedSize.TheVariants.{Small, Middle}
 use Rattle.h2_ledger.specs.declared.cursor.Cursor.{Cursor}
-use Rattle.h2_ledger.specs.Ledger.{IsTaken, LiesInOneChunk, block_chunk, block_bytes, free_below}
+use Rattle.h2_ledger.specs.Ledger.{IsTaken, block_chunk, block_bytes}
 use Rattle.h2_ledger.specs.Moves.{Same, Joins, IsPaid, IsAtLowest, TakesNext, TakesFirst, TakesWhole, Adopts, radix_of}
 use Rattle.h2_plain_ledger.specs.declared.cursors.Cursors.{Cursors}
 use Rattle.h2_plain_ledger.specs.declared.buying.Payment.{Payment}
 use Rattle.h2_plain_ledger.specs.declared.buying.Payment.TheVariants.{FromReserved, FromFree}
 use Rattle.h2_plain_ledger.specs.Buying as buying
-use Rattle.h2_plain_ledger.specs.State.{State, as_ledger, has, cursor_of, with_cursor, HasRoomAt, IsFilledAt}
-use Rattle.h2_plain_ledger.specs.Steps.{HasRoom, with_taken, with_adopted, with_cursor_at, IsTakenNext, IsTakenLowest, IsTakenFirst, IsTakenWhole, IsShareable}
+use Rattle.h2_plain_ledger.specs.State.{State, as_ledger, has, cursor_of, with_cursor, IsFilledAt}
+use Rattle.h2_plain_ledger.specs.Steps.{with_taken, with_adopted, with_cursor_at, IsTakenNext, IsTakenLowest, IsTakenFirst, IsTakenWhole, IsShareable}
 
 same : (blocks : List Block) → Same has blocks blocks
 same blocks b = (λ i. i, λ i. i)

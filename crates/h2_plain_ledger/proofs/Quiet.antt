@@ -1,18 +1,18 @@
 -- Moves that change no code.
-use Rattle.std.proofs.Common.{Option, Some, None, List, [], ◌∷◌, ◌++◌, ℕ, suc, ◌≡◌, ◌≢◌, ◌⊎◌, ◌+◌, ◌-◌, ◌*◌, ◌<◌, ◌≤◌, length, refl, sym, ap, ◌∙◌, subst, inl, inr, arith}
-use Rattle.std.specs.List.{Contains, All}
+use Rattle.std.proofs.Common.{Some, None, List, [], ◌++◌, ℕ, suc, ◌≡◌, ◌≢◌, ◌⊎◌, ◌+◌, ◌-◌, ◌<◌, ◌≤◌, refl, sym, subst, inl, inr, arith}
+use Rattle.std.specs.List.{Contains}
 use Rattle.std.proofs.lemmas.List.Elements.{All-contains, Contains-append_left, Contains-append_right, Contains-append_cases}
 use Rattle.h2_num.specs.declared.block.Block.{Block}
 use Rattle.h2_ledger.specs.declared.cursor.SharedSize.{SharedSize}
 use Rattle.h2_ledger.specs.declared.cursor.SharedSize.TheVariants.{Small, Middle}
 use Rattle.h2_ledger.specs.declared.pass.Pass.{Pass}
 use Rattle.h2_ledger.specs.declared.pass.Pass.TheVariants.{Idle, Begun, Marked, Scanning}
-use Rattle.h2_ledger.specs.Ledger.{HasMarked, free_below}
-use Rattle.h2_ledger.specs.Moves.{Same, CodesStay, CursorsStay, RootsStay, PassStays, UsesLessen, Relinks, Reserves, Freezes, FreezesAlone, FreezesOfPass, Completes, OnlyPass, BeginsPass, BeginsScan, EndsPass}
+use Rattle.h2_ledger.specs.Ledger.{HasMarked}
+use Rattle.h2_ledger.specs.Moves.{Same, Relinks, Reserves, Freezes, FreezesAlone, FreezesOfPass, Completes, OnlyPass, BeginsPass, BeginsScan, EndsPass}
 use Rattle.h2_ledger.specs.Runs.{IsOpened}
 use Rattle.h2_codes.specs.declared.code.Code.{Code}
 use Rattle.h2_plain_ledger.specs.State.{State, as_ledger, has, cursor_of, MayRelink}
-use Rattle.h2_plain_ledger.specs.Steps.{opened, free_of, with_frozen, with_marked, IsCompleted, MayEnd, IsScanning}
+use Rattle.h2_plain_ledger.specs.Steps.{opened, free_of, with_frozen, with_marked, IsCompleted, MayEnd}
 
 same : (blocks : List Block) → Same has blocks blocks
 same blocks b = (λ i. i, λ i. i)

@@ -1,5 +1,5 @@
 -- A plain ledger, as callers see it: codes and blocks in lists.
-use Rattle.std.specs.Prelude.{Option, Some, None, List, [], ◌∷◌, ◌++◌, ℕ, ◌≡◌, ◌≢◌, ◌⊎◌, ◌<◌, ◌≤◌, ◌*◌, ◌+◌, ◌^◌, length, slice_set, IfSome, All}
+use Rattle.std.specs.Prelude.{Option, Some, None, List, ℕ, ◌≡◌, ◌≢◌, ◌⊎◌, ◌<◌, ◌≤◌, ◌+◌, ◌^◌, length, All}
 use Rattle.std.specs.List.{Contains}
 use Rattle.h2_num.specs.declared.block.Block.{Block}
 use Rattle.h2_geom.specs.Geometry.{chunk_bytes}
@@ -11,7 +11,7 @@ use Rattle.h2_ledger.specs.declared.cursor.SharedSize.{SharedSize}
 use Rattle.h2_ledger.specs.declared.cursor.SharedSize.TheVariants.{Small, Middle}
 use Rattle.h2_ledger.specs.declared.cursor.Cursor.{Cursor}
 use Rattle.h2_ledger.specs.declared.pass.Pass.{Pass}
-use Rattle.h2_ledger.specs.Ledger.{Ledger, block_chunk, HasBlockIn}
+use Rattle.h2_ledger.specs.Ledger.{Ledger, HasBlockIn}
 use Rattle.h2_ledger.specs.Moves.{radix_of}
 use Rattle.h2_plain_ledger.specs.declared.cursors.Cursors.{Cursors}
 

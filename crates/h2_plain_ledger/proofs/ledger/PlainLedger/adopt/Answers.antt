@@ -1,5 +1,4 @@
 use Rattle.std.proofs.Common.{rules}
-use Rattle.h2_plain_ledger.specs.PlainLedger.{lists_of}
 use Rattle.h2_plain_ledger.proofs.Joining.{adopts_to}
 use Rattle.h2_plain_ledger.proofs.ledger.PlainLedger.adopt.Goals as goal
 

@@ -1,6 +1,5 @@
-use Rattle.std.proofs.Common.{rules, ◌∙◌, arith}
+use Rattle.std.proofs.Common.{rules}
 use Rattle.std.proofs.lemmas.List.{with_items_is}
-use Rattle.h2_plain_ledger.specs.PlainLedger.{lists_of}
 use Rattle.h2_plain_ledger.proofs.Applying.{makes_apply, applied_as}
 use Rattle.h2_plain_ledger.proofs.ledger.PlainLedger.apply.Goals as goal
 
