@@ -21,7 +21,7 @@ other_version slot b version magic is other = subst (λ v. IsHeadFault slot b (V
 pub other_check : (slot : ℕ) (b : Places) (want found : ℕ) → HasMagic b → number_at b 8 4 ≡ 1 → want ≡ stored_check b → found ≡ computed_check b → want ≢ found → IsHeadFault slot b (Check want found)
 other_check slot b want found magic version want_is found_is other =
     subst (λ w. IsHeadFault slot b (Check w found)) (sym want_is) (subst (λ f. IsHeadFault slot b (Check (stored_check b) f)) (sym found_is)
-      (bad_check magic version (λ e. other (want_is ∙ e ∙ sym found_is))))
+    (bad_check magic version (λ e. other (want_is ∙ e ∙ sym found_is))))
 
 pub header_found : (slot : ℕ) (b : Places) (h : Header) → HasMagic b → number_at b 8 4 ≡ 1 → stored_check b ≡ computed_check b → HasFields slot b h → IsHeaderAt slot b h
 header_found slot b h magic version check f = record {

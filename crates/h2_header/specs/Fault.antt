@@ -77,5 +77,5 @@ pub data IsHeadFault (slot : ℕ) (b : Places) : HeadFault → Type 0 where
   bad_magic : (HasMagic b → ⊥) → IsHeadFault slot b Magic
   bad_version : HasMagic b → number_at b 8 4 ≢ 1 → IsHeadFault slot b (Version (number_at b 8 4))
   bad_check : HasMagic b → number_at b 8 4 ≡ 1 → stored_check b ≢ computed_check b
-    → IsHeadFault slot b (Check (stored_check b) (computed_check b))
+      → IsHeadFault slot b (Check (stored_check b) (computed_check b))
   bad_field : (p : ℕ) → HasMagic b → number_at b 8 4 ≡ 1 → stored_check b ≡ computed_check b → IsFirstWrong slot b p → IsHeadFault slot b (Field p)

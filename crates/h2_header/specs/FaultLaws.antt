@@ -32,7 +32,7 @@ root_right b refs is spelled i lt =
           let more : j + 1 < length refs = omega arith in
           let same : slice_index_or refs j empty_ref ≡ before = one_value before (slice_index_or refs j empty_ref) (ref_bytes 512 j b) valid (is.each j empty_ref near).valid bytes (spelled j empty_ref near) in
           subst (λ r. MayFollow r (slice_index_or refs i empty_ref)) same
-            (subst (λ n. MayFollow (slice_index_or refs j empty_ref) (slice_index_or refs n empty_ref)) next (is.set j empty_ref more));
+          (subst (λ n. MayFollow (slice_index_or refs j empty_ref) (slice_index_or refs n empty_ref)) next (is.set j empty_ref more));
     }
 
 -- the references of a map are right where they stand

@@ -2,20 +2,9 @@
 use Rattle.std.specs.Prelude.{◌≡◌, ◌<◌, ℕ, zero, suc, ◌+◌, List, length, slice_index_or, refl}
 use Rattle.std.proofs.Common.{ap, sym, subst, arith, inl}
 use Rattle.h2_ref.specs.declared.reference.Ref.{Ref}
-use Rattle.h2_ref.specs.Ref.{empty_ref, IsValid}
+use Rattle.h2_ref.specs.Ref.{empty_ref}
+use Rattle.h2_ref.specs.RefLaws.{empty_valid}
 use Rattle.h2_header.specs.Header.{IsRoot, IsRootRef}
-
--- the empty reference is valid
-empty_valid : IsValid empty_ref
-empty_valid = record {
-  method = refl;
-  stored = omega arith;
-  radix = refl;
-  place = refl;
-  key = record { keybits = refl; key = record { least = omega arith; last = omega arith }; multiple = refl };
-  id = record { least = omega arith; last = omega arith };
-  entry = tt;
-}
 
 -- the empty reference may stand in a super-root
 pub empty_root_ref : IsRootRef empty_ref

@@ -106,7 +106,11 @@ fn zones_under(level: u32) -> u32
 fn map_kind(level: u32) -> Kind
     ensures { result ≡ map_kind level }
 {
-    if level == 0 { Kind::MapLeaf } else { Kind::MapNode }
+    if level == 0 {
+        Kind::MapLeaf
+    } else {
+        Kind::MapNode
+    }
 }
 
 /// The place of the block of a level that begins with a zone, in a copy of the map.

@@ -28,3 +28,6 @@ pub use laws::{refusal_law, spelling_law};
 pub use layout::REF_BYTES;
 pub use reference::{Check, Dirent, Kind, Ref};
 pub use set::{is_set, may_follow};
+
+#[cfg(test)]
+mod tests;
