@@ -176,7 +176,6 @@ front (r ∷ rs) low valid set le first =
           few = rw more (omega (arith, it.few));
         }
 
-
 -- references in order and then empty ones are a set
 pub ordered : (rs : List Ref) (k low : ℕ) → Rising low (2 ^ 64) rs → ((i : ℕ) (r : Ref) → slice_get rs i ≡ Some r → r.kind ≡ Empty → ⊥) → IsSet (rs ++ replicate k empty_ref)
 ordered [] k low h filled j d lt = inl (ap (λ (y : Ref). y.kind) (get_or-replicate k (j + 1) empty_ref d (omega (arith, lt, length-replicate {A = Ref} k empty_ref))))

@@ -21,3 +21,6 @@ pub use laws::split_law;
 pub use range::{holds, is_indirect};
 pub use set::{PutAnswer, Set, Split};
 pub use sets::{NodeId, Sets};
+
+#[cfg(test)]
+mod tests;

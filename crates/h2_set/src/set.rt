@@ -8,7 +8,6 @@ ghost use Rattle.h2_ref.specs.Ref.{empty_ref};
 
 use crate::range::holds;
 use crate::split::{parts_of, place_for};
-
 use arrayvec::ArrayVec;
 use h2_ref::Ref;
 use std::marker::Model;

@@ -15,11 +15,13 @@ is_set-requires c = subst (All IsValid) (sym c.deref.ensures.0) c.in_ok-refs.ens
 
 pub returns-then-not-is_set-clause-fault : goal.returns-then-not-is_set-clause-fault
 returns-then-not-is_set-clause-fault c =
-    let read = c.in_ok-refs.ensures.refs in
-    (read.spelled, no_shape c.args.b.now c.in_ok-refs.refs.items c.requires.size read (λ ordered.
-        let yes : c.is_set.result ≡ true = c.is_set.ensures.1 (subst IsSet (sym c.deref.ensures.0) ordered) in
-        let clash : true ≡ false = sym yes ∙ c.if-not-is_set.true in
-        cc))
+    let read = c.in_ok-refs.ensures.refs in (
+      read.spelled,
+      no_shape c.args.b.now c.in_ok-refs.refs.items c.requires.size read (λ ordered.
+          let yes : c.is_set.result ≡ true = c.is_set.ensures.1 (subst IsSet (sym c.deref.ensures.0) ordered) in
+          let clash : true ≡ false = sym yes ∙ c.if-not-is_set.true in
+          cc),
+    )
 
 pub of_front-requires-clause-within : goal.of_front-requires-clause-within
 of_front-requires-clause-within c =
