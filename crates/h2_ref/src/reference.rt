@@ -102,6 +102,7 @@ impl Ref {
 }
 
 impl Default for Ref {
+    /// The empty reference.
     fn default() -> Ref {
         Ref::empty()
     }

@@ -1,3 +1,6 @@
 mod Holding
 mod Least
 mod Filtered
+mod Front
+mod BytesOf
+mod Shape

@@ -1,5 +1,6 @@
 pub mod Ranges
 pub mod RefSet
+pub mod SetBytes
 pub mod Forest
 pub mod EditLaws
 pub mod LeafLaws

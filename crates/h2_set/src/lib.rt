@@ -9,11 +9,18 @@
 //! call of the trait has one relation between the forest before and after it.
 #![tactic(auto)]
 
+mod bytes;
+mod laws;
 mod range;
 mod set;
 mod sets;
 mod split;
 
+pub use bytes::{SetFault, decode_set, encode_set};
+pub use laws::split_law;
 pub use range::{holds, is_indirect};
 pub use set::{PutAnswer, Set, Split};
 pub use sets::{NodeId, Sets};
+
+#[cfg(test)]
+mod tests;

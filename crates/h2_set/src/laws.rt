@@ -1,0 +1,22 @@
+ghost use Rattle.std.specs.Prelude.{◌≡◌, ◌+◌, ◌^◌, ◌<◌, ◌≤◌, ℕ, List, true, Some, length, slice_get, count_by};
+ghost use Rattle.h2_ref.specs.declared.reference.Ref.{Ref};
+ghost use Rattle.h2_set.specs.Ranges.{lies, AllAligned, Rising, Sides};
+ghost use Rattle.h2_set.specs.RefSet.{HoldsAll, IsSplitOf};
+
+/// A law of the split rule, over three or more references with aligned, disjoint ranges in order. Its range lies in
+/// each aligned range that holds all of them and has fewer keybits than that; each reference lies in it or apart from
+/// it; those that lie in it have fewer keybits than it; they are at least two, and not all.
+pub fn split_law()
+    ensures inside { (rs : List Ref) (low high key bits k b : ℕ) → Rising low high rs → AllAligned rs → 3 ≤ length rs
+        → IsSplitOf rs key bits → HoldsAll rs k b → (k ≤ key) × (key + 2 ^ bits ≤ k + 2 ^ b) }
+    ensures fewer { (rs : List Ref) (low high key bits k b : ℕ) → Rising low high rs → AllAligned rs → 3 ≤ length rs
+        → IsSplitOf rs key bits → HoldsAll rs k b → bits < b }
+    ensures sides { (rs : List Ref) (low high key bits : ℕ) → Rising low high rs → AllAligned rs → 3 ≤ length rs
+        → IsSplitOf rs key bits → (i : ℕ) (r : Ref) → slice_get rs i ≡ Some r → Sides key bits r }
+    ensures shorter { (rs : List Ref) (low high key bits : ℕ) → Rising low high rs → AllAligned rs → 3 ≤ length rs
+        → IsSplitOf rs key bits → (i : ℕ) (r : Ref) → slice_get rs i ≡ Some r → lies key bits r ≡ true → r.keybits < bits }
+    ensures two { (rs : List Ref) (low high key bits : ℕ) → Rising low high rs → AllAligned rs → 3 ≤ length rs
+        → IsSplitOf rs key bits → 2 ≤ count_by (lies key bits) rs }
+    ensures few { (rs : List Ref) (low high key bits : ℕ) → Rising low high rs → AllAligned rs → 3 ≤ length rs
+        → IsSplitOf rs key bits → count_by (lies key bits) rs < length rs }
+{}
