@@ -12,6 +12,9 @@ fn field_refusal(b: &[u8], at: usize) -> Option<HeadFault> {
     if b.len() != 65536 {
         return None;
     }
+    if at >= 65536 {
+        return None;
+    }
     let wrong = match at {
         12..16 => match get32(b, 12) {
             5 => None,
@@ -50,11 +53,7 @@ fn field_refusal(b: &[u8], at: usize) -> Option<HeadFault> {
                 Err(_) => Some(512),
             }
         }
-        _ => if b[at % 65536] == 0 {
-            None
-        } else {
-            Some(at as u32 % 65536)
-        },
+        _ => if b[at] == 0 { None } else { Some(at as u32) },
     };
     match wrong {
         Some(place) => Some(HeadFault::Field(place)),

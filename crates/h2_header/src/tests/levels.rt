@@ -28,6 +28,17 @@ fn map_ref(level: u8, zone: u64) -> Ref {
     }
 }
 
+// Puts reference number i of the map, if it is one.
+fn put_valid(b: &mut [u8], i: usize, r: &Ref) {
+    if !r.valid() {
+        return;
+    }
+    let bytes = encode(r);
+    if i < 8 && b.len() == 65536 {
+        put_bytes(b, 1024 + 128 * i, &bytes);
+    }
+}
+
 // The block of a header with an empty super-root and these references of the map.
 fn block(alloc: Global, zones: u32, map: &[Ref; 8]) -> Result<Vec<u8>, AllocError> {
     let mut b = vec![in alloc; 0u8; 65536]?;
@@ -39,10 +50,8 @@ fn block(alloc: Global, zones: u32, map: &[Ref; 8]) -> Result<Vec<u8>, AllocErro
         put64(&mut b, 24, 4);
         put64(&mut b, 32, 2);
     }
-    for i in 0..8usize {
-        if map[i].valid() && b.len() == 65536 {
-            put_bytes(&mut b, 1024 + 128 * i, &encode(&map[i]));
-        }
+    for (i, r) in map.iter().enumerate() {
+        put_valid(&mut b, i, r);
     }
     if b.len() == 65536 {
         let check = crc32c(b.split_at(65532).0);

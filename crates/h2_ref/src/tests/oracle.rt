@@ -18,7 +18,7 @@ fn number(b: &[u8; 128], at: usize) -> u64 {
 }
 
 /// The first refusal, by the format's table with its columns as arrays over the kinds: every rule is looked
-/// at, and the first broken one in the order of refusals is named. Entries with a short name are row 7.
+/// at, and the first broken one in the order of refusals is named. Entries with a short name stand last.
 pub fn refusal(b: &[u8; 128]) -> Option<RefFault> {
     if b[0] > 6 {
         return Some(RefFault::Kind(b[0]));
