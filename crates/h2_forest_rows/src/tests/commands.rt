@@ -1,4 +1,6 @@
 //! Commands, written as the lines of a script after the client.
+ghost use Rattle.std.specs.Prelude.{◌<◌, IfOk};
+
 use h2_forest::{Bytes, Command, Name, Names, Path, Payload};
 use std::alloc::Global;
 use std::test::Fail;
@@ -54,7 +56,9 @@ fn path(alloc: Global, words: &[&str], i: usize) -> Result<Path, Fail> {
     })
 }
 
-fn digit(byte: u8) -> Result<u8, Fail> {
+fn digit(byte: u8) -> Result<u8, Fail>
+    ensures { IfOk result (λ d. d < 16) }
+{
     match byte {
         b'0'..=b'9' => Ok(byte - b'0'),
         b'a'..=b'f' => Ok(byte - b'a' + 10),

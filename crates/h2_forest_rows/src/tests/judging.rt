@@ -37,11 +37,11 @@ fn bulk(staged: u32, freed: u32) -> Reply {
     }
 }
 
-fn applied(segment: u32) -> Item {
+fn applied(segment: u32, staged: u32, freed: u32) -> Item {
     Item::Mark(Mark::Applied {
         segment,
-        staged: segment + 1,
-        freed: 5 * segment,
+        staged,
+        freed,
     })
 }
 
@@ -79,8 +79,8 @@ fn item(k: usize) -> Item {
             moment: 11,
         }),
         8 => Item::Mark(Mark::ScanBegin { number: 3 }),
-        9 => applied(0),
-        10 => applied(1),
+        9 => applied(0, 1, 0),
+        10 => applied(1, 2, 5),
         11 => call(0, 1, 0, Command::Bulkfree, bulk(3, 5)),
         12 => call(1, 0, 1, Command::Sync, io(0, 1)),
         _ => call(1, 1, 1, Command::Sync, io(1, 3)),
@@ -173,7 +173,7 @@ fn broken(k: usize) -> (usize, Item, Legality) {
         ),
         9 => (
             10,
-            applied(0),
+            applied(0, 2, 5),
             Legality {
                 passes: false,
                 ..ALL
@@ -189,7 +189,7 @@ fn broken(k: usize) -> (usize, Item, Legality) {
         ),
         11 => (
             9,
-            applied(1),
+            applied(1, 1, 0),
             Legality {
                 passes: false,
                 ..ALL
