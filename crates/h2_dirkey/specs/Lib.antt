@@ -1,2 +1,7 @@
 pub mod Name
 pub mod NameLaws
+pub mod Key
+pub mod KeyLaws
+pub mod Marks
+pub mod Block
+pub mod BlockLaws
