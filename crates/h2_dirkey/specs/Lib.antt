@@ -1,5 +1,6 @@
 pub mod Name
 pub mod NameLaws
+pub mod PfsName
 pub mod Key
 pub mod KeyLaws
 pub mod Marks

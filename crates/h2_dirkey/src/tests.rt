@@ -27,6 +27,26 @@ fn names_are_good_or_have_a_fault(rt: HostRuntime) {
     }
 }
 
+#[test]
+fn names_of_pfss(rt: HostRuntime) {
+    let most = [b'Z'; 64];
+    let more = [b'Z'; 65];
+    let rows: [(&[u8], bool); 9] = [
+        (b"ROOT", true),
+        (b"az09._-", true),
+        (b"..", true),
+        (&most, true),
+        (&more, false),
+        (b"", false),
+        (b"a b", false),
+        (b"a/b", false),
+        (b"[", false),
+    ];
+    for (name, want) in rows {
+        assert_eq!(rt; is_pfs_name(name), want);
+    }
+}
+
 // The XXH64 of `a` and `abc` is published. The pairs of names that collide, and the key of 255 times `A`,
 // come from an implementation in another language.
 #[test]
