@@ -1,1 +1,3 @@
+pub mod Area
+pub mod Adjacent
 pub mod Fields

@@ -1,5 +1,14 @@
+pub mod Table
 pub mod Ref
-pub mod RefLaws
-pub mod Spelling
+pub mod Limits
 pub mod Set
+pub mod RefLaws
+pub mod Fault
+pub mod FirstPlace
+pub mod Tests
+pub mod Passing
+pub mod Reading
+pub mod Spelled
+pub mod FaultLaws
+pub mod Spelling
 pub mod SetLaws

@@ -1,105 +1,94 @@
-ghost use Rattle.std.specs.Prelude.{◌≡◌, ◌↔◌, ◌≤◌, IsTrue, IfNone, IfSome, MatchOption, length};
-ghost use Rattle.h2_num.specs.Places.{number_at, places, ZeroIn};
-ghost use Rattle.h2_ref.specs.Ref.{check_len, check_value, kind_number, method_number, FieldBytes, GapBytes, IsSplit, IsValid, NoRef, RefBytes};
-ghost use Rattle.h2_ref.specs.declared.reference.Kind.{Kind};
-ghost use Rattle.h2_ref.specs.declared.reference.Check.{Check};
+ghost use Rattle.std.specs.Prelude.{◌≡◌, IfOk, OnErr};
+ghost use Rattle.std.specs.Result.{result_err};
+ghost use Rattle.h2_num.specs.Places.{places};
+ghost use Rattle.h2_ref.specs.Ref.{IsValid, NoRef, RefBytes};
+ghost use Rattle.h2_ref.specs.Fault.{first_fault};
+ghost use Rattle.h2_ref.specs.Table.{row_of};
+ghost use Rattle.h2_ref.specs.Reading.{check_of, dirent_at, name_at, ref_at};
 
+use crate::faults::RefFault;
+use crate::flags::RefFlags;
+use crate::judging::{fault_by, kind_of, place_at, radix_at};
 use crate::layout::{
-    CHECK_AT, ENTRY_AT, FLAGS_AT, FLAGS_END, ID_AT, KEY_AT, KEYBITS_AT, KIND_AT, METHOD_AT,
-    PLACE_AT, REF_BYTES,
+    AREA_AT, AREA_BYTES, ID_AT, KEY_AT, KEYBITS_AT, KIND_AT, LEN_AT, METHOD_AT, NUMBER_AT, REF_BYTES,
+    TARGET_AT,
 };
-use crate::reference::{Check, Kind, Ref};
-use h2_num::{first_nonzero, get32, get64};
+use crate::reference::{Check, Dirent, Kind, Ref};
+use crate::table::{Row, row_of};
+use h2_num::{get16, get32, get64};
 
-/// One more than the greatest radix that the low bits of a place hold.
-const RADIX_END: u64 = 64;
-
-/// The kind with the number; None where there is none.
-fn kind_of(number: u8) -> Option<Kind>
-    ensures { MatchOption result ((kind : Kind) → kind_number kind ≡ number → ⊥) (λ kind. number ≡ kind_number kind) }
-{
-    match number {
-        0 => Some(Kind::Empty),
-        1 => Some(Kind::Inode),
-        6 => Some(Kind::MapLeaf),
-        _ => None,
-    }
-}
-
-/// The check that the bytes hold; None where the method is none.
-fn check_of(b: &[u8; REF_BYTES]) -> Option<Check>
-    ensures none { IfNone result ((check : Check) → places b.now 1 ≡ method_number check → ⊥) }
-    ensures method { IfSome result (λ check. places b.now 1 ≡ method_number check) }
-    ensures value { IfSome result (λ check. number_at (places b.now) 64 (check_len check) ≡ check_value check) }
+/// The check that stands in the bytes.
+fn check_of(b: &[u8; REF_BYTES]) -> Check
+    ensures { result ≡ check_of (places b.now 1) (places b.now) }
 {
     match b[METHOD_AT] {
-        0 => Some(Check::Nothing),
-        3 => Some(Check::Xx(get64(b, CHECK_AT))),
-        5 => Some(Check::Crc(get32(b, CHECK_AT))),
-        _ => None,
+        3 => Check::Xx(get64(b, AREA_AT)),
+        5 => Check::Crc(get32(b, AREA_AT)),
+        _ => Check::Nothing,
     }
 }
 
-/// The reference that the fields give; None where no kind or no method has the number.
-fn fields_of(b: &[u8; REF_BYTES]) -> Option<Ref>
-    ensures none { IfNone result (NoRef (places b.now)) }
-    ensures fields { IfSome result (λ r. FieldBytes r (places b.now)) }
-    ensures split { IfSome result IsSplit }
+/// The name in the check area, or none.
+fn name_at(w: &Row, b: &[u8; REF_BYTES]) -> [u8; AREA_BYTES]
+    ensures { result ≡ name_at w.now (places b.now) }
 {
-    let kind = kind_of(b[KIND_AT])?;
-    let check = check_of(b)?;
-    let place = get64(b, PLACE_AT);
-    Some(Ref {
-        kind,
-        key: get64(b, KEY_AT),
-        keybits: b[KEYBITS_AT],
-        place: place / RADIX_END * RADIX_END,
-        radix: (place % RADIX_END) as u8,
-        id: get64(b, ID_AT),
-        check,
+    if w.flags != RefFlags::INLINE {
+        return [0; AREA_BYTES];
+    }
+    let Some(area) = b[AREA_AT..].first_chunk::<AREA_BYTES>() else {
+        unreachable!();
+    };
+    *area
+}
+
+/// The fields of an entry, if the kind is one.
+fn dirent_at(w: &Row, b: &[u8; REF_BYTES]) -> Option<Dirent>
+    ensures { result ≡ dirent_at w.now w.now.names (places b.now) }
+{
+    if w.names.is_none() {
+        return None;
+    }
+    Some(Dirent {
+        number: get64(b, NUMBER_AT),
+        len: get16(b, LEN_AT),
+        target: b[TARGET_AT],
+        name: name_at(w, b),
     })
 }
 
-/// Whether zeros stand in the range.
-fn is_zero(b: &[u8], from: usize, to: usize) -> bool
-    requires ordered { from ≤ to }
-    requires within { to ≤ length b.now }
-    ensures { IsTrue result ↔ ZeroIn from to (places b.now) }
+/// The reference of a kind, whose row is given, in the bytes.
+fn read(kind: Kind, w: &Row, b: &[u8; REF_BYTES]) -> Ref
+    requires { w.now ≡ row_of kind (places b.now 1) }
+    ensures { result ≡ ref_at kind (places b.now) }
 {
-    first_nonzero(b, from, to).is_none()
-}
-
-/// How many bytes a check has.
-fn check_len(check: Check) -> usize
-    ensures len { result ≡ check_len check }
-    ensures most { result ≤ 8 }
-{
-    match check {
-        Check::Nothing => 0,
-        Check::Xx(_) => 8,
-        Check::Crc(_) => 4,
+    Ref {
+        kind,
+        key: get64(b, KEY_AT),
+        keybits: b[KEYBITS_AT],
+        place: place_at(b),
+        radix: radix_at(b),
+        id: get64(b, ID_AT),
+        check: check_of(b),
+        dirent: dirent_at(w, b),
     }
 }
 
-/// Whether all gaps are zero.
-fn has_zero_gaps(b: &[u8; REF_BYTES], check: Check) -> bool
-    ensures { IsTrue result ↔ GapBytes check (places b.now) }
+/// The valid reference that the bytes spell.
+///
+/// # Errors
+/// Exactly where they spell none: the first refusal of the order `Kind`, `Method`, `Padding(3)` for a wrong
+/// flag, `Radix`, `Place`, `Key`, `Id`, `Dirent`, `Padding` at the first nonzero byte that must be zero.
+pub fn decode(b: &[u8; REF_BYTES]) -> Result<Ref, RefFault>
+    ensures found { IfOk result (λ r. IsValid r × RefBytes r (places b.now)) }
+    ensures fault { result_err result ≡ first_fault (places b.now) }
+    ensures none { OnErr result (NoRef (places b.now)) }
 {
-    b[FLAGS_AT] == 0
-        && is_zero(b, FLAGS_END, KEY_AT)
-        && is_zero(b, ENTRY_AT, CHECK_AT)
-        && is_zero(b, CHECK_AT + check_len(check), REF_BYTES)
-}
-
-/// The valid reference that the bytes spell; None exactly where they spell none.
-pub fn decode(b: &[u8; REF_BYTES]) -> Option<Ref>
-    ensures found { IfSome result (λ r. IsValid r × RefBytes r (places b.now)) }
-    ensures none { IfNone result (NoRef (places b.now)) }
-{
-    let r = fields_of(b)?;
-    if r.valid() && has_zero_gaps(b, r.check) {
-        Some(r)
-    } else {
-        None
+    let Some(kind) = kind_of(b[KIND_AT]) else {
+        return Err(RefFault::Kind(b[KIND_AT]));
+    };
+    let w = row_of(kind, b[METHOD_AT]);
+    match fault_by(&w, b) {
+        Some(fault) => Err(fault),
+        None => Ok(read(kind, &w, b)),
     }
 }

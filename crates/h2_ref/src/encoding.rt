@@ -1,10 +1,17 @@
-ghost use Rattle.std.specs.Prelude.{◌≡◌, ◌+◌};
-ghost use Rattle.h2_num.specs.Places.{number_at, places, ZeroIn};
-ghost use Rattle.h2_ref.specs.Ref.{check_len, check_value, kind_number, method_number, RefBytes, IsValid};
+ghost use Rattle.std.specs.Prelude.{◌≡◌, ◌+◌, ◌-◌};
+ghost use Rattle.h2_num.specs.Places.{number_at, places, SameOutside, ZeroIn};
+ghost use Rattle.h2_ref.specs.Ref.{area_len, check_len, check_value, fields_end, kind_number, EntryBytes, IsValid, NameBytes, RefBytes, row};
 
-use crate::layout::{CHECK_AT, ID_AT, KEY_AT, KEYBITS_AT, KIND_AT, METHOD_AT, PLACE_AT, REF_BYTES};
-use crate::reference::{Check, Kind, Ref};
-use h2_num::{put8, put32, put64};
+use crate::flags::RefFlags;
+use crate::layout::{
+    AREA_AT, FLAGS_AT, ID_AT, KEY_AT, KEYBITS_AT, KIND_AT, LEN_AT, METHOD_AT, NUMBER_AT, PLACE_AT,
+    REF_BYTES, TARGET_AT,
+};
+use crate::reference::{Check, Dirent, Kind, Ref};
+use crate::rules::method_number;
+use crate::table::{Row, row_of};
+use bitflags::Flags;
+use h2_num::{put_bytes, put8, put16, put32, put64};
 
 /// The number of a kind.
 fn kind_number(kind: Kind) -> u8
@@ -13,18 +20,11 @@ fn kind_number(kind: Kind) -> u8
     match kind {
         Kind::Empty => 0,
         Kind::Inode => 1,
+        Kind::Indirect => 2,
+        Kind::Content => 3,
+        Kind::Dirent => 4,
+        Kind::MapNode => 5,
         Kind::MapLeaf => 6,
-    }
-}
-
-/// The number of the method of a check.
-fn method_number(check: Check) -> u8
-    ensures { result ≡ method_number check }
-{
-    match check {
-        Check::Nothing => 0,
-        Check::Xx(_) => 3,
-        Check::Crc(_) => 5,
     }
 }
 
@@ -37,10 +37,40 @@ fn check_over_zeros(check: Check) -> [u8; REF_BYTES]
     let mut b = [0; REF_BYTES];
     match check {
         Check::Nothing => {}
-        Check::Xx(n) => put64(&mut b, CHECK_AT, n),
-        Check::Crc(n) => put32(&mut b, CHECK_AT, n),
+        Check::Xx(n) => put64(&mut b, AREA_AT, n),
+        Check::Crc(n) => put32(&mut b, AREA_AT, n),
     }
     b
+}
+
+/// The check area of a valid reference, over zeros: the name of an entry that has it, else the check.
+fn area_over_zeros(r: &Ref, w: &Row) -> [u8; REF_BYTES]
+    requires row { w.now ≡ row r.now }
+    requires valid { IsValid r.now }
+    ensures front { ZeroIn 0 64 (places result) }
+    ensures check { number_at (places result) 64 (check_len r.now.check) ≡ check_value r.now.check }
+    ensures name { NameBytes (row r.now) r.now.dirent (places result) }
+    ensures tail { ZeroIn (64 + area_len (row r.now) r.now.check r.now.dirent) 128 (places result) }
+{
+    let mut b = check_over_zeros(r.check);
+    if let Some(e) = &r.dirent {
+        if w.flags == RefFlags::INLINE {
+            put_bytes(&mut b, AREA_AT, &e.name);
+        }
+    }
+    b
+}
+
+/// Puts the fields of an entry but for its name, if there is one.
+fn put_dirent(dirent: &Option<Dirent>, b: &mut [u8; REF_BYTES])
+    ensures fields { EntryBytes dirent.now (places b.new) }
+    ensures others { SameOutside 32 (fields_end dirent.now - 32) (places b.old) (places b.new) }
+{
+    if let Some(e) = dirent {
+        put64(b, NUMBER_AT, e.number);
+        put16(b, LEN_AT, e.len);
+        put8(b, TARGET_AT, e.target);
+    }
 }
 
 /// The bytes of a valid reference.
@@ -48,10 +78,14 @@ pub fn encode(r: &Ref) -> [u8; REF_BYTES]
     requires { IsValid r.now }
     ensures { RefBytes r.now (places result) }
 {
-    let mut b = check_over_zeros(r.check);
+    let method = method_number(r.check);
+    let w = row_of(r.kind, method);
+    let mut b = area_over_zeros(r, &w);
+    put_dirent(&r.dirent, &mut b);
     put8(&mut b, KIND_AT, kind_number(r.kind));
-    put8(&mut b, METHOD_AT, method_number(r.check));
+    put8(&mut b, METHOD_AT, method);
     put8(&mut b, KEYBITS_AT, r.keybits);
+    put8(&mut b, FLAGS_AT, w.flags.bits());
     put64(&mut b, KEY_AT, r.key);
     put64(&mut b, PLACE_AT, r.place + r.radix as u64);
     put64(&mut b, ID_AT, r.id);

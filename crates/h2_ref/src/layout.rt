@@ -1,6 +1,9 @@
 /// The bytes of a reference.
 pub const REF_BYTES: usize = 128;
 
+/// The bytes of the check area, in which a short name stands.
+pub const AREA_BYTES: usize = 64;
+
 // Places of its fields, in bytes.
 pub const KIND_AT: usize = 0;
 
@@ -18,6 +21,12 @@ pub const PLACE_AT: usize = 16;
 
 pub const ID_AT: usize = 24;
 
-pub const ENTRY_AT: usize = 32;
+pub const NUMBER_AT: usize = 32;
 
-pub const CHECK_AT: usize = 64;
+pub const LEN_AT: usize = 40;
+
+pub const TARGET_AT: usize = 42;
+
+pub const TARGET_END: usize = 43;
+
+pub const AREA_AT: usize = 64;

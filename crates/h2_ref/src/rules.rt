@@ -1,74 +1,138 @@
-ghost use Rattle.std.specs.Prelude.{◌≡◌, ◌<◌, ◌↔◌, IsTrue};
-ghost use Rattle.h2_ref.specs.Ref.{HasBlock, IsCrc, IsInodeRef, IsMapLeafRef, IsValid, IsXx};
+ghost use Rattle.std.specs.Prelude.{◌≡◌, ◌<◌, ◌%◌, ◌^◌, ◌↔◌, IsTrue, length};
+ghost use Rattle.h2_num.specs.Places.{places, ZeroIn};
+ghost use Rattle.h2_ref.specs.Ref.{HasKeybits, InSpan, IsMethodOf, IsStored, method_number, PlaceFits, KeyFits, EntryFits, IsEntry, FitsRow, IsValid, inline_len};
+ghost use Rattle.h2_ref.specs.Fault.{in_span, is_method_of, has_keybits, key_fits, place_fits};
+ghost use Rattle.h2_ref.specs.Limits.{IsLimited};
 
-use crate::reference::{Check, Kind, Ref};
+use crate::flags::RefFlags;
+use crate::reference::{Check, Dirent, Ref};
+use crate::table::{CheckClass, Keybits, Row, Span, row_of};
+use h2_num::first_nonzero;
 
-/// The base-2 logarithm of the size of an inode's block and of a map block.
-const SMALL_RADIX: u8 = 10;
-
-/// Places and keys of the disk are below this.
+/// The end of a disk's places.
 const DISK_BYTES: u64 = 1 << 34;
 
-/// Ids are up to this one.
-const LAST_ID: u64 = 1 << 62;
-
-/// The numbers of inodes, which are their keys, are below this.
+/// The end of the numbers of inodes.
 const INODE_END: u64 = 1 << 62;
 
-/// The base-2 logarithm of the bytes of a zone.
-const ZONE_KEYBITS: u8 = 25;
-
-/// Whether the check is an XXH64.
-fn is_xx(check: Check) -> bool
-    ensures { IsTrue result ↔ IsXx check }
+/// Whether a number is in a span.
+pub fn in_span(s: Span, n: u64) -> bool
+    ensures test { result ≡ in_span s n }
+    ensures fact { IsTrue result ↔ InSpan s n }
 {
-    matches!(check, Check::Xx(_))
+    s.least <= n && n <= s.last
 }
 
-/// Whether the check is a CRC-32C.
-fn is_crc(check: Check) -> bool
-    ensures { IsTrue result ↔ IsCrc check }
+/// Whether a class of checks has the method with this number.
+pub fn is_method_of(class: CheckClass, method: u8) -> bool
+    ensures test { result ≡ is_method_of class method }
+    ensures fact { IsTrue result ↔ IsMethodOf class method }
 {
-    matches!(check, Check::Crc(_))
+    match class {
+        CheckClass::Absent => method == 0,
+        CheckClass::OfBlock => method == 3,
+        CheckClass::OfMap => method == 5,
+    }
 }
 
-/// Whether it names a block of 1 KiB.
-fn has_small_block(r: &Ref) -> bool
-    ensures { IsTrue result ↔ HasBlock 10 r.now }
+/// Whether these are keybits of a kind.
+fn has_keybits(keybits: Keybits, n: u8) -> bool
+    ensures test { result ≡ has_keybits keybits n }
+    ensures fact { IsTrue result ↔ HasKeybits keybits n }
 {
-    r.radix == SMALL_RADIX
-        && r.place > 0
-        && r.place < DISK_BYTES
-        && r.place % (1 << SMALL_RADIX) == 0
-        && r.id > 0
-        && r.id <= LAST_ID
+    match keybits {
+        Keybits::Just(a) => n == a,
+        Keybits::Either(a, b) => n == a || n == b,
+        Keybits::Between(a, b) => a <= n && n <= b,
+    }
 }
 
-/// Whether the rules of an inode's reference hold.
-fn is_inode(r: &Ref) -> bool
-    ensures { IsTrue result ↔ IsInodeRef r.now }
+/// Whether a kind has such a key.
+pub fn key_fits(w: &Row, keybits: u8, key: u64) -> bool
+    requires { IsLimited w.now }
+    ensures test { result ≡ key_fits w.now keybits key }
+    ensures fact { IsTrue result ↔ KeyFits w.now keybits key }
 {
-    r.keybits == 0 && r.key > 0 && r.key < INODE_END && has_small_block(r) && is_xx(r.check)
+    has_keybits(w.keybits, keybits) && in_span(w.keys, key) && key % (1 << keybits) == 0
 }
 
-/// Whether the rules of a map leaf's reference hold.
-fn is_map_leaf(r: &Ref) -> bool
-    ensures { IsTrue result ↔ IsMapLeafRef r.now }
+/// Whether a block with this radix may lie at a place.
+pub fn place_fits(radix: u8, place: u64) -> bool
+    requires { radix < 32 }
+    ensures test { result ≡ place_fits radix place }
+    ensures fact { IsTrue result ↔ PlaceFits radix place }
 {
-    r.keybits == ZONE_KEYBITS
-        && r.key % (1 << ZONE_KEYBITS) == 0
-        && r.key < DISK_BYTES
-        && has_small_block(r)
-        && is_crc(r.check)
+    if radix == 0 {
+        place == 0
+    } else {
+        place > 0 && place < DISK_BYTES && place % (1 << radix) == 0
+    }
 }
 
-/// Whether the rules of its kind hold.
+/// How many bytes of an entry's name stand in it.
+pub fn inline_len(w: &Row, len: u16) -> u16
+    ensures { result ≡ inline_len w.now len }
+{
+    if w.flags == RefFlags::INLINE { len } else { 0 }
+}
+
+/// Whether a name ends in zeros from a place on.
+fn name_ends(name: &[u8; 64], len: u16) -> bool
+    ensures { IsTrue result ↔ ZeroIn len 64 (places name.now) }
+{
+    len >= 64 || first_nonzero(name, len as usize, 64).is_none()
+}
+
+/// Whether what an entry says is in its ranges.
+fn is_entry(w: &Row, names: Span, e: &Dirent) -> bool
+    ensures { IsTrue result ↔ IsEntry w.now names e.now }
+{
+    in_span(names, e.len as u64)
+        && (e.target == 1 || e.target == 2)
+        && e.number > 0
+        && e.number < INODE_END
+        && name_ends(&e.name, inline_len(w, e.len))
+}
+
+/// Whether there is an entry exactly where the kind is one, and what it says is in its ranges.
+fn entry_fits(w: &Row, dirent: &Option<Dirent>) -> bool
+    ensures { IsTrue result ↔ EntryFits w.now w.now.names dirent.now }
+{
+    match (w.names, dirent) {
+        (None, None) => true,
+        (Some(names), Some(e)) => is_entry(w, names, e),
+        _ => false,
+    }
+}
+
+/// The number of the method of a check.
+pub fn method_number(check: Check) -> u8
+    ensures number { result ≡ method_number check }
+    ensures stored { IsStored check }
+{
+    match check {
+        Check::Nothing => 0,
+        Check::Xx(_) => 3,
+        Check::Crc(_) => 5,
+    }
+}
+
+/// Whether a reference is allowed by a row.
+fn fits_row(w: &Row, r: &Ref) -> bool
+    requires { IsLimited w.now }
+    ensures { IsTrue result ↔ FitsRow w.now r.now }
+{
+    is_method_of(w.check, method_number(r.check))
+        && r.radix == w.radix
+        && place_fits(w.radix, r.place)
+        && key_fits(w, r.keybits, r.key)
+        && in_span(w.ids, r.id)
+        && entry_fits(w, &r.dirent)
+}
+
+/// Whether the row of its kind and method holds.
 pub fn is_valid(r: &Ref) -> bool
     ensures { IsTrue result ↔ IsValid r.now }
 {
-    match r.kind {
-        Kind::Empty => *r == Ref::empty(),
-        Kind::Inode => is_inode(r),
-        Kind::MapLeaf => is_map_leaf(r),
-    }
+    fits_row(&row_of(r.kind, method_number(r.check)), r)
 }

@@ -9,7 +9,7 @@ fn may_follow(r: &Ref, s: &Ref) -> bool
     requires { IsValid r.now }
     ensures { IsTrue result ↔ MayFollow r.now s.now }
 {
-    s.kind == Kind::Empty || r.kind != Kind::Empty && r.key + (1 << r.keybits) <= s.key
+    s.kind == Kind::Empty || r.kind != Kind::Empty && r.key <= s.key && s.key - r.key >= 1 << r.keybits
 }
 
 /// Whether valid references are a set: first references whose ranges of keys ascend and are disjoint, and
