@@ -1,5 +1,5 @@
 -- Names of PFSs.
-use Rattle.std.specs.Prelude.{◌≡◌, ◌⊎◌, ℕ, ◌<◌, ◌≤◌, List, length, All}
+use Rattle.std.specs.Prelude.{◌≡◌, ◌⊎◌, ℕ, ◌≤◌, List, length, All}
 
 -- a letter, a digit, '.', '_' or '-'
 abbrev pub IsPfsNameByte : ℕ → Type 0

@@ -1,6 +1,6 @@
-ghost use Rattle.std.specs.Prelude.{◌≡◌, ◌↔◌, ◌<◌, ◌+◌, ◌%◌, ℕ, Contains, MatchOption, MatchResult};
+ghost use Rattle.std.specs.Prelude.{◌≡◌, ◌↔◌, ◌<◌, ◌+◌, ◌%◌, ℕ, Contains, IsTrue, MatchOption, MatchResult};
 ghost use Rattle.h2_dirkey.specs.Name.{IsName, IsFaultOf};
-ghost use Rattle.h2_dirkey.specs.Key.{least_key, IsPicked, AreAllUsed};
+ghost use Rattle.h2_dirkey.specs.Key.{least_key, IsNameUnder, IsPicked, AreAllUsed};
 ghost use Rattle.h2_dirkey.specs.Marks.{IsMarked};
 
 use crate::marks::{MARKS, Marks};
@@ -23,6 +23,17 @@ pub fn key_of(name: &[u8]) -> Result<u64, NameFault>
     check_name(name)?;
     let hash = xxh64(name) | ENTRY_BIT;
     Ok(hash / COLLISIONS * COLLISIONS)
+}
+
+/// Whether an entry with the name may stand under the key: the name is good, and the key has the upper bits
+/// of its keys.
+pub fn is_key_of(key: u64, name: &[u8]) -> bool
+    ensures { IsTrue result ↔ IsNameUnder key name.now }
+{
+    let Ok(least) = key_of(name) else {
+        return false;
+    };
+    key / COLLISIONS == least / COLLISIONS
 }
 
 /// Marks each of the used keys that has the upper bits of `key`, at its low 15 bits.

@@ -16,7 +16,7 @@ mod name_fault;
 mod pfs_name;
 
 pub use block::{NAME_BLOCK_BYTES, name_block, name_matches};
-pub use key::{key_of, pick};
+pub use key::{is_key_of, key_of, pick};
 pub use laws::{block_law, key_law, name_law};
 pub use name::{NAME_BYTES, check_name};
 pub use name_fault::NameFault;
