@@ -1,3 +1,5 @@
 pub mod Kind
 pub mod Limits
 pub mod Head
+pub mod Inode
+pub mod Fault

@@ -1,6 +1,9 @@
 /// The bytes of an inode.
 pub const INODE_BYTES: usize = 1024;
 
+/// The bytes of its body.
+pub const BODY_BYTES: usize = 512;
+
 // Places of its fields, in bytes.
 pub const KIND_AT: usize = 0;
 

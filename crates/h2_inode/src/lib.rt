@@ -1,14 +1,19 @@
 //! Inodes, and their 1024 bytes.
 #![tactic(auto)]
 
+mod contents;
+mod decoding;
 mod fault;
 mod head;
+mod inode;
 mod kind;
 mod layout;
 mod limits;
 mod pfs_name;
 
+pub use decoding::decode_inode;
 pub use fault::InodeFault;
+pub use inode::{Body, Inode};
 pub use kind::InodeKind;
 pub use layout::INODE_BYTES;
 pub use pfs_name::PfsName;

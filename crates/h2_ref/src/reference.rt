@@ -100,3 +100,10 @@ impl Ref {
         if self.radix == 0 { 0 } else { 1 << self.radix }
     }
 }
+
+/// What fills the free places of a vector of fixed capacity: the empty reference.
+impl Default for Ref {
+    fn default() -> Ref {
+        Ref::empty()
+    }
+}
