@@ -1,13 +1,14 @@
 -- The header of a planned volume keeps the rules of headers.
 use Rattle.std.proofs.Common.{◌≡◌, ◌≤◌, ℕ, zero, suc, ◌+◌, List, refl, sym, subst, inl, arith}
-use Rattle.std.specs.Prelude.{All, nat_lt, true, false}
-use Rattle.std.proofs.lemmas.Bool.{lt-ltb, le-ltb}
+use Rattle.std.specs.Prelude.{All, nat_lt, nat_le, true, false, if◌then◌else◌, ◌<◌, ◌*◌}
+use Rattle.std.proofs.lemmas.Bool.{lt-ltb, le-ltb, le-leb, cond-true}
 use Rattle.h2_num.specs.Places.{Places}
 use Rattle.h2_check.specs.XxhLaws.{xxh64_of-lt}
 use Rattle.h2_ref.specs.Ref.{IsValid, empty_ref}
 use Rattle.h2_ref.specs.Set.{IsSet}
 use Rattle.h2_header.specs.declared.header.Header.{Header}
-use Rattle.h2_header.specs.Map.{IsMapSlot, IsMap}
+use Rattle.h2_header.specs.Map.{IsMapEntry, IsMapSlot, IsMap, top_level, zones_under}
+use Rattle.h2_header.specs.RootLaws.{empty_root_ref}
 use Rattle.h2_header.specs.Header.{IsRootRef, IsRoot, IsHeader}
 use Rattle.h2_checkpoint.specs.declared.piece.Piece.{Piece}
 use Rattle.h2_image.specs.NewVolume.{pfs_place, IsZoneCount, inode_ref, map_slot, new_root, new_map, new_header}
@@ -16,27 +17,26 @@ use Rattle.h2_cmd.specs.Planning.{block_at, IsPlanned}
 
 pfs_valid : (pfs : Places) → IsValid (inode_ref pfs_place pfs)
 pfs_valid pfs = record {
-  keybits = refl;
-  key_above = omega arith;
-  key_below = omega arith;
-  block = record { radix = refl; place_above = omega arith; place_below = omega arith; place_multiple = refl; id_above = omega arith; id_below = omega arith };
-  check = xxh64_of-lt pfs 1024;
+  method = refl;
+  stored = xxh64_of-lt pfs 1024;
+  radix = refl;
+  place = record { above = omega arith; below = omega arith; multiple = refl };
+  key = record { keybits = refl; key = record { least = omega arith; last = omega arith }; multiple = refl };
+  id = record { least = omega arith; last = omega arith };
+  entry = tt;
 }
 
 pfs_root : (pfs : Places) → IsRootRef (inode_ref pfs_place pfs)
 pfs_root pfs = record { valid = pfs_valid pfs; kind = tt; key_below = omega arith }
-
-empty_root : IsRootRef empty_ref
-empty_root = record { valid = refl; kind = tt; key_below = omega arith }
 
 root_valid : (pfs : Places) → IsRoot (new_root pfs)
 root_valid pfs = record { length_is = refl; each = each; set = set }
   where
     each : All IsRootRef (new_root pfs)
     each zero d lt = pfs_root pfs
-    each (suc zero) d lt = empty_root
-    each (suc (suc zero)) d lt = empty_root
-    each (suc (suc (suc zero))) d lt = empty_root
+    each (suc zero) d lt = empty_root_ref
+    each (suc (suc zero)) d lt = empty_root_ref
+    each (suc (suc (suc zero))) d lt = empty_root_ref
     each (suc (suc (suc (suc k)))) d lt = absurd (omega arith)
 
     set : IsSet (new_root pfs)
@@ -46,11 +46,20 @@ root_valid pfs = record { length_is = refl; each = each; set = set }
     set (suc (suc (suc k))) d lt = absurd (omega arith)
 
 slot_valid : (zones : ℕ) (leaves : ℕ → Places) → IsZoneCount zones → (slot : ℕ) → IsMapSlot zones 1 slot (map_slot zones leaves slot)
-slot_valid zones leaves count slot = record {
-  leaf = λ few lt. let used : nat_lt slot zones ≡ true = lt-ltb slot zones lt in rw used (record { kind = refl; key = refl; keybits = refl; place = refl; id = refl });
-  node = λ many. let most : zones ≤ 8 = count.high in absurd (omega arith);
-  unused = λ le. let unused : nat_lt slot zones ≡ false = le-ltb slot zones le in rw unused refl;
-}
+slot_valid zones leaves count slot =
+    let most : zones ≤ 8 = count.high in
+    let top : nat_le zones 8 ≡ true = le-leb zones 8 most in
+    let level : top_level zones ≡ 0 = cond-true (nat_le zones 8) 0 (if nat_le zones 64 then 1 else 2) top in
+    subst (λ l. IsMapEntry l zones 1 (zones_under l * slot) (map_slot zones leaves slot)) (sym level) (record {
+      used = λ lt.
+          let below : slot < zones = omega arith in
+          let is : nat_lt slot zones ≡ true = lt-ltb slot zones below in
+          rw is (record { kind = refl; key = omega arith; keybits = refl; place = omega arith; id = refl });
+      unused = λ le.
+          let behind : zones ≤ slot = omega arith in
+          let isnt : nat_lt slot zones ≡ false = le-ltb slot zones behind in
+          rw isnt refl;
+    })
 
 map_valid : (zones : ℕ) (leaves : ℕ → Places) → IsZoneCount zones → All IsValid (new_map zones leaves) → IsMap zones 1 (new_map zones leaves)
 map_valid zones leaves count valid = record {

@@ -3,7 +3,7 @@ use Rattle.std.proofs.Common.{◌≡◌, ◌<◌, ℕ, zero, suc, ◌+◌, List,
 use Rattle.h2_num.specs.Places.{Places, places, from_place, SameBelow, InRange, Holds}
 use Rattle.h2_header.specs.declared.header.Header.{Header}
 use Rattle.h2_header.specs.Header.{HeadBytes}
-use Rattle.h2_header.specs.Map.{leaf_place}
+use Rattle.h2_geom.specs.Places.{leaf_place}
 use Rattle.h2_checkpoint.specs.declared.piece.Piece.{Piece}
 use Rattle.h2_checkpoint.specs.Slots.{IsSlot, InSlot}
 use Rattle.h2_checkpoint.specs.Queue.{Entry, entry_of, IsAmong, InEntries, AreApart, overlay_all}

@@ -6,6 +6,7 @@ use Rattle.std.proofs.lemmas.List.{get_or_append_left, get_or-append_right, leng
 use Rattle.h2_num.specs.Places.{Places, places}
 use Rattle.h2_ref.specs.declared.reference.Ref.{Ref}
 use Rattle.h2_ref.specs.Ref.{IsValid, empty_ref}
+use Rattle.h2_ref.specs.RefLaws.{empty_valid}
 use Rattle.h2_checkpoint.specs.declared.piece.Piece.{Piece}
 use Rattle.h2_image.specs.NewBlocks.{RootDirectoryBytes, RootPfsBytes}
 use Rattle.h2_image.specs.NewVolume.{directory_place, pfs_place, IsZoneCount, inode_ref, leaf_ref, map_slot, new_map}
@@ -91,7 +92,7 @@ no_leaves pieces e is count = record {
   front = λ i lt. refl;
   leaves = λ zone lt. absurd (omega arith);
   used = λ zone d lt. absurd (omega arith);
-  valid = λ k d lt. subst IsValid (sym (empty_at k d lt ∙ is)) refl;
+  valid = λ k d lt. subst IsValid (sym (empty_at k d lt ∙ is)) empty_valid;
   unused = λ slot d le lt. empty_at slot d lt ∙ is;
 }
   where

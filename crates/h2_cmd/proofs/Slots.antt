@@ -1,6 +1,7 @@
 -- The headers that are read from the slots of an image.
 use Rattle.std.proofs.Common.{◌≡◌, ◌⊎◌, ◌<◌, ◌≤◌, ℕ, ◌+◌, List, [], length, slice_index_or, slice_set, refl, sym, subst, ◌∙◌, inl, inr, arith}
-use Rattle.std.specs.Prelude.{Option, Some, None, IfSome, IfNone}
+use Rattle.std.specs.Prelude.{Option, Some, None, IfSome, IfNone, Result, Ok, Err, IfOk, OnErr}
+use Rattle.std.specs.Result.{result_ok}
 use Rattle.std.proofs.lemmas.Bool.{cases_lt}
 use Rattle.std.proofs.lemmas.List.{get_or-set_same, get_or-set_other}
 use mathlib.Core.Path.{fun_ext}
@@ -9,6 +10,7 @@ use Rattle.h2_disk.specs.Trace.{Trace, MayLeave, IsDurable, latest, up_to}
 use Rattle.h2_disk.specs.TraceLaws.{up_to-all}
 use Rattle.h2_disk.specs.Disk.{Keeps}
 use Rattle.h2_header.specs.declared.header.Header.{Header}
+use Rattle.h2_header.specs.declared.fault.HeadFault.{HeadFault}
 use Rattle.h2_header.specs.Header.{IsHeaderAt, NoHeaderAt}
 use Rattle.h2_header.specs.HeaderLaws.{IsHeaderAt-same, one_number}
 use Rattle.h2_header.specs.Newest.{NoneOf, IsNewestOf}
@@ -20,6 +22,11 @@ use Rattle.h2_cmd.specs.Formatting.{IsSlotHeader, AreSlotHeaders, IsNewestNumber
 pub slot_read : (image block : Places) (slot : ℕ) (found : Option Header) → SameBelow 65536 (slot_bytes image slot) block → IfSome found (IsHeaderAt slot block) → IfNone found (NoHeaderAt slot block) → IsSlotHeader image slot found
 slot_read image block slot None same some none = λ h at. none h (IsHeaderAt-same slot h (slot_bytes image slot) block same at)
 slot_read image block slot (Some h) same some none = IsHeaderAt-same slot h block (slot_bytes image slot) (λ k lt. sym (same k lt)) some
+
+-- what a slot is read as, without the refusal
+pub slot_found : (image block : Places) (slot : ℕ) (x : Result Header HeadFault) (found : Option Header) → found ≡ result_ok x → SameBelow 65536 (slot_bytes image slot) block → IfOk x (IsHeaderAt slot block) → OnErr x (NoHeaderAt slot block) → IsSlotHeader image slot found
+slot_found image block slot (Ok h) found is same some none = subst (IsSlotHeader image slot) (sym is) (slot_read image block slot (Some h) same some tt)
+slot_found image block slot (Err f) found is same some none = subst (IsSlotHeader image slot) (sym is) (slot_read image block slot None same tt none)
 
 -- images with the same bytes are one
 pub same_is : (a b : Places) → Same a b → b ≡ a

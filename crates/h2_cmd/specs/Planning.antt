@@ -3,7 +3,7 @@ use Rattle.std.specs.Prelude.{◌≡◌, ◌<◌, ℕ, ◌+◌, List, [], length
 use Rattle.h2_num.specs.Places.{Places, places}
 use Rattle.h2_ref.specs.Ref.{IsValid}
 use Rattle.h2_header.specs.declared.header.Header.{Header}
-use Rattle.h2_header.specs.Map.{leaf_place}
+use Rattle.h2_geom.specs.Places.{leaf_place}
 use Rattle.h2_checkpoint.specs.declared.piece.Piece.{Piece}
 use Rattle.h2_image.specs.NewBlocks.{RootDirectoryBytes, RootPfsBytes, NewLeafBytes}
 use Rattle.h2_image.specs.NewVolume.{directory_place, pfs_place, IsZoneCount, inode_ref, new_header}

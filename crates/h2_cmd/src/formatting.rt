@@ -11,12 +11,10 @@ ghost use Rattle.h2_cmd.specs.Formatting.{IsSlotHeader, AreSlotHeaders, IsNewest
 use crate::planning::{Plan, plan_volume};
 use h2_checkpoint::make;
 use h2_disk::{Disk, DiskFault};
+use h2_geom::header_place;
 use h2_header::{HEADER_BYTES, Header, SLOTS, newest, read_from, write_into};
 use h2_image::Volume;
 use std::alloc::Global;
-
-// Slots are so many bytes apart.
-const SLOT_STRIDE: u64 = 33554432;
 
 // The slot of the first header.
 const FIRST_SLOT_PLACE: u64 = 0;
@@ -44,10 +42,10 @@ fn read_slot<D: Disk>(
     ensures later { D.faults disk.old ≤ D.faults disk.new }
     ensures cause { IfErr result (λ fault. HasCause (D.faults disk.old) (D.faults disk.new) fault) }
 {
-    if let Err(fault) = disk.read(SLOT_STRIDE * slot as u64, block) {
+    if let Err(fault) = disk.read(header_place(slot), block) {
         return Err(fault);
     }
-    Ok(read_from(block, slot))
+    Ok(read_from(block, slot).ok())
 }
 
 // The headers in the four slots.

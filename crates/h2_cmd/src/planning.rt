@@ -2,7 +2,7 @@ ghost use Rattle.std.specs.Prelude.{◌≡◌, ◌≤◌, ◌<◌, ◌+◌, ◌+
 ghost use Rattle.h2_num.specs.Places.{places};
 ghost use Rattle.h2_ref.specs.Ref.{IsValid, empty_ref};
 ghost use Rattle.h2_ref.specs.declared.reference.Ref.{Ref};
-ghost use Rattle.h2_header.specs.Map.{leaf_place};
+ghost use Rattle.h2_geom.specs.Places.{leaf_place};
 ghost use Rattle.h2_checkpoint.specs.declared.piece.Piece.{Piece};
 ghost use Rattle.h2_image.specs.NewVolume.{IsZoneCount, inode_ref, leaf_ref, pfs_place};
 ghost use Rattle.h2_cmd.specs.Planning.{piece_at, block_at, IsBlockAt, HasInodes, IsLeafPiece, IsPlanned};
@@ -10,18 +10,17 @@ ghost use Rattle.h2_cmd.specs.Planning.{piece_at, block_at, IsBlockAt, HasInodes
 use crate::blocks::{SMALL_BLOCK_BYTES, leaf_block, root_directory_block, root_pfs_block};
 use h2_check::{crc32c, xxh64};
 use h2_checkpoint::Piece;
+use h2_geom::{ZONE_BYTES, leaf_place};
 use h2_header::Header;
 use h2_num::{Bytes, NoMemory};
 use h2_ref::{Check, Kind, Ref};
 use std::alloc::Global;
 
-// The bytes of a zone, and their base-2 logarithm.
-const ZONE_BYTES: u64 = 33554432;
-
+// The base-2 logarithm of the bytes of a zone.
 const ZONE_BITS: u8 = 25;
 
-// The first copy of the freemap lies here in each zone.
-const FIRST_COPY: u64 = 65536;
+// The copy of the freemap that the first header has.
+const FIRST_COPY: u32 = 0;
 
 // The two inodes lie in the first chunk that isn't reserved.
 const DIRECTORY_PLACE: u64 = 4194304;
@@ -52,6 +51,7 @@ fn make_inode_ref(place: u64, block: &[u8; SMALL_BLOCK_BYTES]) -> Ref
         radix: SMALL_RADIX,
         id: 1,
         check: Check::Xx(xxh64(block)),
+        dirent: None,
     }
 }
 
@@ -65,10 +65,11 @@ fn make_leaf_ref(zone: u32, block: &[u8; SMALL_BLOCK_BYTES]) -> Ref
         kind: Kind::MapLeaf,
         key: ZONE_BYTES * zone as u64,
         keybits: ZONE_BITS,
-        place: ZONE_BYTES * zone as u64 + FIRST_COPY,
+        place: leaf_place(zone, FIRST_COPY),
         radix: SMALL_RADIX,
         id: 1,
         check: Check::Crc(crc32c(block)),
+        dirent: None,
     }
 }
 
@@ -107,7 +108,7 @@ fn plan_leaf(alloc: Global, pieces: &mut Vec<Piece>, zone: u32) -> Result<Ref, N
     ensures { IfOk result (λ r. (piece : Piece) × IsLeafPiece zone piece × (r ≡ leaf_ref zone (places piece.bytes)) × IsValid r × (pieces.new.items ≡ pieces.old.items ++ piece ∷ [])) }
 {
     let leaf = leaf_block(zone);
-    push_block(alloc, pieces, ZONE_BYTES * zone as u64 + FIRST_COPY, &leaf)?;
+    push_block(alloc, pieces, leaf_place(zone, FIRST_COPY), &leaf)?;
     Ok(make_leaf_ref(zone, &leaf))
 }
 

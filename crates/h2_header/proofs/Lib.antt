@@ -1,3 +1,4 @@
 pub mod Block
 pub mod Numbers
 pub mod Pieces
+pub mod Found

@@ -3,7 +3,7 @@ use Rattle.std.specs.Prelude.{◌≡◌, ◌<◌, ◌≤◌, ℕ, ◌^◌, List,
 use Rattle.h2_num.specs.Places.{Places, places, number_at, from_place, SameBelow, ZeroIn}
 use Rattle.h2_check.specs.Crc.{crc32c_of}
 use Rattle.h2_ref.specs.declared.reference.Kind.{Kind}
-use Rattle.h2_ref.specs.declared.reference.Kind.TheVariants.{Empty, Inode, MapLeaf}
+use Rattle.h2_ref.specs.declared.reference.Kind.TheVariants.{Empty, Inode, Indirect, Content, Dirent, MapNode, MapLeaf}
 use Rattle.h2_ref.specs.declared.reference.Ref.{Ref}
 use Rattle.h2_ref.specs.Ref.{IsValid}
 use Rattle.h2_ref.specs.Set.{RefsBytes, IsSet}
@@ -21,6 +21,10 @@ pub record HasRefs (h : Header) : Type 0 where
 abbrev pub IsRootKind : Kind → Type 0
 IsRootKind Empty = Unit {0}
 IsRootKind Inode = Unit {0}
+IsRootKind Indirect = Unit {0}
+IsRootKind Content = ⊥
+IsRootKind Dirent = ⊥
+IsRootKind MapNode = ⊥
 IsRootKind MapLeaf = ⊥
 
 -- a reference that the super-root may hold

@@ -1,5 +1,8 @@
 pub mod Map
 pub mod Header
 pub mod HeaderLaws
+pub mod Fault
+pub mod Reading
+pub mod FaultLaws
 pub mod Newest
 pub mod RootLaws

@@ -1,6 +1,8 @@
--- The geometry of the freemap: which references a header has to it, and where its blocks lie.
-use Rattle.std.specs.Prelude.{◌≡◌, ◌<◌, ◌≤◌, ℕ, ◌+◌, ◌*◌, ◌-◌, ◌%◌, List, length, slice_index_or, All}
-use Rattle.h2_ref.specs.declared.reference.Kind.TheVariants.{MapLeaf}
+-- The freemap of a header: which references it has to it.
+use Rattle.std.specs.Prelude.{◌≡◌, ◌<◌, ◌≤◌, ℕ, zero, suc, ◌+◌, ◌*◌, ◌-◌, ◌%◌, ◌^◌, nat_le, if◌then◌else◌, List, length, slice_index_or, All}
+use Rattle.h2_geom.specs.Places.{zone_place, node_place}
+use Rattle.h2_ref.specs.declared.reference.Kind.{Kind}
+use Rattle.h2_ref.specs.declared.reference.Kind.TheVariants.{MapNode, MapLeaf}
 use Rattle.h2_ref.specs.declared.reference.Ref.{Ref}
 use Rattle.h2_ref.specs.Ref.{empty_ref, IsValid}
 
@@ -8,28 +10,35 @@ use Rattle.h2_ref.specs.Ref.{empty_ref, IsValid}
 abbrev pub turn_of : ℕ → ℕ
 turn_of number = (number - 1) % 4
 
--- the first place of a zone, which is its first key as well
-abbrev pub zone_place : ℕ → ℕ
-zone_place zone = 33554432 * zone
+-- the level of the blocks that a header names: leaves up to 8 zones, nodes of level 1 up to 64, else of level 2
+abbrev pub top_level : ℕ → ℕ
+top_level zones = if nat_le zones 8 then 0 else if nat_le zones 64 then 1 else 2
 
--- the place of the leaf of a zone in a copy: behind the zone's header slot, 16 KiB for each copy
-abbrev pub leaf_place : ℕ → ℕ → ℕ
-leaf_place zone copy = zone_place zone + 65536 + 16384 * copy
+-- how many zones a block of a level stands for
+abbrev pub zones_under : ℕ → ℕ
+zones_under level = 8 ^ level
 
--- it names the leaf of a zone in the map that the checkpoint of this number wrote
-pub record IsLeafOf (number zone : ℕ) (r : Ref) : Type 0 where
-  pub kind : r.kind ≡ MapLeaf
+-- the kind of the blocks of a level
+abbrev pub map_kind : ℕ → Kind
+map_kind zero = MapLeaf
+map_kind (suc level) = MapNode
+
+-- it names the block of a level that begins with a zone, in the map that the checkpoint of this number wrote
+pub record IsMapRef (level number zone : ℕ) (r : Ref) : Type 0 where
+  pub kind : r.kind ≡ map_kind level
   pub key : r.key ≡ zone_place zone
-  pub keybits : r.keybits ≡ 25
-  pub place : r.place ≡ leaf_place zone (turn_of number)
+  pub keybits : r.keybits ≡ 25 + 3 * level
+  pub place : r.place ≡ node_place level zone (turn_of number)
   pub id : r.id ≡ number
 
--- What a slot of the map holds, by the number of zones. With at most 8 it is the leaf of the zone of the
--- slot. With more it is a node, for which there is no kind yet, so that no reference will do.
-pub record IsMapSlot (zones number slot : ℕ) (r : Ref) : Type 0 where
-  pub leaf : zones ≤ 8 → slot < zones → IsLeafOf number slot r
-  pub node : 8 < zones → ⊥
-  pub unused : zones ≤ slot → r ≡ empty_ref
+-- what stands for the zones from one on: a reference to their block, or an empty one behind the last zone
+pub record IsMapEntry (level zones number zone : ℕ) (r : Ref) : Type 0 where
+  pub used : zone < zones → IsMapRef level number zone r
+  pub unused : zones ≤ zone → r ≡ empty_ref
+
+-- what a slot of the header's map holds, by the number of zones
+abbrev pub IsMapSlot : ℕ → ℕ → ℕ → Ref → Type 0
+IsMapSlot zones number slot r = IsMapEntry (top_level zones) zones number (zones_under (top_level zones) * slot) r
 
 -- the eight references to the map that the checkpoint of this number wrote
 pub record IsMap (zones number : ℕ) (refs : List Ref) : Type 0 where

@@ -3,11 +3,12 @@ use Rattle.std.specs.Prelude.{◌≡◌, ◌<◌, ℕ, zero, suc, ◌+◌, List,
 use Rattle.std.proofs.Common.{ap, sym, subst, arith, inl}
 use Rattle.h2_ref.specs.declared.reference.Ref.{Ref}
 use Rattle.h2_ref.specs.Ref.{empty_ref}
+use Rattle.h2_ref.specs.RefLaws.{empty_valid}
 use Rattle.h2_header.specs.Header.{IsRoot, IsRootRef}
 
 -- the empty reference may stand in a super-root
 pub empty_root_ref : IsRootRef empty_ref
-empty_root_ref = record { valid = refl; kind = tt; key_below = omega arith }
+empty_root_ref = record { valid = empty_valid; kind = tt; key_below = omega arith }
 
 -- one reference and three empty ones are a super-root
 pub root_of_one : (refs : List Ref) → length refs ≡ 4 → ((d : Ref) → IsRootRef (slice_index_or refs 0 d))

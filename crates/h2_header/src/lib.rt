@@ -9,16 +9,19 @@
 #![tactic(auto)]
 
 mod choosing;
+mod fault;
 mod header;
 mod laws;
 mod layout;
 mod reading;
+mod reading_refs;
 mod rules;
 mod writing;
 
 pub use choosing::newest;
+pub use fault::HeadFault;
 pub use header::{HEADER_BYTES, Header, SLOTS};
-pub use laws::header_law;
+pub use laws::{header_law, refusal_law};
 pub use reading::read_from;
 pub use writing::write_into;
 

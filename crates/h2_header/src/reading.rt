@@ -1,20 +1,19 @@
-ghost use Rattle.std.specs.Prelude.{◌≡◌, ◌≤◌, ◌<◌, ◌↔◌, ◌+◌, ◌*◌, All, List, IfNone, IfSome, IsTrue, codes, length};
-ghost use Rattle.h2_num.specs.Places.{places, number_at, from_place, SameBelow, ZeroIn};
-ghost use Rattle.h2_check.specs.Crc.{crc32c_of};
-ghost use Rattle.h2_ref.specs.Ref.{IsValid, NoRef, RefBytes};
-ghost use Rattle.h2_ref.specs.Set.{RefsBytes};
-ghost use Rattle.h2_ref.specs.declared.reference.Ref.{Ref};
-ghost use Rattle.h2_header.specs.Header.{FrameBytes, HasRefs, IsHeaderAt, NoHeaderAt, ValueBytes};
-ghost use Rattle.h2_header.specs.declared.header.Header.{Header};
+ghost use Rattle.std.specs.Prelude.{◌≡◌, ◌≤◌, ◌<◌, ◌↔◌, ◌+◌, IfErr, IfNone, IfOk, IfSome, IsTrue, OnErr, codes, length};
+ghost use Rattle.h2_num.specs.Places.{places, number_at, SameBelow, ZeroIn};
+ghost use Rattle.h2_header.specs.Fault.{IsFirstWrong, IsHeadFault};
+ghost use Rattle.h2_header.specs.FaultLaws.{HasNumbers};
+ghost use Rattle.h2_header.specs.Reading.{HasFields, IsFirstNonzero};
+ghost use Rattle.h2_header.specs.Header.{IsHeaderAt, NoHeaderAt};
 
+use crate::fault::HeadFault;
 use crate::header::Header;
 use crate::layout::{
-    CHECK_AT, MAGIC, MAP_AT, MAP_END, MAP_NUMBER_AT, NEXT_PFS_AT, NUMBER_AT, NUMBERS_END, ROOT_AT,
-    VERSION, VERSION_AT, ZONES_AT, check_of,
+    CHECK_AT, MAGIC, MAP_END, MAP_NUMBER_AT, NEXT_PFS_AT, NUMBER_AT, NUMBERS_END, ROOT_AT, VERSION,
+    VERSION_AT, ZONES_AT, check_of,
 };
-use crate::rules::{is_header, turn_of};
+use crate::reading_refs::{read_map, read_root};
+use crate::rules::{is_next_pfs, is_number_of, is_zone_count};
 use h2_num::{first_nonzero, get32, get64};
-use h2_ref::{REF_BYTES, Ref, decode};
 
 /// Whether the block begins with the magic.
 fn has_magic(b: &[u8]) -> bool
@@ -24,95 +23,107 @@ fn has_magic(b: &[u8]) -> bool
     b.starts_with(MAGIC)
 }
 
-/// Whether the block ends with its check.
-fn has_check(b: &[u8]) -> bool
+/// The place of the first wrong number; None where all are right.
+fn wrong_number(b: &[u8], slot: u32) -> Option<u32>
     requires { length b.now ≡ 65536 }
-    ensures { IsTrue result ↔ (number_at (places b.now) 65532 4 ≡ crc32c_of (places b.now) 65532) }
+    ensures right { IfNone result (HasNumbers slot (places b.now)) }
+    ensures wrong { IfSome result (IsFirstWrong slot (places b.now)) }
 {
-    get32(b, CHECK_AT) == check_of(b)
-}
-
-/// Whether zeros stand in the range.
-fn is_zero(b: &[u8], from: usize, to: usize) -> bool
-    requires ordered { from ≤ to }
-    requires within { to ≤ length b.now }
-    ensures { IsTrue result ↔ ZeroIn from to (places b.now) }
-{
-    first_nonzero(b, from, to).is_none()
-}
-
-/// Whether the block has what each header's has. The cheap tests come first.
-fn has_frame(b: &[u8]) -> bool
-    requires { length b.now ≡ 65536 }
-    ensures { IsTrue result ↔ FrameBytes (places b.now) }
-{
-    has_magic(b)
-        && get32(b, VERSION_AT) == VERSION
-        && is_zero(b, NUMBERS_END, ROOT_AT)
-        && has_check(b)
-        && is_zero(b, MAP_END, CHECK_AT)
-}
-
-/// The valid reference at a place; None where there is none.
-fn ref_at(b: &[u8], at: usize) -> Option<Ref>
-    requires { at + 128 ≤ length b.now }
-    ensures found { IfSome result (λ r. IsValid r × RefBytes r (from_place (places b.now) at)) }
-    ensures none { IfNone result (NoRef (from_place (places b.now) at)) }
-{
-    let Some(bytes) = b[at..].first_chunk::<REF_BYTES>() else {
-        unreachable!();
-    };
-    decode(bytes)
-}
-
-/// The N valid references from a place on; None where one isn't spelled.
-fn refs_at<const N: usize>(b: &[u8], at: usize) -> Option<[Ref; N]>
-    requires { at + 128 * N ≤ length b.now }
-    ensures found { IfSome result (λ refs. (length refs ≡ N) × All IsValid refs
-        × RefsBytes refs (from_place (places b.now) at)) }
-    ensures none { IfNone result ((refs : List Ref) → length refs ≡ N → All IsValid refs
-        → RefsBytes refs (from_place (places b.now) at) → ⊥) }
-{
-    let mut refs = [Ref::empty(); N];
-    for i in 0..N {
-        refs[i] = ref_at(b, at + REF_BYTES * i)?;
+    if !is_zone_count(get32(b, ZONES_AT)) {
+        return Some(ZONES_AT as u32);
     }
-    Some(refs)
+    let number = get64(b, NUMBER_AT);
+    if !is_number_of(slot, number) {
+        return Some(NUMBER_AT as u32);
+    }
+    if get64(b, MAP_NUMBER_AT) != number {
+        return Some(MAP_NUMBER_AT as u32);
+    }
+    if !is_next_pfs(get64(b, NEXT_PFS_AT)) {
+        return Some(NEXT_PFS_AT as u32);
+    }
+    None
 }
 
-/// The values that the block holds; None where a reference isn't spelled.
-fn values_of(b: &[u8]) -> Option<Header>
-    requires { length b.now ≡ 65536 }
-    ensures refs { IfSome result HasRefs }
-    ensures values { IfSome result (λ h. ValueBytes h (places b.now)) }
-    ensures none { IfNone result ((h : Header) → HasRefs h → ValueBytes h (places b.now) → ⊥) }
+/// The place of the first byte of a range that isn't zero; None where all are.
+fn wrong_zero(b: &[u8], from: usize, to: usize) -> Option<u32>
+    requires size { length b.now ≡ 65536 }
+    requires ordered { from ≤ to }
+    requires within { to ≤ 65536 }
+    ensures right { IfNone result (ZeroIn from to (places b.now)) }
+    ensures wrong { IfSome result (IsFirstNonzero from to (places b.now)) }
 {
-    let root = refs_at::<4>(b, ROOT_AT)?;
-    let map = refs_at::<8>(b, MAP_AT)?;
-    Some(Header {
+    match first_nonzero(b, from, to) {
+        None => None,
+        Some(at) => Some(at as u32),
+    }
+}
+
+/// Reads the fields in the order of their places.
+///
+/// # Errors
+/// The least place of a wrong field.
+fn read_fields(b: &[u8], slot: u32) -> Result<Header, u32>
+    requires size { length b.now ≡ 65536 }
+    ensures right { IfOk result (HasFields slot (places b.now)) }
+    ensures wrong { IfErr result (IsFirstWrong slot (places b.now)) }
+{
+    if let Some(at) = wrong_number(b, slot) {
+        return Err(at);
+    }
+    if let Some(at) = wrong_zero(b, NUMBERS_END, ROOT_AT) {
+        return Err(at);
+    }
+    let root = match read_root(b) {
+        Ok(root) => root,
+        Err(at) => return Err(at),
+    };
+    let zones = get32(b, ZONES_AT);
+    let map_number = get64(b, MAP_NUMBER_AT);
+    let map = match read_map(b, zones, map_number) {
+        Ok(map) => map,
+        Err(at) => return Err(at),
+    };
+    if let Some(at) = wrong_zero(b, MAP_END, CHECK_AT) {
+        return Err(at);
+    }
+    Ok(Header {
         number: get64(b, NUMBER_AT),
-        zones: get32(b, ZONES_AT),
-        map_number: get64(b, MAP_NUMBER_AT),
+        zones,
+        map_number,
         next_pfs: get64(b, NEXT_PFS_AT),
         root,
         map,
     })
 }
 
-/// The header that the 65536 bytes spell for a slot below 4; None exactly where they spell none.
-pub fn read_from(b: &[u8], slot: u32) -> Option<Header>
+/// The header that the 65536 bytes spell for a slot below 4.
+///
+/// # Errors
+/// Exactly where they spell none: the first refusal of the order `Magic`, `Version` with the version found,
+/// `Check` with the stored and the computed check, `Field` with the least place of a wrong field. A number
+/// that doesn't belong to the slot is a wrong field at 16.
+pub fn read_from(b: &[u8], slot: u32) -> Result<Header, HeadFault>
     requires size { length b.now ≡ 65536 }
     requires slot { slot < 4 }
-    ensures found { IfSome result (IsHeaderAt slot (places b.now)) }
-    ensures none { IfNone result (NoHeaderAt slot (places b.now)) }
+    ensures found { IfOk result (IsHeaderAt slot (places b.now)) }
+    ensures fault { IfErr result (IsHeadFault slot (places b.now)) }
+    ensures none { OnErr result (NoHeaderAt slot (places b.now)) }
 {
-    if !has_frame(b) {
-        return None;
+    if !has_magic(b) {
+        return Err(HeadFault::Magic);
     }
-    let h = values_of(b)?;
-    if is_header(&h) && turn_of(h.number) == slot as u64 {
-        Some(h)
-    } else {
-        None
+    let version = get32(b, VERSION_AT);
+    if version != VERSION {
+        return Err(HeadFault::Version(version));
+    }
+    let want = get32(b, CHECK_AT);
+    let got = check_of(b);
+    if want != got {
+        return Err(HeadFault::Check { want, got });
+    }
+    match read_fields(b, slot) {
+        Ok(h) => Ok(h),
+        Err(at) => Err(HeadFault::Field(at)),
     }
 }

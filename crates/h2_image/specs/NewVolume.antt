@@ -1,5 +1,5 @@
 -- What an image of a new volume holds.
-use Rattle.std.specs.Prelude.{◌≡◌, ◌⊎◌, ◌<◌, ◌≤◌, ℕ, List, [], ◌∷◌, nat_lt, if◌then◌else◌}
+use Rattle.std.specs.Prelude.{◌≡◌, ◌⊎◌, ◌<◌, ◌≤◌, ℕ, List, [], ◌∷◌, nat_lt, if◌then◌else◌, None}
 use Rattle.h2_num.specs.Places.{Places, from_place, InRange}
 use Rattle.h2_check.specs.Crc.{crc32c_of}
 use Rattle.h2_check.specs.Xxh.{xxh64_of}
@@ -8,7 +8,7 @@ use Rattle.h2_ref.specs.declared.reference.Check.TheVariants.{Crc, Xx}
 use Rattle.h2_ref.specs.declared.reference.Ref.{Ref}
 use Rattle.h2_ref.specs.Ref.{empty_ref}
 use Rattle.h2_header.specs.declared.header.Header.{Header}
-use Rattle.h2_header.specs.Map.{zone_place, leaf_place}
+use Rattle.h2_geom.specs.Places.{zone_place, leaf_place}
 use Rattle.h2_image.specs.NewBlocks.{RootDirectoryBytes, RootPfsBytes, NewLeafBytes}
 
 -- the two inodes lie in the first chunk that isn't reserved
@@ -25,11 +25,11 @@ pub record IsZoneCount (zones : ℕ) : Type 0 where
 
 -- the reference to inode or PFS 1, whose block stands at a place, with the check of the block
 abbrev pub inode_ref : ℕ → Places → Ref
-inode_ref place block = record { kind = Inode; key = 1; keybits = 0; place = place; radix = 10; id = 1; check = Xx (xxh64_of block 1024) }
+inode_ref place block = record { kind = Inode; key = 1; keybits = 0; place = place; radix = 10; id = 1; check = Xx (xxh64_of block 1024); dirent = None }
 
 -- the reference to the leaf of a zone in the first copy of the freemap, with the check of its block
 abbrev pub leaf_ref : ℕ → Places → Ref
-leaf_ref zone block = record { kind = MapLeaf; key = zone_place zone; keybits = 25; place = leaf_place zone 0; radix = 10; id = 1; check = Crc (crc32c_of block 1024) }
+leaf_ref zone block = record { kind = MapLeaf; key = zone_place zone; keybits = 25; place = leaf_place zone 0; radix = 10; id = 1; check = Crc (crc32c_of block 1024); dirent = None }
 
 -- what a slot of the header's map holds, by the blocks of the leaves
 abbrev pub map_slot : ℕ → (ℕ → Places) → ℕ → Ref

@@ -5,12 +5,12 @@ use Rattle.std.proofs.Common.{ap, sym, subst, ◌∙◌, arith, inl, inr}
 use Rattle.std.proofs.lemmas.Bool.{cases_lt, lt-ltb, le-ltb}
 use Rattle.h2_num.specs.Places.{Places, from_place, InRange}
 use Rattle.h2_ref.specs.declared.reference.Kind.{Kind}
-use Rattle.h2_ref.specs.declared.reference.Kind.TheVariants.{Empty, Inode, MapLeaf}
+use Rattle.h2_ref.specs.declared.reference.Kind.TheVariants.{Empty, Inode, Indirect, Content, Dirent, MapNode, MapLeaf}
 use Rattle.h2_ref.specs.declared.reference.Ref.{Ref}
 use Rattle.h2_ref.specs.Ref.{RefBytes, kind_number, size_of, empty_ref}
 use Rattle.h2_ref.specs.Spelling.{one_value}
 use Rattle.h2_header.specs.declared.header.Header.{Header}
-use Rattle.h2_header.specs.Map.{leaf_place}
+use Rattle.h2_geom.specs.Places.{leaf_place}
 use Rattle.h2_checkpoint.specs.Slots.{IsSlot, InSlot}
 use Rattle.h2_checkpoint.specs.Format.{Reach, by_root, by_child, ReachesByte}
 use Rattle.h2_image.specs.NewVolume.{directory_place, pfs_place, inode_ref, leaf_ref, map_slot, new_root, new_map, directory_block, pfs_block, leaf_block, IsNewVolume}
@@ -49,6 +49,10 @@ root_part image zones (suc (suc (suc (suc (suc (suc (suc (suc (suc (suc (suc (su
 kind_of_zero : (k : Kind) → kind_number k ≡ 0 → k ≡ Empty
 kind_of_zero Empty e = refl
 kind_of_zero Inode e = absurd (omega arith)
+kind_of_zero Indirect e = absurd (omega arith)
+kind_of_zero Content e = absurd (omega arith)
+kind_of_zero Dirent e = absurd (omega arith)
+kind_of_zero MapNode e = absurd (omega arith)
 kind_of_zero MapLeaf e = absurd (omega arith)
 
 zeros_are_empty : (s : Ref) (b : Places) → b 0 ≡ 0 → RefBytes s b → s.kind ≡ Empty

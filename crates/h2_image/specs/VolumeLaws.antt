@@ -1,5 +1,5 @@
 -- The format of a volume is lawful: what it says of blocks, headers and volumes depends on their bytes alone.
-use Rattle.std.specs.Prelude.{◌≡◌, ◌<◌, ◌≤◌, ℕ, zero, suc, ◌+◌, ◌*◌, ◌/◌, ◌%◌, ◌^◌, ◌==◌, ◌++◌, nat_lt, true, false, List, [], length, codes, if◌then◌else◌, slice_index_or, refl}
+use Rattle.std.specs.Prelude.{◌≡◌, ◌<◌, ◌≤◌, ℕ, zero, suc, ◌+◌, ◌*◌, ◌/◌, ◌%◌, ◌^◌, ◌==◌, ◌++◌, nat_lt, true, false, List, [], length, codes, if◌then◌else◌, slice_index_or, None, refl}
 use Rattle.std.specs.List.{Contains}
 use Rattle.std.proofs.Common.{ap, sym, subst, ◌∙◌, arith, inl, inr}
 use Rattle.std.proofs.lemmas.Bool.{cases_lt, lt-ltb, le-ltb}
@@ -18,7 +18,7 @@ use Rattle.h2_ref.specs.RefLaws.{RefBytes-same}
 use Rattle.h2_header.specs.declared.header.Header.{Header}
 use Rattle.h2_header.specs.Header.{IsHeaderAt}
 use Rattle.h2_header.specs.HeaderLaws.{IsHeaderAt-same, one_number}
-use Rattle.h2_header.specs.Map.{zone_place, leaf_place}
+use Rattle.h2_geom.specs.Places.{zone_place, leaf_place}
 use Rattle.h2_checkpoint.specs.Format.{Reach, by_root, by_child, SameReached, IsLawful}
 use Rattle.h2_image.specs.NewBlocks.{InodeHead, RootDirectoryBytes, RootPfsBytes, SegmentBytes, NewLeafBytes, new_code, new_free}
 use Rattle.h2_image.specs.NewVolume.{directory_place, pfs_place, inode_ref, leaf_ref, map_slot, new_root, new_map, new_header, directory_block, pfs_block, leaf_block, IsNewVolume}
@@ -86,13 +86,13 @@ leaf_same zone a b same l segment lt =
 
 inode_ref_same : (place : ℕ) (a b : Places) → SameBelow 1024 a b → inode_ref place b ≡ inode_ref place a
 inode_ref_same place a b same =
-    ap (λ (n : ℕ). record { kind = Inode; key = 1; keybits = 0; place = place; radix = 10; id = 1; check = Xx n }) (xxh64_of-same a b 1024 same)
+    ap (λ (n : ℕ). record { kind = Inode; key = 1; keybits = 0; place = place; radix = 10; id = 1; check = Xx n; dirent = None }) (xxh64_of-same a b 1024 same)
 
 map_slot_same : (zones : ℕ) (a b : ℕ → Places) → ((zone : ℕ) → zone < zones → SameBelow 1024 (a zone) (b zone)) → (slot : ℕ) → map_slot zones b slot ≡ map_slot zones a slot
 map_slot_same zones a b same slot = elim (cases_lt slot zones) [
   | inl lt ↦
       let used : nat_lt slot zones ≡ true = lt-ltb slot zones lt in
-      rw used (ap (λ (n : ℕ). record { kind = MapLeaf; key = zone_place slot; keybits = 25; place = leaf_place slot 0; radix = 10; id = 1; check = Crc n })
+      rw used (ap (λ (n : ℕ). record { kind = MapLeaf; key = zone_place slot; keybits = 25; place = leaf_place slot 0; radix = 10; id = 1; check = Crc n; dirent = None })
       (crc32c_of-same (a slot) (b slot) 1024 (same slot lt)))
   | inr le ↦ let unused : nat_lt slot zones ≡ false = le-ltb slot zones le in rw unused refl
 ]
@@ -157,11 +157,13 @@ leaf_reached image h zones v zone lt =
 
 pub directory_valid : (image : Places) → IsValid (inode_ref directory_place (directory_block image))
 directory_valid image = record {
-  keybits = refl;
-  key_above = omega arith;
-  key_below = omega arith;
-  block = record { radix = refl; place_above = omega arith; place_below = omega arith; place_multiple = refl; id_above = omega arith; id_below = omega arith };
-  check = xxh64_of-lt (from_place image directory_place) 1024;
+  method = refl;
+  stored = xxh64_of-lt (directory_block image) 1024;
+  radix = refl;
+  place = record { above = omega arith; below = omega arith; multiple = refl };
+  key = record { keybits = refl; key = record { least = omega arith; last = omega arith }; multiple = refl };
+  id = record { least = omega arith; last = omega arith };
+  entry = tt;
 }
 
 directory_reached : (image : Places) (h : Header) (zones : ℕ) → IsNewVolume image h zones → Reach volume image (roots_of h) (inode_ref directory_place (directory_block image))

@@ -1,5 +1,5 @@
--- The bytes of a reference are seen by its 128 places alone.
-use Rattle.std.specs.Prelude.{◌≤◌, ◌<◌, ◌+◌, ℕ, Option, Some, None}
+-- The bytes of a reference are seen by its 128 places alone. The empty reference is valid.
+use Rattle.std.specs.Prelude.{◌≤◌, ◌<◌, ◌+◌, ℕ, Option, Some, None, refl}
 use Rattle.std.proofs.Common.{◌∙◌, arith}
 use Rattle.h2_num.specs.Places.{Places, SameBelow}
 use Rattle.h2_num.specs.PlaceLaws.{number_same, zeros_same}
@@ -8,8 +8,7 @@ use Rattle.h2_ref.specs.declared.reference.Check.TheVariants.{Nothing, Crc, Xx}
 use Rattle.h2_ref.specs.declared.reference.Dirent.{Dirent as Entry}
 use Rattle.h2_ref.specs.declared.reference.Ref.{Ref}
 use Rattle.h2_ref.specs.declared.table.Row.{Row}
-use Rattle.h2_ref.specs.Ref.{row, check_len, inline_len, area_len, fields_end, EntryBytes, NameBytes, FieldBytes, GapBytes, RefBytes}
-
+use Rattle.h2_ref.specs.Ref.{row, check_len, inline_len, area_len, fields_end, EntryBytes, NameBytes, FieldBytes, GapBytes, RefBytes, IsValid, empty_ref}
 
 pub check_len-most : (c : Check) → check_len c ≤ 8
 check_len-most Nothing = omega arith
@@ -52,3 +51,15 @@ gaps_same r a b same g = record {
 -- the bytes of a reference are seen by its 128 places alone
 pub RefBytes-same : (r : Ref) (a b : Places) → SameBelow 128 a b → RefBytes r a → RefBytes r b
 RefBytes-same r a b same h = record { fields = fields_same r a b same h.fields; gaps = gaps_same r a b same h.gaps }
+
+-- the empty reference is valid
+pub empty_valid : IsValid empty_ref
+empty_valid = record {
+  method = refl;
+  stored = omega arith;
+  radix = refl;
+  place = refl;
+  key = record { keybits = refl; key = record { least = omega arith; last = omega arith }; multiple = refl };
+  id = record { least = omega arith; last = omega arith };
+  entry = tt;
+}

@@ -139,26 +139,28 @@ spell k b bytes kind p =
       key = p.key;
       id = p.id;
       entry = entry_back w w.names b p.entry p.tail;
-    } in
-    (subst (λ m. FitsRow (row_of k m) r) same fits, record {
-      fields = record {
-        kind = kind;
-        method = same;
-        keybits = refl;
-        flags = subst (λ m. b 3 ≡ (row_of k m).flags.0) same p.flags;
-        key = refl;
-        place = omega arith;
-        id = refl;
-        entry = entry_there w w.names b;
-        name = subst (λ m. NameBytes (row_of k m) r.dirent b) same (name_there w w.names b);
-        check = check_there w.check (b 1) b p.method;
-      };
-      gaps = record {
-        before_key = p.before_key;
-        before_area = λ at ge lt. p.before_area at (omega (arith, end_back w w.names b)) lt;
-        tail = subst (λ m. ZeroIn (64 + area_len (row_of k m) r.check r.dirent) 128 b) same (λ at ge lt. p.tail at (omega (arith, used)) lt);
-      };
-    })
+    } in (
+      subst (λ m. FitsRow (row_of k m) r) same fits,
+      record {
+        fields = record {
+          kind = kind;
+          method = same;
+          keybits = refl;
+          flags = subst (λ m. b 3 ≡ (row_of k m).flags.0) same p.flags;
+          key = refl;
+          place = omega arith;
+          id = refl;
+          entry = entry_there w w.names b;
+          name = subst (λ m. NameBytes (row_of k m) r.dirent b) same (name_there w w.names b);
+          check = check_there w.check (b 1) b p.method;
+        };
+        gaps = record {
+          before_key = p.before_key;
+          before_area = λ at ge lt. p.before_area at (omega (arith, end_back w w.names b)) lt;
+          tail = subst (λ m. ZeroIn (64 + area_len (row_of k m) r.check r.dirent) 128 b) same (λ at ge lt. p.tail at (omega (arith, used)) lt);
+        };
+      },
+    )
 
 -- Spelled bytes pass
 

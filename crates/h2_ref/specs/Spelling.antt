@@ -144,7 +144,7 @@ read_back r b h s =
     let place : place_at b ≡ r.place = omega arith in
     let check : check_of (b 1) b ≡ r.check = check_back r.check (b 1) b f.method f.check in
     let dirent : dirent_at (row_of r.kind (b 1)) (row_of r.kind (b 1)).names b ≡ r.dirent =
-        ap (λ m. dirent_at (row_of r.kind m) (row_of r.kind m).names b) f.method ∙ dirent_back w w.names r.dirent r.check b h.entry f.entry f.name s.gaps.tail in
+    ap (λ m. dirent_at (row_of r.kind m) (row_of r.kind m).names b) f.method ∙ dirent_back w w.names r.dirent r.check b h.entry f.entry f.name s.gaps.tail in
     let key = f.key in
     let keybits = f.keybits in
     let id = f.id in

@@ -51,8 +51,8 @@ key-fact w bits key e =
 pub key-test : (w : Row) (bits key : ℕ) → KeyFits w bits key → key_fits w bits key ≡ true
 key-test w bits key h =
     and_from (has_keybits w.keybits bits && in_span w.keys key) (key % 2 ^ bits == 0)
-      (and_from (has_keybits w.keybits bits) (in_span w.keys key) (keybits-test w.keybits bits h.keybits) (in_span-test w.keys key h.key))
-      (eq-eqb (key % 2 ^ bits) 0 h.multiple)
+    (and_from (has_keybits w.keybits bits) (in_span w.keys key) (keybits-test w.keybits bits h.keybits) (in_span-test w.keys key h.key))
+    (eq-eqb (key % 2 ^ bits) 0 h.multiple)
 
 pub place-fact : (radix place : ℕ) → place_fits radix place ≡ true → PlaceFits radix place
 place-fact zero place e = eqb-true place 0 e
@@ -65,8 +65,8 @@ pub place-test : (radix place : ℕ) → PlaceFits radix place → place_fits ra
 place-test zero place h = eq-eqb place 0 h
 place-test (suc n) place h =
     and_from (nat_lt 0 place && nat_lt place (2 ^ 34)) (place % 2 ^ suc n == 0)
-      (and_from (nat_lt 0 place) (nat_lt place (2 ^ 34)) (lt-ltb 0 place h.above) (lt-ltb place (2 ^ 34) h.below))
-      (eq-eqb (place % 2 ^ suc n) 0 h.multiple)
+    (and_from (nat_lt 0 place) (nat_lt place (2 ^ 34)) (lt-ltb 0 place h.above) (lt-ltb place (2 ^ 34) h.below))
+    (eq-eqb (place % 2 ^ suc n) 0 h.multiple)
 
 -- the length, the target and the number of an entry in its bytes are in their ranges
 pub record IsEntryIn (names : Span) (b : Places) : Type 0 where
@@ -104,7 +104,7 @@ entry-test None b h = refl
 entry-test (Some s) b h =
     let number = number_at b 32 8 in
     and_from (in_span s (number_at b 40 2) && (b 42 == 1 || b 42 == 2) && nat_lt 0 number) (nat_lt number (2 ^ 62))
-      (and_from (in_span s (number_at b 40 2) && (b 42 == 1 || b 42 == 2)) (nat_lt 0 number)
-        (and_from (in_span s (number_at b 40 2)) (b 42 == 1 || b 42 == 2) (in_span-test s (number_at b 40 2) h.len) (target-test (b 42) h.target))
-        (lt-ltb 0 number h.number_above))
-      (lt-ltb number (2 ^ 62) h.number_below)
+    (and_from (in_span s (number_at b 40 2) && (b 42 == 1 || b 42 == 2)) (nat_lt 0 number)
+    (and_from (in_span s (number_at b 40 2)) (b 42 == 1 || b 42 == 2) (in_span-test s (number_at b 40 2) h.len) (target-test (b 42) h.target))
+    (lt-ltb 0 number h.number_above))
+    (lt-ltb number (2 ^ 62) h.number_below)

@@ -10,8 +10,8 @@ use crate::faults::RefFault;
 use crate::flags::RefFlags;
 use crate::judging::{fault_by, kind_of, place_at, radix_at};
 use crate::layout::{
-    AREA_AT, AREA_BYTES, ID_AT, KEY_AT, KEYBITS_AT, KIND_AT, LEN_AT, METHOD_AT, NUMBER_AT, REF_BYTES,
-    TARGET_AT,
+    AREA_AT, AREA_BYTES, ID_AT, KEY_AT, KEYBITS_AT, KIND_AT, LEN_AT, METHOD_AT, NUMBER_AT,
+    REF_BYTES, TARGET_AT,
 };
 use crate::reference::{Check, Dirent, Kind, Ref};
 use crate::table::{Row, row_of};

@@ -27,4 +27,7 @@ pub use faults::{RefFault, Trouble, Why};
 pub use laws::{refusal_law, spelling_law};
 pub use layout::REF_BYTES;
 pub use reference::{Check, Dirent, Kind, Ref};
-pub use set::is_set;
+pub use set::{is_set, may_follow};
+
+#[cfg(test)]
+mod tests;

@@ -4,12 +4,14 @@ ghost use Rattle.h2_ref.specs.Set.{IsSet, MayFollow};
 
 use crate::reference::{Kind, Ref};
 
-/// Whether a valid reference may stand after another in a set.
-fn may_follow(r: &Ref, s: &Ref) -> bool
+/// Whether a valid reference may stand right after another in a set: its range begins at the other's end or
+/// later, or it is empty.
+pub fn may_follow(r: &Ref, s: &Ref) -> bool
     requires { IsValid r.now }
     ensures { IsTrue result ↔ MayFollow r.now s.now }
 {
-    s.kind == Kind::Empty || r.kind != Kind::Empty && r.key <= s.key && s.key - r.key >= 1 << r.keybits
+    s.kind == Kind::Empty
+        || r.kind != Kind::Empty && r.key <= s.key && s.key - r.key >= 1 << r.keybits
 }
 
 /// Whether valid references are a set: first references whose ranges of keys ascend and are disjoint, and

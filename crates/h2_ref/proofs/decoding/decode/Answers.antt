@@ -11,4 +11,4 @@ returns-in-Some-fault_by-clause-none c =
 pub returns-in-None-clause-found : goal.returns-in-None-clause-found
 returns-in-None-clause-found c =
     subst (λ r. IsValid r × RefBytes r (places c.args.b.now)) (sym c.read.ensures)
-      (spelled_by (places c.args.b.now) c.in-Some.kind c.row_of-w.result (λ k. c.fits-b k) (sym c.kind_of.ensures ∙ c.in-Some.is) c.row_of-w.ensures (sym c.fault_by.ensures ∙ c.in-None.is))
+    (spelled_by (places c.args.b.now) c.in-Some.kind c.row_of-w.result (λ k. c.fits-b k) (sym c.kind_of.ensures ∙ c.in-Some.is) c.row_of-w.ensures (sym c.fault_by.ensures ∙ c.in-None.is))

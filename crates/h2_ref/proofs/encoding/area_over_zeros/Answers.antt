@@ -11,4 +11,4 @@ returns-then-eq-clause-tail c =
     let inline : is_inline (row r) ≡ true = sym (ap is_inline c.requires.row) ∙ sym c.eq.ensures ∙ c.if-eq.true in
     let name = name_fits (row r) (row r).names r.dirent e c.requires.valid.entry c.in-Some.is in
     subst (λ d. ZeroIn (64 + area_len (row r) r.check d) 128 (places c.put_bytes.new.b)) (sym c.in-Some.is)
-      (name_tail (row r) e r.check (places c.check_over_zeros-b.result) (places c.put_bytes.new.b) inline name.0 name.1 c.put_bytes.ensures)
+    (name_tail (row r) e r.check (places c.check_over_zeros-b.result) (places c.put_bytes.new.b) inline name.0 name.1 c.put_bytes.ensures)
