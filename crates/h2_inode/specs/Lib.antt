@@ -3,3 +3,4 @@ pub mod Limits
 pub mod Head
 pub mod Inode
 pub mod Fault
+pub mod Block

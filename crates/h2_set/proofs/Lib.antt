@@ -1,0 +1,5 @@
+mod Holding
+mod Least
+mod Filtered
+pub mod Slots
+pub mod Fronts

@@ -1,0 +1,365 @@
+-- A forest of sets: trees whose nodes have a set of references each, some of them loaded.
+use Rattle.std.specs.Prelude.{◌≡◌, ℕ, ◌+◌, ◌-◌, ◌%◌, ◌^◌, ◌≤◌, ◌<◌, min, ◌⊎◌, cond, Bool, true, false, List, [], ◌∷◌, ◌++◌, length, Option, Some, None, slice_get, Result, IfOk, IfErr, filter, not}
+use Rattle.h2_num.specs.Causes.{Rose}
+use Rattle.h2_ref.specs.declared.reference.Ref.{Ref}
+use Rattle.h2_ref.specs.declared.reference.Kind.{Kind}
+use Rattle.h2_ref.specs.declared.reference.Kind.TheVariants.{Empty, Inode, Indirect, Content, Dirent, MapNode, MapLeaf}
+use Rattle.h2_ref.specs.declared.faults.Trouble.{Trouble}
+use Rattle.h2_ref.specs.declared.faults.Trouble.TheVariants.{Failed, Bad, NoMemory}
+use Rattle.h2_set.specs.Ranges.{Rising, limit, holds, NoneHolds, IsAligned, IsApart, put, lies, is_indirect, Sides}
+use Rattle.h2_set.specs.RefSet.{RefSet, IsRefSet, IsSplitOf, with_rest}
+use Rattle.h2_set.specs.declared.set.Split.{Split}
+
+-- what is below an indirect reference: a loaded node, or a block whose leaves the disk tells, or not even that
+pub data Link : Type 0 where
+  loaded : ℕ → Link
+  told : List Ref → Link
+  untold : Link
+
+pub record Forest : Type 0 where
+  -- whether a node is loaded and stands
+  pub stands : ℕ → Bool
+  pub set : ℕ → RefSet
+  -- what is below a node, by the key of its indirect reference
+  pub link : ℕ → ℕ → Link
+  -- the root of the node's tree
+  pub root : ℕ → ℕ
+  -- the node's range of keys: from low, 2 ^ bits long
+  pub low : ℕ → ℕ
+  pub bits : ℕ → ℕ
+  -- of a root, the keybits of the leaves of its tree
+  pub leaf_bits : ℕ → ℕ
+  -- of a root, whether its tree may have the leaf
+  pub allows : ℕ → Ref → Bool
+  -- whether node m belongs to what the leaf with this key names in the tree of this root, or stands below that
+  pub belongs : ℕ → ℕ → ℕ → Bool
+  -- whether a root is held
+  pub held : ℕ → Bool
+  -- how many nodes from this one up to below the root aren't writable, and are copied when it is altered
+  pub copies : ℕ → ℕ
+  -- whether a node is writable in this epoch
+  pub writable : ℕ → Bool
+  -- the name of a directory's entry, where it is told
+  pub name : Ref → Option (List ℕ)
+  pub epoch : ℕ
+  -- how many nodes can be made without taking memory
+  pub spare : ℕ
+  -- how many blocks can be taken
+  pub room : ℕ
+  -- faults of the disk, and bad blocks that were met
+  pub failed : ℕ
+  pub bad : ℕ
+
+abbrev pub refs : Forest → ℕ → List Ref
+refs f at = let s = f.set at in s.refs
+
+-- The leaves of references rs of node at, where they are known.
+-- An indirect reference stands for the leaves below it, which lie in its range.
+pub data HasLeaves (f : Forest) : ℕ → List Ref → List Ref → Type 0 where
+  done : {at : ℕ} → HasLeaves f at [] []
+  one : {at : ℕ} {r : Ref} {rs l : List Ref} → is_indirect r ≡ false → HasLeaves f at rs l → HasLeaves f at (r ∷ rs) (r ∷ l)
+  near : {at c : ℕ} {r : Ref} {rs below l : List Ref} → is_indirect r ≡ true → f.link at r.key ≡ loaded c → HasLeaves f c (refs f c) below → Rising r.key (limit r) below → HasLeaves f at rs l → HasLeaves f at (r ∷ rs) (below ++ l)
+  far : {at : ℕ} {r : Ref} {rs below l : List Ref} → is_indirect r ≡ true → f.link at r.key ≡ told below → Rising r.key (limit r) below → HasLeaves f at rs l → HasLeaves f at (r ∷ rs) (below ++ l)
+
+-- the leaves below node at are l, in order of their keys
+abbrev pub LeavesOf : Forest → ℕ → List Ref → Type 0
+LeavesOf f at l = HasLeaves f at (refs f at) l
+
+-- every leaf list that one tree is known to have, the other has
+abbrev pub KeepsLeaves : Forest → Forest → ℕ → Type 0
+KeepsLeaves f g at = (l : List Ref) → LeavesOf f at l → LeavesOf g at l
+
+-- c is a node right below m, at its key k
+pub record IsChild (f : Forest) (m k c : ℕ) : Type 0 where
+  pub stands : f.stands c ≡ true
+  pub root : f.root c ≡ f.root m
+  pub low : f.low c ≡ k
+  pub above : f.low m ≤ f.low c
+  pub within : f.low c + 2 ^ f.bits c ≤ f.low m + 2 ^ f.bits m
+  pub fewer : f.bits c < f.bits m
+  pub copies : f.copies c ≡ f.copies m + cond (f.writable c) 0 1
+
+-- a reference that may stand in node m
+pub record Fits (f : Forest) (m : ℕ) (r : Ref) : Type 0 where
+  pub aligned : IsAligned r
+  -- a leaf is one that the tree may have, as long as all others
+  pub leaf : is_indirect r ≡ false → r.keybits ≡ f.leaf_bits (f.root m)
+  pub allowed : is_indirect r ≡ false → f.allows (f.root m) r ≡ true
+  -- an indirect reference has room for a leaf, and keybits that fall on the way down
+  pub wide : is_indirect r ≡ true → f.leaf_bits (f.root m) ≤ r.keybits
+  pub some_bits : is_indirect r ≡ true → 0 < r.keybits
+  pub falls : is_indirect r ≡ true → r.keybits < f.bits m
+
+-- an indirect reference of the list has the key
+pub record NamesBelow (rs : List Ref) (k : ℕ) : Type 0 where
+  pub place : ℕ
+  pub ref : Ref
+  pub read : slice_get rs place ≡ Some ref
+  pub indirect : is_indirect ref ≡ true
+  pub key : ref.key ≡ k
+
+-- what stands of a node at any time: ranges lie in ranges, and their bits fall
+pub record IsSoundNode (f : Forest) (m : ℕ) : Type 0 where
+  pub set : IsRefSet (f.set m)
+  pub inside : Rising (f.low m) (f.low m + 2 ^ f.bits m) (refs f m)
+  pub aligned : f.low m % 2 ^ f.bits m ≡ 0
+  pub ends : f.low m + 2 ^ f.bits m ≤ 2 ^ 64
+  -- its keys are all below 2^62, or all at least 2^63
+  pub class : (f.low m + 2 ^ f.bits m ≤ 2 ^ 62) ⊎ (2 ^ 63 ≤ f.low m)
+  pub fits : (i : ℕ) (r : Ref) → slice_get (refs f m) i ≡ Some r → Fits f m r
+  -- an indirect block holds at least one reference
+  pub some : (f.root m ≡ m → ⊥) → 0 < length (refs f m)
+  pub child : (k c : ℕ) → f.link m k ≡ loaded c → IsChild f m k c
+  pub named : (k c : ℕ) → f.link m k ≡ loaded c → NamesBelow (refs f m) k
+  pub bits : (i c : ℕ) (r : Ref) → slice_get (refs f m) i ≡ Some r → is_indirect r ≡ true → f.link m r.key ≡ loaded c → f.bits c ≡ r.keybits
+  pub top : f.root m ≡ m → f.copies m ≡ 0
+  -- a path is no longer than its bits fall
+  pub slope : f.copies m + f.bits m ≤ 63
+
+pub record IsSound (f : Forest) : Type 0 where
+  pub node : (m : ℕ) → f.stands m ≡ true → IsSoundNode f m
+  -- what is held stands
+  pub held : (m : ℕ) → f.held m ≡ true → f.stands m ≡ true
+
+-- the same reference, but for where the block of an indirect one lies
+pub record IsAlike (r q : Ref) : Type 0 where
+  pub kind : q.kind ≡ r.kind
+  pub key : q.key ≡ r.key
+  pub keybits : q.keybits ≡ r.keybits
+  pub radix : q.radix ≡ r.radix
+  pub dirent : q.dirent ≡ r.dirent
+  pub leaf : is_indirect r ≡ false → q ≡ r
+
+-- the same references, but for where the blocks of indirect ones lie
+abbrev pub Alike : List Ref → List Ref → Type 0
+Alike [] [] = Unit {0}
+Alike [] (q ∷ qs) = ⊥
+Alike (r ∷ rs) [] = ⊥
+Alike (r ∷ rs) (q ∷ qs) = IsAlike r q × Alike rs qs
+
+-- whether the block of a reference is a node, which gets another place when it is changed
+abbrev pub names_node : Kind → Bool
+names_node Empty = false
+names_node Inode = true
+names_node Indirect = true
+names_node Content = false
+names_node Dirent = false
+names_node MapNode = false
+names_node MapLeaf = false
+
+-- the same reference, but for where the block of an inode or an indirect one lies: place, id and check
+pub record IsRenewed (r q : Ref) : Type 0 where
+  pub kind : q.kind ≡ r.kind
+  pub key : q.key ≡ r.key
+  pub keybits : q.keybits ≡ r.keybits
+  pub radix : q.radix ≡ r.radix
+  pub dirent : q.dirent ≡ r.dirent
+  pub others : names_node r.kind ≡ false → q ≡ r
+
+-- the same references, but for where the blocks of inodes and indirect ones lie
+abbrev pub AllRenewed : List Ref → List Ref → Type 0
+AllRenewed [] [] = Unit {0}
+AllRenewed [] (q ∷ qs) = ⊥
+AllRenewed (r ∷ rs) [] = ⊥
+AllRenewed (r ∷ rs) (q ∷ qs) = IsRenewed r q × AllRenewed rs qs
+
+-- the leaves l are told at key k of node m, or those of the node there
+abbrev pub Below : Forest → ℕ → ℕ → List Ref → Type 0
+Below f m k l = (f.link m k ≡ told l) ⊎ ((c : ℕ) × (f.link m k ≡ loaded c) × LeavesOf f c l)
+
+-- What no call changes: of each tree what leaves it may have, which roots are held, the epoch and the names.
+-- The two counts never fall.
+pub record Fixed (f g : Forest) : Type 0 where
+  pub leaf_bits : (m : ℕ) → g.leaf_bits m ≡ f.leaf_bits m
+  pub allows : (m : ℕ) (r : Ref) → g.allows m r ≡ f.allows m r
+  pub held : (m : ℕ) → g.held m ≡ f.held m
+  pub name : (r : Ref) → g.name r ≡ f.name r
+  pub epoch : g.epoch ≡ f.epoch
+  pub failed : f.failed ≤ g.failed
+  pub bad : f.bad ≤ g.bad
+
+-- node m stands where it stood
+pub record InPlace (f g : Forest) (m : ℕ) : Type 0 where
+  pub stands : g.stands m ≡ true
+  pub root : g.root m ≡ f.root m
+  pub low : g.low m ≡ f.low m
+  pub bits : g.bits m ≡ f.bits m
+  pub belongs : (top key : ℕ) → g.belongs m top key ≡ f.belongs m top key
+  pub writable : f.writable m ≡ true → g.writable m ≡ true
+
+-- node m stands as before; blocks may have been loaded below it
+pub record Stays (f g : Forest) (m : ℕ) : Type 0 where
+  pub place : InPlace f g m
+  pub alike : Alike (refs f m) (refs g m)
+  pub near : (k c : ℕ) → f.link m k ≡ loaded c → g.link m k ≡ loaded c
+  pub far : (k : ℕ) (l : List Ref) → f.link m k ≡ told l → Below g m k l
+
+-- node m stands as before, with the same nodes and blocks below it
+pub record Keeps (f g : Forest) (m : ℕ) : Type 0 where
+  pub place : InPlace f g m
+  pub alike : Alike (refs f m) (refs g m)
+  pub link : (k : ℕ) → g.link m k ≡ f.link m k
+
+-- a node of another tree, in which references to what changed name other blocks
+pub record Renews (f g : Forest) (m : ℕ) : Type 0 where
+  pub place : InPlace f g m
+  pub renewed : AllRenewed (refs f m) (refs g m)
+  pub link : (k : ℕ) → g.link m k ≡ f.link m k
+
+-- nothing of node m has changed
+pub record Same (f g : Forest) (m : ℕ) : Type 0 where
+  pub place : InPlace f g m
+  pub set : g.set m ≡ f.set m
+  pub link : (k : ℕ) → g.link m k ≡ f.link m k
+  pub writable : g.writable m ≡ f.writable m
+  pub copies : g.copies m ≡ f.copies m
+
+-- nothing changed but what is loaded at key k of node at
+pub record Loads (f g : Forest) (at k : ℕ) : Type 0 where
+  pub keeps : (m : ℕ) → f.stands m ≡ true → (m ≡ at → ⊥) → Keeps f g m
+  pub link : (j : ℕ) → (j ≡ k → ⊥) → g.link at j ≡ f.link at j
+
+-- nothing but loads took place
+pub record Walks (f g : Forest) : Type 0 where
+  pub sound : IsSound g
+  pub fixed : Fixed f g
+  pub stays : (m : ℕ) → f.stands m ≡ true → Stays f g m
+  pub sets : (m : ℕ) → f.stands m ≡ true → g.set m ≡ f.set m
+  pub writable : (m : ℕ) → f.stands m ≡ true → g.writable m ≡ f.writable m
+  pub copies : (m : ℕ) → f.stands m ≡ true → g.copies m ≡ f.copies m
+  pub spare : f.spare ≤ g.spare
+  pub room : g.room ≡ f.room
+
+-- node at and all above it are writable now
+pub record Alters (f g : Forest) (at : ℕ) : Type 0 where
+  pub sound : IsSound g
+  pub fixed : Fixed f g
+  pub writable : g.writable at ≡ true
+  pub copies : g.copies at ≡ 0
+  pub room : g.room + f.copies at ≡ f.room
+  pub tree : (m : ℕ) → f.stands m ≡ true → f.root m ≡ f.root at → Keeps f g m
+  pub above : (m : ℕ) → f.stands m ≡ true → (f.root m ≡ f.root at → ⊥) → Renews f g m
+  pub capacity : (m : ℕ) → f.stands m ≡ true → let s = f.set m in let t = g.set m in t.capacity ≡ s.capacity
+  pub none_new : (m : ℕ) → g.stands m ≡ true → f.stands m ≡ true
+  pub spare : g.spare ≡ f.spare
+  pub failed : g.failed ≡ f.failed
+  pub bad : g.bad ≡ f.bad
+
+-- a reference of node at whose range holds the key isn't in s
+pub record Loses (f : Forest) (at : ℕ) (s : RefSet) (key : ℕ) : Type 0 where
+  pub place : ℕ
+  pub lost : Ref
+  pub was : slice_get (refs f at) place ≡ Some lost
+  pub lacks : (i : ℕ) (r : Ref) → slice_get s.refs i ≡ Some r → r.key ≡ lost.key → ⊥
+  pub held : holds key lost ≡ true
+
+-- the loaded nodes on the key's path lead to this leaf, or to none
+pub data Reaches (f : Forest) (key : ℕ) : ℕ → Option Ref → Type 0 where
+  nowhere : {at : ℕ} → NoneHolds key (refs f at) → Reaches f key at None
+  here : {at : ℕ} {r : Ref} → (i : ℕ) → slice_get (refs f at) i ≡ Some r → holds key r ≡ true → is_indirect r ≡ false → Reaches f key at (Some r)
+  below : {at c : ℕ} {r : Ref} {o : Option Ref} → (i : ℕ) → slice_get (refs f at) i ≡ Some r → holds key r ≡ true → is_indirect r ≡ true → f.link at r.key ≡ loaded c → Reaches f key c o → Reaches f key at o
+
+-- node m of this tree stands below a reference of node at that s lacks
+pub record GoesBelow (f : Forest) (m at : ℕ) (s : RefSet) : Type 0 where
+  pub tree : f.root m ≡ f.root at
+  pub fewer : f.bits m < f.bits at
+  pub loses : Loses f at s (f.low m)
+
+-- node m of another tree belongs to what a leaf names, to which a reference of node at leads that s lacks
+pub record GoesWith (f : Forest) (m at : ℕ) (s : RefSet) : Type 0 where
+  pub other : f.root m ≡ f.root at → ⊥
+  pub key : ℕ
+  pub leaf : Ref
+  pub loses : Loses f at s key
+  pub reaches : Reaches f key at (Some leaf)
+  pub exact : leaf.key ≡ key
+  pub belongs : f.belongs m (f.root at) key ≡ true
+
+-- a set that node at may be given
+pub record Storable (f : Forest) (at : ℕ) (s : RefSet) : Type 0 where
+  pub capacity : let t = f.set at in s.capacity ≡ t.capacity
+  pub set : IsRefSet s
+  pub some : (f.root at ≡ at → ⊥) → 0 < length s.refs
+  pub inside : Rising (f.low at) (f.low at + 2 ^ f.bits at) s.refs
+  pub fits : (i : ℕ) (r : Ref) → slice_get s.refs i ≡ Some r → Fits f at r
+  -- each indirect reference stood there before
+  pub stood : (i : ℕ) (r : Ref) → slice_get s.refs i ≡ Some r → is_indirect r ≡ true → (j : ℕ) × (slice_get (refs f at) j ≡ Some r)
+  -- what goes isn't held
+  pub free : (m : ℕ) → f.stands m ≡ true → GoesWith f m at s → f.held m ≡ false
+
+-- the set of node at is s now; what stands below references that it lacks is gone
+pub record Stores (f g : Forest) (at : ℕ) (s : RefSet) : Type 0 where
+  pub sound : IsSound g
+  pub fixed : Fixed f g
+  pub set : g.set at ≡ s
+  pub place : InPlace f g at
+  pub copies : g.copies at ≡ f.copies at
+  pub link : (i : ℕ) (r : Ref) → slice_get s.refs i ≡ Some r → is_indirect r ≡ true → g.link at r.key ≡ f.link at r.key
+  pub others : (m : ℕ) → f.stands m ≡ true → (m ≡ at → ⊥) → (GoesBelow f m at s → ⊥) → (GoesWith f m at s → ⊥) → Same f g m
+  pub none_new : (m : ℕ) → g.stands m ≡ true → f.stands m ≡ true
+  pub spare : g.spare ≡ f.spare
+  pub room : g.room ≡ f.room
+  pub failed : g.failed ≡ f.failed
+  pub bad : g.bad ≡ f.bad
+
+-- why a call was in trouble
+abbrev pub HasCause : Forest → Forest → Trouble → Type 0
+HasCause f g Failed = Rose f.failed g.failed
+HasCause f g (Bad place why) = Rose f.bad g.bad
+HasCause f g NoMemory = Unit {0}
+
+-- the reference at place i leads further down
+pub record IsIndirectAt (rs : List Ref) (i : ℕ) : Type 0 where
+  pub within : i < length rs
+  pub indirect : (r : Ref) → slice_get rs i ≡ Some r → is_indirect r ≡ true
+
+-- nothing has changed but spare
+pub record ReadiesOnly (f g : Forest) : Type 0 where
+  pub sound : IsSound g
+  pub fixed : Fixed f g
+  pub same : (m : ℕ) → f.stands m ≡ true → Same f g m
+  pub none_new : (m : ℕ) → g.stands m ≡ true → f.stands m ≡ true
+  pub spare : f.spare ≤ g.spare
+  pub room : g.room ≡ f.room
+  pub failed : g.failed ≡ f.failed
+  pub bad : g.bad ≡ f.bad
+
+-- set and s are what the full set of node at, with leaf r added, was split into
+pub record MadeFrom (f : Forest) (at : ℕ) (r : Ref) (set : RefSet) (s : Split) : Type 0 where
+  pub apart : IsApart r (refs f at)
+  pub fits : Fits f at r
+  pub leaf : is_indirect r ≡ false
+  pub low : f.low at ≤ r.key
+  pub high : limit r ≤ f.low at + 2 ^ f.bits at
+  pub full : let t = f.set at in length t.refs ≡ t.capacity
+  pub split : IsSplitOf (put r (refs f at)) s.key s.keybits
+  pub moved : s.moved ≡ record { refs = filter (lies s.key s.keybits) (put r (refs f at)); capacity = 32 }
+  pub kept : with_rest s.rest set.refs ≡ filter (λ q. not (lies s.key s.keybits q)) (put r (refs f at))
+  pub capacity : let t = f.set at in set.capacity ≡ t.capacity
+
+-- what making leaves: node c has the moved references, and node at one that leads there
+pub record Makes (f g : Forest) (at c : ℕ) (set : RefSet) (s : Split) : Type 0 where
+  pub sound : IsSound g
+  pub fixed : Fixed f g
+  pub fresh : f.stands c ≡ false
+  pub child : g.link at s.key ≡ loaded c
+  pub moved : g.set c ≡ s.moved
+  pub new_writable : g.writable c ≡ true
+  pub ref : Ref
+  pub indirect : is_indirect ref ≡ true
+  pub key : ref.key ≡ s.key
+  pub keybits : ref.keybits ≡ s.keybits
+  pub now : g.set at ≡ record { refs = put ref (with_rest s.rest set.refs); capacity = set.capacity }
+  pub place : InPlace f g at
+  -- what was below a key of the range is below the new node, and all else below the old one
+  pub below_moved : (k : ℕ) → s.key ≤ k → k < s.key + 2 ^ s.keybits → g.link c k ≡ f.link at k
+  pub below_kept : (k : ℕ) → (k < s.key) ⊎ (s.key + 2 ^ s.keybits ≤ k) → g.link at k ≡ f.link at k
+  pub others : (m : ℕ) → f.stands m ≡ true → (m ≡ at → ⊥) → Keeps f g m
+  pub spare : g.spare + 1 ≡ f.spare
+  pub room : g.room + 1 ≡ f.room
+  pub failed : g.failed ≡ f.failed
+  pub bad : g.bad ≡ f.bad
+
+-- what a root keeps beside its set stays, where the root stands before and after
+pub record KeepsBeside {B : Type 0} (f g : Forest) (old new : ℕ → B) : Type 0 where
+  pub same : (m : ℕ) → f.stands m ≡ true → g.stands m ≡ true → new m ≡ old m

@@ -1,0 +1,17 @@
+pub mod Ranges
+pub mod RefSet
+pub mod SetBytes
+pub mod Forest
+pub mod EditLaws
+pub mod LeafLaws
+pub mod StayLaws
+pub mod ChangeLaws
+pub mod PartLaws
+pub mod CutLaws
+pub mod PutLaws
+pub mod SplitLaws
+pub mod RenewLaws
+pub mod MadeLaws
+pub mod Valid
+pub mod Front
+pub mod SetBytesLaws

@@ -1,0 +1,93 @@
+-- Nodes that stand where they stood, while references name other blocks.
+use Rattle.std.proofs.Common.{◌≡◌, ℕ, ◌+◌, ◌<◌, ◌≤◌, ◌^◌, Bool, true, false, arith, refl, cond, sym, ◌∙◌, ap, List, [], ◌∷◌, ◌++◌, length, Option, Some, None, subst, ◌⊎◌, inl, inr, slice_get, suc, zero}
+use Rattle.std.proofs.lemmas.Option.{none-some}
+use Rattle.h2_ref.specs.declared.reference.Ref.{Ref}
+use Rattle.h2_ref.specs.declared.reference.Kind.{Kind}
+use Rattle.h2_ref.specs.declared.reference.Kind.TheVariants.{Empty, Inode, Indirect, Content, Dirent, MapNode, MapLeaf}
+use Rattle.h2_set.specs.Ranges.{leads_on, is_indirect, IsApart, Apart}
+use Rattle.h2_set.specs.Forest.{Forest, refs, IsAlike, Alike, names_node, IsRenewed, AllRenewed, InPlace, Keeps, Renews, Same}
+use Rattle.h2_set.specs.StayLaws.{InPlace-trans, InPlace-refl}
+use Rattle.h2_set.specs.ChangeLaws.{Same-Keeps}
+
+-- what names no node leads to no further references
+not_node : (k : Kind) → names_node k ≡ false → leads_on k ≡ false
+not_node Empty e = refl
+not_node Inode e = refl
+not_node Indirect e = e
+not_node Content e = refl
+not_node Dirent e = refl
+not_node MapNode e = refl
+not_node MapLeaf e = refl
+
+IsAlike-renewed : (r q : Ref) → IsAlike r q → IsRenewed r q
+IsAlike-renewed r q a = record { kind = a.kind; key = a.key; keybits = a.keybits; radix = a.radix; dirent = a.dirent; others = λ e. a.leaf (not_node r.kind e) }
+
+pub Alike-renewed : (rs qs : List Ref) → Alike rs qs → AllRenewed rs qs
+Alike-renewed [] [] a = tt
+Alike-renewed [] (q ∷ qs) a = absurd a
+Alike-renewed (r ∷ rs) [] a = absurd a
+Alike-renewed (r ∷ rs) (q ∷ qs) a = (IsAlike-renewed r q a.0, Alike-renewed rs qs a.1)
+
+IsRenewed-trans : (r q p : Ref) → IsRenewed r q → IsRenewed q p → IsRenewed r p
+IsRenewed-trans r q p a b = record {
+  kind = b.kind ∙ a.kind;
+  key = b.key ∙ a.key;
+  keybits = b.keybits ∙ a.keybits;
+  radix = b.radix ∙ a.radix;
+  dirent = b.dirent ∙ a.dirent;
+  others = λ e. b.others (ap names_node a.kind ∙ e) ∙ a.others e;
+}
+
+pub AllRenewed-trans : (rs qs ps : List Ref) → AllRenewed rs qs → AllRenewed qs ps → AllRenewed rs ps
+AllRenewed-trans [] [] [] a b = tt
+AllRenewed-trans [] [] (p ∷ ps) a b = b
+AllRenewed-trans [] (q ∷ qs) ps a b = absurd a
+AllRenewed-trans (r ∷ rs) [] ps a b = absurd a
+AllRenewed-trans (r ∷ rs) (q ∷ qs) [] a b = absurd b
+AllRenewed-trans (r ∷ rs) (q ∷ qs) (p ∷ ps) a b = (IsRenewed-trans r q p a.0 b.0, AllRenewed-trans rs qs ps a.1 b.1)
+
+pub Keeps-Renews : (f g : Forest) (m : ℕ) → Keeps f g m → Renews f g m
+Keeps-Renews f g m k = record { place = k.place; renewed = Alike-renewed (refs f m) (refs g m) k.alike; link = k.link }
+
+pub Renews-trans : (f g h : Forest) (m : ℕ) → Renews f g m → Renews g h m → Renews f h m
+Renews-trans f g h m a b = record { place = InPlace-trans f g h m a.place b.place; renewed = AllRenewed-trans _ _ _ a.renewed b.renewed; link = λ k. b.link k ∙ a.link k }
+
+-- what stands at the same place of a list that is alike
+pub record LikeAt (qs : List Ref) (i : ℕ) (r : Ref) : Type 0 where
+  pub ref : Ref
+  pub read : slice_get qs i ≡ Some ref
+  pub like : IsAlike r ref
+
+pub like_at : (rs qs : List Ref) → Alike rs qs → (i : ℕ) (r : Ref) → slice_get rs i ≡ Some r → LikeAt qs i r
+like_at [] qs a i r read = absurd (none-some r read)
+like_at (x ∷ rs) [] a i r read = absurd a
+like_at (x ∷ rs) (y ∷ qs) a zero r read =
+    let same : x ≡ r = (cc) in
+    subst (LikeAt (y ∷ qs) 0) same (record { ref = y; read = refl; like = a.0 })
+like_at (x ∷ rs) (y ∷ qs) a (suc i) r read =
+    let it = like_at rs qs a.1 i r read in
+    record { ref = it.ref; read = it.read; like = it.like }
+
+IsAlike-sym : (r q : Ref) → IsAlike r q → IsAlike q r
+IsAlike-sym r q a = record { kind = sym a.kind; key = sym a.key; keybits = sym a.keybits; radix = sym a.radix; dirent = sym a.dirent; leaf = λ e. sym (a.leaf (ap leads_on (sym a.kind) ∙ e)) }
+
+pub Alike-sym : (rs qs : List Ref) → Alike rs qs → Alike qs rs
+Alike-sym [] [] a = tt
+Alike-sym [] (q ∷ qs) a = absurd a
+Alike-sym (r ∷ rs) [] a = absurd a
+Alike-sym (r ∷ rs) (q ∷ qs) a = (IsAlike-sym r q a.0, Alike-sym rs qs a.1)
+
+pub Alike-length : (rs qs : List Ref) → Alike rs qs → length qs ≡ length rs
+Alike-length [] [] a = refl
+Alike-length [] (q ∷ qs) a = absurd a
+Alike-length (r ∷ rs) [] a = absurd a
+Alike-length (r ∷ rs) (q ∷ qs) a = ap suc (Alike-length rs qs a.1)
+
+-- ranges that are alike are apart from the same ones
+pub apart_alike : (leaf : Ref) (rs qs : List Ref) → Alike rs qs → IsApart leaf rs → IsApart leaf qs
+apart_alike leaf rs qs a apart i q read =
+    let it = like_at qs rs (Alike-sym rs qs a) i q read in
+    elim (apart i it.ref it.read) as (λ _. Apart leaf q) [
+      | inl lower ↦ inl (rw it.like.key at lower)
+      | inr upper ↦ inr (rw (it.like.key, it.like.keybits) at upper)
+    ]

@@ -1,0 +1,116 @@
+ghost use Rattle.std.specs.Prelude.{◌≡◌, ◌^◌, ◌<◌, ◌≤◌, ℕ, List, true, Some, IfOk, IfErr, OnErr, OnOk, IsOk, IsTrue, slice_get, take, length};
+ghost use Rattle.h2_ref.specs.declared.reference.Ref.{Ref};
+ghost use Rattle.h2_ref.specs.declared.reference.Dirent.{Dirent};
+ghost use Rattle.h2_set.specs.Forest.{Forest, refs, loaded, IsSound, IsIndirectAt, Walks, HasCause, Alters, Storable, Stores, Loads, MadeFrom, Makes, ReadiesOnly, KeepsBeside};
+
+use crate::set::{Set, Split};
+use h2_num::{Bytes, NoMemory};
+use h2_ref::{Ref, Trouble};
+use std::alloc::Global;
+
+/// A node of a forest, by its number.
+#[derive(Clone, Copy, Debug, PartialEq, Eq)]
+pub struct NodeId(pub u32);
+
+/// A forest of sets of references, wherever its nodes come from.
+///
+/// It is seen as one `Forest`: which nodes stand and their sets, what is below each indirect reference, which
+/// nodes are writable, which roots are held, the spare nodes and the room for blocks, and two counts that never
+/// fall, of disk faults and of bad blocks met. A node that is given to a call is loaded and stands, and the forest
+/// is sound. Each call ensures one relation between the forest before and after it, in which all that it doesn't
+/// name stays. What a root keeps beside its set stays as well, and the implementer's own relation between an
+/// earlier and a later value holds from the start of each call to its end.
+pub trait Sets {
+    /// What the root of an inode keeps beside its set.
+    type Beside;
+
+    /// The forest that it is seen as.
+    ghost forest: { Self → Forest };
+
+    /// What a root keeps beside its set.
+    ghost beside: { Self → ℕ → Self.Beside };
+
+    /// What a later value has to do with an earlier one.
+    ghost later: { Self → Self → Type 0 };
+
+    /// The set of a node.
+    fn get(&self, at: NodeId) -> &Set
+        requires { let f = forest self.now in f.stands at.0 ≡ true }
+        ensures { let f = forest self.now in result.now ≡ f.set at.0 };
+
+    /// The epoch: the number of the checkpoint to which what is changed now belongs.
+    fn epoch(&self) -> u64
+        ensures { let f = forest self.now in result ≡ f.epoch };
+
+    /// The node that the indirect reference at place `i` of the set leads to, loaded where it wasn't. Trouble only
+    /// where it wasn't loaded: Failed where the disk failed, Bad where the block isn't one of this tree.
+    fn child(&mut self, at: NodeId, i: usize) -> Result<NodeId, Trouble>
+        requires sound { IsSound (forest self.old) }
+        requires stands { let f = forest self.old in f.stands at.0 ≡ true }
+        requires indirect { IsIndirectAt (refs (forest self.old) at.0) i }
+        ensures walks { Walks (forest self.old) (forest self.new) }
+        ensures ok { let g = forest self.new in IfOk result (λ c. (r : Ref) → slice_get (refs (forest self.old) at.0) i ≡ Some r → g.link at.0 r.key ≡ loaded c.0) }
+        ensures loads { (r : Ref) → slice_get (refs (forest self.old) at.0) i ≡ Some r → Loads (forest self.old) (forest self.new) at.0 r.key }
+        ensures err { IfErr result (HasCause (forest self.old) (forest self.new)) }
+        ensures unloaded { let f = forest self.old in OnErr result ((r : Ref) (c : ℕ) → slice_get (refs f at.0) i ≡ Some r → f.link at.0 r.key ≡ loaded c → ⊥) }
+        ensures beside { KeepsBeside (forest self.old) (forest self.new) (beside self.old) (beside self.new) }
+        ensures later { later self.old self.new };
+
+    /// Makes the number of spare nodes at least `n`. It isn't refused where it is so already, and after a refusal
+    /// nothing has changed.
+    fn ready(&mut self, n: u32) -> Result<(), NoMemory>
+        requires sound { IsSound (forest self.old) }
+        ensures ok { let g = forest self.new in OnOk result (n ≤ g.spare) }
+        ensures same { ReadiesOnly (forest self.old) (forest self.new) }
+        ensures enough { let f = forest self.old in n ≤ f.spare → IsOk result }
+        ensures err { let f = forest self.old in let g = forest self.new in OnErr result (g.spare ≡ f.spare) }
+        ensures beside { KeepsBeside (forest self.old) (forest self.new) (beside self.old) (beside self.new) }
+        ensures later { later self.old self.new };
+
+    /// Makes the node and all above it writable, and lowers the room by the number of nodes from it up to below the
+    /// root that weren't. References to them, and those above the root, name other blocks then.
+    fn alter(&mut self, at: NodeId)
+        requires sound { IsSound (forest self.old) }
+        requires stands { let f = forest self.old in f.stands at.0 ≡ true }
+        requires room { let f = forest self.old in f.copies at.0 ≤ f.room }
+        ensures alters { Alters (forest self.old) (forest self.new) at.0 }
+        ensures beside { KeepsBeside (forest self.old) (forest self.new) (beside self.old) (beside self.new) }
+        ensures later { later self.old self.new };
+
+    /// Makes `set` the set of a writable node. What stood below a reference that it lacks is gone.
+    fn store(&mut self, at: NodeId, set: Set)
+        requires sound { IsSound (forest self.old) }
+        requires stands { let f = forest self.old in f.stands at.0 ≡ true }
+        requires writable { let f = forest self.old in f.writable at.0 ≡ true }
+        requires storable { Storable (forest self.old) at.0 set }
+        ensures stores { Stores (forest self.old) (forest self.new) at.0 set }
+        ensures beside { KeepsBeside (forest self.old) (forest self.new) (beside self.old) (beside self.new) }
+        ensures later { later self.old self.new };
+
+    /// Makes a writable indirect node of what a split of a copy of the set of `at` moved, and gives `at` the rest and
+    /// a reference to it. It lowers the spare nodes and the room by one.
+    fn make(&mut self, at: NodeId, set: Set, split: Split) -> NodeId
+        requires sound { IsSound (forest self.old) }
+        requires stands { let f = forest self.old in f.stands at.0 ≡ true }
+        requires writable { let f = forest self.old in f.writable at.0 ≡ true }
+        requires space { let f = forest self.old in (1 ≤ f.spare) × (1 ≤ f.room) }
+        requires split { (r : Ref) × MadeFrom (forest self.old) at.0 r set split }
+        ensures makes { Makes (forest self.old) (forest self.new) at.0 result.0 set split }
+        ensures beside { KeepsBeside (forest self.old) (forest self.new) (beside self.old) (beside self.new) }
+        ensures later { later self.old self.new };
+
+    /// The name of a directory's entry. Trouble only from a load or want of memory.
+    fn name(&mut self, alloc: Global, r: &Ref) -> Result<Bytes, Trouble>
+        requires sound { IsSound (forest self.old) }
+        requires entry { (d : Dirent) × (r.now.dirent ≡ Some d) }
+        ensures walks { Walks (forest self.old) (forest self.new) }
+        ensures told { let f = forest self.old in IfOk result (λ b. (name : List ℕ) → f.name r.now ≡ Some name → b ≡ name) }
+        ensures inline { IfOk result (λ b. (d : Dirent) → r.now.dirent ≡ Some d → d.len ≤ 64 → b ≡ take d.len d.name) }
+        ensures err { IfErr result (HasCause (forest self.old) (forest self.new)) }
+        ensures beside { KeepsBeside (forest self.old) (forest self.new) (beside self.old) (beside self.new) }
+        ensures later { later self.old self.new };
+
+    ghost same_later: { (s : Self) → later s s };
+
+    ghost later_later: { (s t u : Self) → later s t → later t u → later s u };
+}

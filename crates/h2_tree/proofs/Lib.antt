@@ -1,0 +1,13 @@
+mod Answering
+mod Climb
+mod Collect
+mod Store
+mod Edit
+mod Parted
+mod Descend
+mod Readied
+mod Only
+mod Removal
+mod RemoveBelow
+mod Taking
+mod TakeBelow

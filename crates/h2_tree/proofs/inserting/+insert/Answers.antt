@@ -1,0 +1,92 @@
+use Rattle.std.proofs.Common.{rules, ◌≡◌, ◌<◌, ◌≤◌, ◌⊎◌, inl, inr, true, false, ℕ, List, Option, Some, None, slice_get, length, arith, ap, sym, ◌∙◌, refl, subst, IfOk}
+use Rattle.h2_ref.specs.declared.reference.Ref.{Ref}
+use Rattle.h2_set.specs.RefSet.{RefSet}
+use Rattle.h2_set.specs.Ranges.{find, holds, NoneHolds, is_indirect}
+use Rattle.h2_set.specs.Forest.{Forest, refs, IsSound, LeavesOf}
+use Rattle.h2_set.specs.StayLaws.{Readies-walks, Walks-trans}
+use Rattle.h2_set.specs.LeafLaws.{find_none, find_here}
+use Rattle.h2_tree.specs.Changes.{Takes, Inserts}
+use Rattle.h2_tree.proofs.Edit.{same_leaf}
+use Rattle.h2_tree.proofs.Climb.{reaches_loaded}
+use Rattle.h2_tree.proofs.Descend.{child_stands, child_fewer, child_takes, child_room, ok_below, old_below, walks_below, unloaded_below}
+use Rattle.h2_tree.proofs.Answering.{always_err, beside_on}
+use Rattle.h2_tree.proofs.inserting.+insert.Goals as goal
+
+pub returns-in-Ok-clause-old : goal.returns-in-Ok-clause-old
+returns-in-Ok-clause-old g t c = λ l hl. sym (find_none c.args.leaf.key hl (rw c.get-set.ensures at c.in_default.ensures.absent))
+
+pub replace-requires-clause-same : goal.replace-requires-clause-same
+replace-requires-clause-same g t c = λ q read_q.
+    let f = g.N.Sets.forest c.args.n.now in
+    let read : slice_get (refs f c.args.root.0) c.in-Some.i ≡ Some c.at.result.now = rw c.get-set.ensures at c.at.ensures in
+    let leaf : is_indirect c.at.result.now ≡ false = sym c.is_indirect.ensures ∙ c.if-not-is_indirect.true in
+    let same : c.at.result.now ≡ q = cc (read, read_q) in
+    let node = c.requires.sound.node c.args.root.0 c.requires.stands in
+    let it = same_leaf f _ c.args.leaf _ c.at.result.now node c.requires.takes read (c.in-Some.ensures.found.holds _ c.at.ensures) leaf in
+    subst (λ (r : Ref). (is_indirect r ≡ false) × (r.key ≡ c.args.leaf.key) × (r.keybits ≡ c.args.leaf.keybits)) same (leaf, it.0, it.1)
+
+pub returns-then-not-is_indirect-clause-old : goal.returns-then-not-is_indirect-clause-old
+returns-then-not-is_indirect-clause-old g t c = λ l hl.
+    let f = g.N.Sets.forest c.args.n.now in
+    let read : slice_get (refs f c.args.root.0) c.in-Some.i ≡ Some c.at.result.now = rw c.get-set.ensures at c.at.ensures in
+    let leaf : is_indirect c.at.result.now ≡ false = sym c.is_indirect.ensures ∙ c.if-not-is_indirect.true in
+    let same : c.at.result.now ≡ c.replace.result = cc (read, c.replace.ensures.old) in
+    let node = c.requires.sound.node c.args.root.0 c.requires.stands in
+    ap Some (sym same) ∙ sym (find_here c.args.leaf.key _ _ c.in-Some.i c.at.result.now hl node.inside read (c.in-Some.ensures.found.holds _ c.at.ensures) leaf)
+
+pub returns-in_err-child-clause-unloaded : goal.returns-in_err-child-clause-unloaded
+returns-in_err-child-clause-unloaded g t c =
+    let f = g.N.Sets.forest c.args.n.now in
+    let read : slice_get (refs f c.args.root.0) c.in-Some.i ≡ Some c.at.result.now = rw c.get-set.ensures at c.at.ensures in
+    let ind : is_indirect c.at.result.now ≡ true = sym c.is_indirect.ensures ∙ c.if-not-is_indirect.false in
+    let in_r = c.in-Some.ensures.found.holds _ c.at.ensures in
+    always_err c.from_residual.result (inl (λ o reached. reaches_loaded f c.args.leaf.key c.args.root.0 c.in-Some.i c.at.result.now o c.requires.sound c.requires.stands read in_r ind c.in_err-child.ensures.unloaded reached))
+
+pub insert-requires : goal.insert-requires
+insert-requires g t c κs within =
+    let f = g.N.Sets.forest c.args.n.now in
+    let read : slice_get (refs f c.args.root.0) c.in-Some.i ≡ Some c.at.result.now = rw c.get-set.ensures at c.at.ensures in
+    let ind : is_indirect c.at.result.now ≡ true = sym c.is_indirect.ensures ∙ c.if-not-is_indirect.false in
+    let in_r = c.in-Some.ensures.found.holds _ c.at.ensures in
+    let child = c.in_ok-child.ensures in
+    let fewer = child_fewer _ _ _ _ _ c.args.leaf c.at.result.now c.requires.sound c.requires.stands c.requires.takes read ind in_r child.walks (child.loads _ read) (child.ok _ read) in
+    (omega (arith, fewer, c.decreases), (within.0, (within.1, (child.walks.sound, (child_stands _ _ _ _ _ c.args.leaf c.at.result.now c.requires.sound c.requires.stands c.requires.takes read ind in_r child.walks (child.loads _ read) (child.ok _ read), (child_room _ _ _ _ _ c.args.leaf c.at.result.now c.requires.sound c.requires.stands c.requires.takes read ind in_r child.walks (child.loads _ read) (child.ok _ read) c.requires.room, child_takes _ _ _ _ _ c.args.leaf c.at.result.now c.requires.sound c.requires.stands c.requires.takes read ind in_r child.walks (child.loads _ read) (child.ok _ read)))))))
+
+pub returns-clause-ok : goal.returns-clause-ok
+returns-clause-ok g t c =
+    let f = g.N.Sets.forest c.args.n.now in
+    let read : slice_get (refs f c.args.root.0) c.in-Some.i ≡ Some c.at.result.now = rw c.get-set.ensures at c.at.ensures in
+    let ind : is_indirect c.at.result.now ≡ true = sym c.is_indirect.ensures ∙ c.if-not-is_indirect.false in
+    let in_r = c.in-Some.ensures.found.holds _ c.at.ensures in
+    let child = c.in_ok-child.ensures in
+    ok_below _ _ _ _ _ c.args.leaf c.at.result.now c.requires.sound c.requires.stands c.requires.takes read ind in_r child.walks (child.loads _ read) (child.ok _ read) _ c.insert.result c.insert.ensures.ok
+
+pub returns-clause-old : goal.returns-clause-old
+returns-clause-old g t c =
+    let f = g.N.Sets.forest c.args.n.now in
+    let read : slice_get (refs f c.args.root.0) c.in-Some.i ≡ Some c.at.result.now = rw c.get-set.ensures at c.at.ensures in
+    let ind : is_indirect c.at.result.now ≡ true = sym c.is_indirect.ensures ∙ c.if-not-is_indirect.false in
+    let in_r = c.in-Some.ensures.found.holds _ c.at.ensures in
+    let child = c.in_ok-child.ensures in
+    old_below _ _ _ _ _ c.args.leaf c.at.result.now c.requires.sound c.requires.stands c.requires.takes read ind in_r child.walks (child.loads _ read) (child.ok _ read) c.insert.result c.insert.ensures.old
+
+pub returns-clause-walks : goal.returns-clause-walks
+returns-clause-walks g t c =
+    let f = g.N.Sets.forest c.args.n.now in
+    let read : slice_get (refs f c.args.root.0) c.in-Some.i ≡ Some c.at.result.now = rw c.get-set.ensures at c.at.ensures in
+    let ind : is_indirect c.at.result.now ≡ true = sym c.is_indirect.ensures ∙ c.if-not-is_indirect.false in
+    let in_r = c.in-Some.ensures.found.holds _ c.at.ensures in
+    let child = c.in_ok-child.ensures in
+    walks_below _ _ _ _ _ c.args.leaf c.at.result.now c.requires.sound c.requires.stands c.requires.takes read ind in_r child.walks (child.loads _ read) (child.ok _ read) _ c.insert.result c.insert.ensures.walks
+
+pub returns-clause-unloaded : goal.returns-clause-unloaded
+returns-clause-unloaded g t c =
+    let f = g.N.Sets.forest c.args.n.now in
+    let read : slice_get (refs f c.args.root.0) c.in-Some.i ≡ Some c.at.result.now = rw c.get-set.ensures at c.at.ensures in
+    let ind : is_indirect c.at.result.now ≡ true = sym c.is_indirect.ensures ∙ c.if-not-is_indirect.false in
+    let in_r = c.in-Some.ensures.found.holds _ c.at.ensures in
+    let child = c.in_ok-child.ensures in
+    unloaded_below _ _ _ _ _ c.args.leaf c.at.result.now c.requires.sound c.requires.stands c.requires.takes read ind in_r child.walks (child.loads _ read) (child.ok _ read) c.insert.result c.insert.ensures.unloaded
+
+pub returns-clause-beside : goal.returns-clause-beside
+returns-clause-beside g t c = beside_on _ _ _ _ _ _ (λ m st. (c.in_ok-child.ensures.walks.stays m st).place.stands) c.in_ok-child.ensures.beside c.insert.ensures.beside

@@ -1,0 +1,34 @@
+use Rattle.std.proofs.Common.{rules, ◌≡◌, ◌<◌, ◌≤◌, true, ℕ, List, Some, slice_get, length, arith, ap, sym, ◌∙◌, refl, subst}
+use Rattle.h2_ref.specs.declared.reference.Ref.{Ref}
+use Rattle.h2_set.specs.RefSet.{RefSet}
+use Rattle.h2_set.specs.Forest.{Forest, refs, IsSound}
+use Rattle.h2_tree.specs.Changes.{Takes, Inserts}
+use Rattle.h2_tree.proofs.Store.{storable, inserts, alters_still, enough_room}
+use Rattle.h2_tree.proofs.Edit.{apart_altered, room_altered, put_copy}
+use Rattle.h2_tree.proofs.Parted.{leaf_small}
+use Rattle.h2_tree.proofs.Answering.{beside_on}
+use Rattle.h2_tree.proofs.inserting.place.Goals as goal
+
+pub alter-requires-clause-room : goal.alter-requires-clause-room
+alter-requires-clause-room g c = enough_room _ _ c.requires.sound c.requires.stands c.requires.room
+
+pub put-requires-clause-apart : goal.put-requires-clause-apart
+put-requires-clause-apart g c = rw (c.copy-set.ensures.same, c.get.ensures) (apart_altered _ _ _ _ c.requires.sound c.requires.stands c.requires.takes c.alter.ensures.alters c.requires.none)
+
+pub put-requires-clause-small : goal.put-requires-clause-small
+put-requires-clause-small g c = leaf_small _ _ _ _ c.requires.sound c.requires.stands c.requires.takes c.alter.ensures.alters c.requires.none
+
+pub store-requires-clause-storable : goal.store-requires-clause-storable
+store-requires-clause-storable g c = storable _ _ _ _ _ c.requires.sound c.requires.stands c.requires.takes c.alter.ensures.alters (put_copy _ _ _ _ c.requires.sound c.requires.stands c.requires.takes c.alter.ensures.alters c.requires.none c.requires.space _ _ _ c.copy-set.ensures.same c.get.ensures (c.in-Placed.ensures.placed refl))
+
+pub unreachable-requires : goal.unreachable-requires
+unreachable-requires g c =
+    let room = room_altered _ _ _ _ c.requires.sound c.requires.stands c.requires.takes c.alter.ensures.alters c.requires.space in
+    let full = rw (c.copy-set.ensures.same, c.get.ensures) at (c.in-Full.ensures.answer.0 refl) in
+    omega (arith, room, full)
+
+pub returns-clause-inserts : goal.returns-clause-inserts
+returns-clause-inserts g c = inserts _ _ _ _ _ c.requires.sound c.requires.stands c.requires.takes c.alter.ensures.alters (put_copy _ _ _ _ c.requires.sound c.requires.stands c.requires.takes c.alter.ensures.alters c.requires.none c.requires.space _ _ _ c.copy-set.ensures.same c.get.ensures (c.in-Placed.ensures.placed refl)) _ c.requires.room c.store.ensures.stores
+
+pub returns-clause-beside : goal.returns-clause-beside
+returns-clause-beside g c = beside_on _ _ _ _ _ _ (alters_still _ _ _ c.alter.ensures.alters) c.alter.ensures.beside c.store.ensures.beside

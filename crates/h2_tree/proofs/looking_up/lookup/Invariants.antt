@@ -1,0 +1,19 @@
+use Rattle.std.proofs.Common.{◌≡◌, ℕ, true, Option}
+use Rattle.h2_set.specs.Forest.{Forest, IsSound, Walks, Reaches, KeepsBeside}
+use Rattle.h2_tree.proofs.Climb.{LeadsTo, LedBack}
+use Rattle.h2_tree.proofs.looking_up.lookup.Given as goal
+
+abbrev pub invariant-loop-i : goal.invariant-loop-i
+invariant-loop-i g l =
+    let f = g.N.Sets.forest l.n in
+    record {
+      walks : Walks (g.N.Sets.forest l.fn.n) f;
+      stands : f.stands l.at.0 ≡ true;
+      leads : LeadsTo f l.key l.fn.root.0 l.at.0;
+      led : LedBack (g.N.Sets.forest l.fn.n) l.key l.fn.root.0 l.at.0;
+      beside : KeepsBeside (g.N.Sets.forest l.fn.n) f (g.N.Sets.beside l.fn.n) (g.N.Sets.beside l.n);
+      later : g.N.Sets.later l.fn.n l.n;
+    }
+
+abbrev pub decreases-loop-i : goal.decreases-loop-i
+decreases-loop-i g l = let f = g.N.Sets.forest l.n in f.bits l.at.0

@@ -1,0 +1,50 @@
+use Rattle.std.proofs.Common.{rules, ◌≡◌, ◌<◌, ◌≤◌, ◌⊎◌, inl, inr, arith, ap, sym, ◌∙◌, refl, subst, List, Option, Some}
+use Rattle.h2_ref.specs.declared.reference.Ref.{Ref}
+use Rattle.h2_set.specs.Forest.{Forest, refs, LeavesOf}
+use Rattle.h2_tree.specs.Changes.{TakesOut, LeadsOnly, Removes, IsFree}
+use Rattle.h2_tree.specs.declared.removing.Taken.{Taken}
+use Rattle.h2_tree.specs.declared.removing.Taken.TheVariants.{Nothing, Out, Sole}
+use Rattle.h2_tree.proofs.Answering.{beside_on}
+use Rattle.h2_tree.proofs.TakeBelow.{root_free, root_room, root_answer, root_removes}
+use Rattle.h2_tree.proofs.removing.remove.Goals as goal
+
+pub take-requires-clause-room : goal.take-requires-clause-room
+take-requires-clause-room g c = let node = c.requires.sound.node c.args.root.0 c.requires.stands in (omega (arith, node.top c.requires.top), c.requires.room)
+
+pub take-requires-clause-free : goal.take-requires-clause-free
+take-requires-clause-free g c = rw c.requires.top c.requires.free
+
+pub cut_at-requires-clause-room : goal.cut_at-requires-clause-room
+cut_at-requires-clause-room g c =
+    let taken : TakesOut (g.N.Sets.forest c.args.n.now) (g.N.Sets.forest c.take.new.n) c.args.root.0 c.args.key (Sole c.in-Sole.leaf) = subst (λ t. TakesOut (g.N.Sets.forest c.args.n.now) (g.N.Sets.forest c.take.new.n) c.args.root.0 c.args.key t) c.in-Sole.is c.in_ok-take.ensures.taken in
+    root_room _ _ _ _ c.in-Sole.leaf c.requires.sound c.requires.stands c.requires.top taken c.requires.room
+
+pub cut_at-requires-clause-only : goal.cut_at-requires-clause-only
+cut_at-requires-clause-only g c =
+    let taken : TakesOut (g.N.Sets.forest c.args.n.now) (g.N.Sets.forest c.take.new.n) c.args.root.0 c.args.key (Sole c.in-Sole.leaf) = subst (λ t. TakesOut (g.N.Sets.forest c.args.n.now) (g.N.Sets.forest c.take.new.n) c.args.root.0 c.args.key t) c.in-Sole.is c.in_ok-take.ensures.taken in
+    (c.in-Sole.leaf, taken.2, root_free _ _ _ _ c.in-Sole.leaf c.requires.sound c.requires.stands c.requires.top taken c.requires.free)
+
+pub cut_at-requires-clause-more : goal.cut_at-requires-clause-more
+cut_at-requires-clause-more g c =
+    let taken : TakesOut (g.N.Sets.forest c.args.n.now) (g.N.Sets.forest c.take.new.n) c.args.root.0 c.args.key (Sole c.in-Sole.leaf) = subst (λ t. TakesOut (g.N.Sets.forest c.args.n.now) (g.N.Sets.forest c.take.new.n) c.args.root.0 c.args.key t) c.in-Sole.is c.in_ok-take.ensures.taken in
+    inl ((taken.0.walks.stays c.args.root.0 c.requires.stands).place.root ∙ c.requires.top)
+
+pub cut_at-requires-clause-stands : goal.cut_at-requires-clause-stands
+cut_at-requires-clause-stands g c =
+    let taken : TakesOut (g.N.Sets.forest c.args.n.now) (g.N.Sets.forest c.take.new.n) c.args.root.0 c.args.key (Sole c.in-Sole.leaf) = subst (λ t. TakesOut (g.N.Sets.forest c.args.n.now) (g.N.Sets.forest c.take.new.n) c.args.root.0 c.args.key t) c.in-Sole.is c.in_ok-take.ensures.taken in
+    (taken.0.walks.stays c.args.root.0 c.requires.stands).place.stands
+
+pub returns-in-Sole-clause-answer : goal.returns-in-Sole-clause-answer
+returns-in-Sole-clause-answer g c =
+    let taken : TakesOut (g.N.Sets.forest c.args.n.now) (g.N.Sets.forest c.take.new.n) c.args.root.0 c.args.key (Sole c.in-Sole.leaf) = subst (λ t. TakesOut (g.N.Sets.forest c.args.n.now) (g.N.Sets.forest c.take.new.n) c.args.root.0 c.args.key t) c.in-Sole.is c.in_ok-take.ensures.taken in
+    root_answer _ _ _ _ c.in-Sole.leaf c.requires.sound c.requires.stands taken
+
+pub returns-in-Sole-clause-removes : goal.returns-in-Sole-clause-removes
+returns-in-Sole-clause-removes g c =
+    let taken : TakesOut (g.N.Sets.forest c.args.n.now) (g.N.Sets.forest c.take.new.n) c.args.root.0 c.args.key (Sole c.in-Sole.leaf) = subst (λ t. TakesOut (g.N.Sets.forest c.args.n.now) (g.N.Sets.forest c.take.new.n) c.args.root.0 c.args.key t) c.in-Sole.is c.in_ok-take.ensures.taken in
+    root_removes _ _ _ _ _ c.in-Sole.leaf c.requires.sound c.requires.stands taken (c.cut_at.ensures.removes c.in-Sole.leaf taken.2 (root_free _ _ _ _ c.in-Sole.leaf c.requires.sound c.requires.stands c.requires.top taken c.requires.free))
+
+pub returns-in-Sole-clause-beside : goal.returns-in-Sole-clause-beside
+returns-in-Sole-clause-beside g c =
+    let taken : TakesOut (g.N.Sets.forest c.args.n.now) (g.N.Sets.forest c.take.new.n) c.args.root.0 c.args.key (Sole c.in-Sole.leaf) = subst (λ t. TakesOut (g.N.Sets.forest c.args.n.now) (g.N.Sets.forest c.take.new.n) c.args.root.0 c.args.key t) c.in-Sole.is c.in_ok-take.ensures.taken in
+    beside_on _ _ _ _ _ _ (λ m st. (taken.0.walks.stays m st).place.stands) c.in_ok-take.ensures.beside c.cut_at.ensures.beside

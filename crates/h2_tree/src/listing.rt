@@ -1,0 +1,75 @@
+ghost use Rattle.std.specs.Prelude.{◌≡◌, ℕ, [], ◌∷◌, ◌++◌, true, List, IfOk, IfErr, OnOk, filter};
+ghost use Rattle.h2_ref.specs.declared.reference.Ref.{Ref};
+ghost use Rattle.h2_set.specs.Forest.{Forest, IsSound, Walks, HasCause, LeavesOf, KeepsBeside};
+ghost use Rattle.h2_tree.specs.Changes.{is_between};
+
+use h2_ref::{Ref, Trouble};
+use h2_set::{NodeId, Sets, is_indirect};
+use std::alloc::Global;
+
+// Appends a leaf whose key is from `from` to `to`.
+fn take_leaf(r: Ref, from: u64, to: u64, out: &mut Vec<Ref>) -> Result<(), Trouble>
+    ensures err { IfErr result (λ e. e ≡ Trouble.NoMemory) }
+    ensures ok { OnOk result (out.new.items ≡ out.old.items ++ filter (is_between from to) (r ∷ [])) }
+{
+    if r.key < from {
+        return Ok(());
+    }
+    if to < r.key {
+        return Ok(());
+    }
+    match out.push(r) {
+        Ok(()) => Ok(()),
+        Err(_) => Err(Trouble::NoMemory),
+    }
+}
+
+// Appends the leaves below a node with keys from `from` to `to`.
+fn collect<N: Sets>(
+    n: &mut N,
+    at: NodeId,
+    from: u64,
+    to: u64,
+    out: &mut Vec<Ref>,
+) -> Result<(), Trouble>
+    requires sound { IsSound (N.forest n.old) }
+    requires stands { let f = N.forest n.old in f.stands at.0 ≡ true }
+    ensures ok { OnOk result ((l : List Ref) → LeavesOf (N.forest n.old) at.0 l → out.new.items ≡ out.old.items ++ filter (is_between from to) l) }
+    ensures walks { Walks (N.forest n.old) (N.forest n.new) }
+    ensures err { IfErr result (HasCause (N.forest n.old) (N.forest n.new)) }
+    ensures beside { KeepsBeside (N.forest n.old) (N.forest n.new) (N.beside n.old) (N.beside n.new) }
+    ensures later { N.later n.old n.new }
+{
+    let len = n.get(at).len();
+    for i in 0..len {
+        let r = *n.get(at).at(i);
+        if is_indirect(&r) {
+            let child = n.child(at, i)?;
+            collect(n, child, from, to, out)?;
+        } else {
+            take_leaf(r, from, to, out)?;
+        }
+    }
+    Ok(())
+}
+
+/// The leaves with keys from `from` to `to`, in order. Trouble only from a load or want of memory.
+pub fn range<N: Sets>(
+    alloc: Global,
+    n: &mut N,
+    root: NodeId,
+    from: u64,
+    to: u64,
+) -> Result<Vec<Ref>, Trouble>
+    requires sound { IsSound (N.forest n.old) }
+    requires stands { let f = N.forest n.old in f.stands root.0 ≡ true }
+    ensures found { IfOk result (λ v. (l : List Ref) → LeavesOf (N.forest n.old) root.0 l → v.items ≡ filter (is_between from to) l) }
+    ensures walks { Walks (N.forest n.old) (N.forest n.new) }
+    ensures err { IfErr result (HasCause (N.forest n.old) (N.forest n.new)) }
+    ensures beside { KeepsBeside (N.forest n.old) (N.forest n.new) (N.beside n.old) (N.beside n.new) }
+    ensures later { N.later n.old n.new }
+{
+    let mut out = Vec::new(alloc);
+    collect(n, root, from, to, &mut out)?;
+    Ok(out)
+}

@@ -1,0 +1,35 @@
+ghost use Rattle.std.specs.Prelude.{◌≡◌, ℕ, true, List, Option, IfOk, IfErr, OnErr};
+ghost use Rattle.h2_ref.specs.declared.reference.Ref.{Ref};
+ghost use Rattle.h2_set.specs.Ranges.{find};
+ghost use Rattle.h2_set.specs.Forest.{Forest, refs, loaded, IsSound, Walks, HasCause, LeavesOf, Reaches, KeepsBeside};
+ghost use Rattle.h2_tree.specs.Changes.{PathUnloaded};
+
+use h2_ref::{Ref, Trouble};
+use h2_set::{NodeId, Sets, is_indirect};
+
+/// The leaf whose range holds the key; None exactly where there is none. Afterwards every node on the key's path is
+/// loaded. Trouble only where one wasn't.
+pub fn lookup<N: Sets>(n: &mut N, root: NodeId, key: u64) -> Result<Option<Ref>, Trouble>
+    requires sound { IsSound (N.forest n.old) }
+    requires stands { let f = N.forest n.old in f.stands root.0 ≡ true }
+    ensures walks { Walks (N.forest n.old) (N.forest n.new) }
+    ensures found { IfOk result (λ o. (l : List Ref) → LeavesOf (N.forest n.old) root.0 l → o ≡ find key l) }
+    ensures path { IfOk result (Reaches (N.forest n.new) key root.0) }
+    ensures err { IfErr result (HasCause (N.forest n.old) (N.forest n.new)) }
+    ensures unloaded { OnErr result (PathUnloaded (N.forest n.old) root.0 key) }
+    ensures beside { KeepsBeside (N.forest n.old) (N.forest n.new) (N.beside n.old) (N.beside n.new) }
+    ensures later { N.later n.old n.new }
+{
+    let mut at = root;
+    loop {
+        let set = n.get(at);
+        let Some(i) = set.find(key) else {
+            return Ok(None);
+        };
+        let found = *set.at(i);
+        if !is_indirect(&found) {
+            return Ok(Some(found));
+        }
+        at = n.child(at, i)?;
+    }
+}

@@ -1,0 +1,114 @@
+ghost use Rattle.std.specs.Prelude.{◌≡◌, ◌<◌, ◌≤◌, ◌⊎◌, true, false, ℕ, List, Some, slice_get, length, IfOk, IfErr, IfSome, IfNone, OnOk, OnErr};
+ghost use Rattle.h2_ref.specs.declared.reference.Ref.{Ref};
+ghost use Rattle.h2_set.specs.Ranges.{at_key, is_indirect};
+ghost use Rattle.h2_set.specs.Forest.{Forest, refs, IsSound, Walks, HasCause, LeavesOf, KeepsBeside};
+ghost use Rattle.h2_tree.specs.Changes.{IsFree, LeadsOnly, Removes, TakesOut, PathUnloaded};
+
+use h2_ref::{Ref, Trouble};
+use h2_set::{NodeId, Sets, is_indirect};
+
+/// What taking a leaf out of a node's tree came to.
+#[derive(Clone, Copy, PartialEq, Eq)]
+pub(crate) enum Taken {
+    /// There is no leaf with the key, and nothing has changed.
+    Nothing,
+    /// The leaf, which is out.
+    Out(Ref),
+    /// The leaf, which is the node's only one and still there: the reference to the node has to go.
+    Sole(Ref),
+}
+
+// Takes a reference that leads to one leaf alone out of the set of a node.
+fn cut_at<N: Sets>(n: &mut N, at: NodeId, i: usize)
+    requires sound { IsSound (N.forest n.old) }
+    requires stands { let f = N.forest n.old in f.stands at.0 ≡ true }
+    requires room { let f = N.forest n.old in (f.copies at.0 ≤ 62) × (62 ≤ f.room) }
+    requires more { let f = N.forest n.old in (f.root at.0 ≡ at.0) ⊎ (2 ≤ length (refs f at.0)) }
+    requires only { let f = N.forest n.old in (leaf : Ref) × LeadsOnly f at.0 i leaf × IsFree f (f.root at.0) leaf.key }
+    ensures removes { let f = N.forest n.old in (leaf : Ref) → LeadsOnly f at.0 i leaf → IsFree f (f.root at.0) leaf.key → Removes f (N.forest n.new) at.0 leaf.key }
+    ensures beside { KeepsBeside (N.forest n.old) (N.forest n.new) (N.beside n.old) (N.beside n.new) }
+    ensures later { N.later n.old n.new }
+{
+    n.alter(at);
+    let mut set = n.get(at).copy();
+    set.cut(i);
+    n.store(at, set);
+}
+
+// Takes a reference that leads to one leaf alone out, unless the node has no other.
+fn cut_unless_sole<N: Sets>(n: &mut N, at: NodeId, i: usize, leaf: Ref) -> Taken
+    requires sound { IsSound (N.forest n.old) }
+    requires stands { let f = N.forest n.old in f.stands at.0 ≡ true }
+    requires room { let f = N.forest n.old in (f.copies at.0 ≤ 62) × (62 ≤ f.room) }
+    requires only { LeadsOnly (N.forest n.old) at.0 i leaf }
+    requires free { let f = N.forest n.old in IsFree f (f.root at.0) leaf.key }
+    ensures taken { TakesOut (N.forest n.old) (N.forest n.new) at.0 leaf.key result }
+    ensures beside { KeepsBeside (N.forest n.old) (N.forest n.new) (N.beside n.old) (N.beside n.new) }
+    ensures later { N.later n.old n.new }
+{
+    if n.get(at).len() == 1 {
+        return Taken::Sole(leaf);
+    }
+    cut_at(n, at, i);
+    Taken::Out(leaf)
+}
+
+// Takes the leaf with the key out of the tree below a node, unless the node has no other.
+fn take<N: Sets>(n: &mut N, at: NodeId, key: u64) -> Result<Taken, Trouble>
+    requires sound { IsSound (N.forest n.old) }
+    requires stands { let f = N.forest n.old in f.stands at.0 ≡ true }
+    requires room { let f = N.forest n.old in (f.copies at.0 ≤ 62) × (62 ≤ f.room) }
+    requires free { let f = N.forest n.old in IsFree f (f.root at.0) key }
+    ensures taken { IfOk result (TakesOut (N.forest n.old) (N.forest n.new) at.0 key) }
+    ensures walks { OnErr result (Walks (N.forest n.old) (N.forest n.new)) }
+    ensures err { IfErr result (HasCause (N.forest n.old) (N.forest n.new)) }
+    ensures unloaded { OnErr result (PathUnloaded (N.forest n.old) at.0 key) }
+    ensures beside { KeepsBeside (N.forest n.old) (N.forest n.new) (N.beside n.old) (N.beside n.new) }
+    ensures later { N.later n.old n.new }
+{
+    let set = n.get(at);
+    let Some(i) = set.find(key) else {
+        return Ok(Taken::Nothing);
+    };
+    let found = *set.at(i);
+    if !is_indirect(&found) {
+        if found.key != key {
+            return Ok(Taken::Nothing);
+        }
+        return Ok(cut_unless_sole(n, at, i, found));
+    }
+    let child = n.child(at, i)?;
+    match take(n, child, key)? {
+        Taken::Sole(leaf) => Ok(cut_unless_sole(n, at, i, leaf)),
+        Taken::Out(leaf) => Ok(Taken::Out(leaf)),
+        Taken::Nothing => Ok(Taken::Nothing),
+    }
+}
+
+/// Takes out the leaf with this key, which is answered; None exactly where there is none, and then nothing has
+/// changed. What the leaf names isn't held, and the room is at least 62. Indirect blocks that become empty go.
+/// Trouble only where a node on the key's path isn't loaded.
+pub fn remove<N: Sets>(n: &mut N, root: NodeId, key: u64) -> Result<Option<Ref>, Trouble>
+    requires sound { IsSound (N.forest n.old) }
+    requires stands { let f = N.forest n.old in f.stands root.0 ≡ true }
+    requires top { let f = N.forest n.old in f.root root.0 ≡ root.0 }
+    requires room { let f = N.forest n.old in 62 ≤ f.room }
+    requires free { IsFree (N.forest n.old) root.0 key }
+    ensures answer { IfOk result (λ o. (l : List Ref) → LeavesOf (N.forest n.old) root.0 l → o ≡ at_key key l) }
+    ensures removes { IfOk result (λ o. IfSome o (λ leaf. Removes (N.forest n.old) (N.forest n.new) root.0 key)) }
+    ensures absent { IfOk result (λ o. IfNone o (Walks (N.forest n.old) (N.forest n.new))) }
+    ensures walks { OnErr result (Walks (N.forest n.old) (N.forest n.new)) }
+    ensures err { IfErr result (HasCause (N.forest n.old) (N.forest n.new)) }
+    ensures unloaded { OnErr result (PathUnloaded (N.forest n.old) root.0 key) }
+    ensures beside { KeepsBeside (N.forest n.old) (N.forest n.new) (N.beside n.old) (N.beside n.new) }
+    ensures later { N.later n.old n.new }
+{
+    match take(n, root, key)? {
+        Taken::Nothing => Ok(None),
+        Taken::Out(leaf) => Ok(Some(leaf)),
+        Taken::Sole(leaf) => {
+            cut_at(n, root, 0);
+            Ok(Some(leaf))
+        }
+    }
+}
