@@ -1,6 +1,6 @@
 -- The references of an inode's body.
-use Rattle.std.specs.Prelude.{◌≡◌, ◌⊎◌, ◌<◌, ◌≤◌, ℕ, ◌+◌, ◌-◌, ◌*◌, ◌^◌, List, length, drop, slice_index, slice_index_or, ◌/◌, All}
-use Rattle.std.proofs.Common.{ap, sym, ◌∙◌, refl, arith, inl, inr, subst, lit<}
+use Rattle.std.specs.Prelude.{◌≡◌, ℕ, ◌*◌, List, length, drop, slice_index_or, ◌/◌, All}
+use Rattle.std.proofs.Common.{ap, refl, arith, inl, inr, subst, lit<}
 use Rattle.std.proofs.lemmas.Bool.{cases_lt}
 use Rattle.std.proofs.lemmas.List.{get_or-drop}
 use Rattle.h2_num.specs.Places.{Places, places, from_place}
@@ -12,8 +12,6 @@ use Rattle.h2_set.specs.SetBytesLaws.{set_one}
 use Rattle.h2_ref.specs.FaultLaws.{spelled-none}
 use Rattle.h2_ref.specs.Ref.{empty_ref, IsValid}
 use Rattle.h2_inode.specs.declared.kind.InodeKind.{InodeKind}
-use Rattle.h2_inode.specs.declared.fault.InodeFault.{InodeFault}
-use Rattle.h2_inode.specs.declared.fault.InodeFault.TheVariants.{Reference, Shape}
 use Rattle.h2_inode.specs.Inode.{IsPartOf, IsRootSet}
 use Rattle.h2_inode.specs.Fault.{IsRefsFault, in_body, LiesInBody}
 
@@ -35,7 +33,10 @@ no_own kind size c none ss root bytes = none ss (record { held = root.held; risi
 -- the empty reference is valid
 empty_valid : IsValid empty_ref
 empty_valid = record {
-  method = refl; stored = lit< tt; radix = refl; place = refl;
+  method = refl;
+  stored = lit< tt;
+  radix = refl;
+  place = refl;
   key = record { keybits = refl; key = record { least = omega arith; last = omega arith }; multiple = refl };
   id = record { least = omega arith; last = omega arith };
   entry = tt;

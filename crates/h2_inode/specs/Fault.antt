@@ -7,7 +7,7 @@ use Rattle.h2_set.specs.declared.decoding.SetFault.TheVariants.{Reference as Ref
 use Rattle.h2_set.specs.SetBytes.{SetBytes, AreRefs, IsRefused}
 use Rattle.h2_inode.specs.declared.kind.InodeKind.{InodeKind}
 use Rattle.h2_inode.specs.declared.fault.InodeFault.{InodeFault}
-use Rattle.h2_inode.specs.declared.fault.InodeFault.TheVariants.{Kind, Body, Links, Number, Size, Next, Name, Padding, Reference, Shape}
+use Rattle.h2_inode.specs.declared.fault.InodeFault.TheVariants.{Kind, Reference, Shape}
 use Rattle.h2_inode.specs.Kind.{kind_byte}
 use Rattle.h2_inode.specs.Head.{HeadFits, IsHeadFault, body_of}
 use Rattle.h2_inode.specs.Inode.{IsRootSet}

@@ -61,6 +61,11 @@ pub record IsInode (i : Inode) : Type 0 where
   pub name_fits : IsNameOf i.kind i.name
   pub body_fits : BodyFits i.kind i.size i.body
 
+-- the body has 512 bytes
+abbrev pub IsStorable : Body → Type 0
+IsStorable (Refs s) = (s.capacity ≡ 4) × All IsHeld s.refs
+IsStorable (Bytes bytes) = length bytes ≡ 512
+
 -- the number of a body
 abbrev pub body_byte : Body → ℕ
 body_byte (Refs s) = 0

@@ -3,6 +3,7 @@
 
 mod contents;
 mod decoding;
+mod encoding;
 mod fault;
 mod head;
 mod inode;
@@ -12,8 +13,12 @@ mod limits;
 mod pfs_name;
 
 pub use decoding::decode_inode;
+pub use encoding::encode_inode;
 pub use fault::InodeFault;
 pub use inode::{Body, Inode};
 pub use kind::InodeKind;
 pub use layout::INODE_BYTES;
 pub use pfs_name::PfsName;
+
+#[cfg(test)]
+mod tests;
