@@ -1,16 +1,13 @@
 -- The references of an inode's body.
-use Rattle.std.specs.Prelude.{◌≡◌, ℕ, ◌*◌, List, length, drop, slice_index_or, ◌/◌, All}
-use Rattle.std.proofs.Common.{ap, refl, arith, inl, inr, subst, lit<}
-use Rattle.std.proofs.lemmas.Bool.{cases_lt}
+use Rattle.std.specs.Prelude.{◌≡◌, ℕ, ◌*◌, List, drop, ◌/◌, All}
+use Rattle.std.proofs.Common.{ap, refl, arith, subst}
 use Rattle.std.proofs.lemmas.List.{get_or-drop}
 use Rattle.h2_num.specs.Places.{Places, places, from_place}
 use Rattle.h2_ref.specs.declared.reference.Ref.{Ref}
 use Rattle.h2_set.specs.declared.decoding.SetFault.{SetFault}
 use Rattle.h2_set.specs.declared.decoding.SetFault.TheVariants.{Reference as RefusedRef, Shape as Unshaped}
-use Rattle.h2_set.specs.SetBytes.{SetBytes, IsSetAt, AreRefs, IsFaultOf, slot}
-use Rattle.h2_set.specs.SetBytesLaws.{set_one}
-use Rattle.h2_ref.specs.FaultLaws.{spelled-none}
-use Rattle.h2_ref.specs.Ref.{empty_ref, IsValid}
+use Rattle.h2_set.specs.SetBytes.{SetBytes, IsSetAt, AreRefs, IsFaultOf}
+use Rattle.h2_set.specs.SetBytesLaws.{set_one, set_decoded}
 use Rattle.h2_inode.specs.declared.kind.InodeKind.{InodeKind}
 use Rattle.h2_inode.specs.Inode.{IsPartOf, IsRootSet}
 use Rattle.h2_inode.specs.Fault.{IsRefsFault, in_body, LiesInBody}
@@ -30,24 +27,9 @@ not_own kind size refs c at bad ss root bytes =
 pub no_own : (kind : InodeKind) (size : ℕ) (c : Places) → ((refs : List Ref) → IsSetAt 4 refs c → ⊥) → (ss : List Ref) → IsRootSet kind size ss → SetBytes 4 ss c → ⊥
 no_own kind size c none ss root bytes = none ss (record { held = root.held; rising = root.rising; bytes = bytes })
 
--- the empty reference is valid
-empty_valid : IsValid empty_ref
-empty_valid = record {
-  method = refl;
-  stored = lit< tt;
-  radix = refl;
-  place = refl;
-  key = record { keybits = refl; key = record { least = omega arith; last = omega arith }; multiple = refl };
-  id = record { least = omega arith; last = omega arith };
-  entry = tt;
-}
-
 -- the references of a set are decoded, and the empty ones behind them
 pub are_refs : (refs : List Ref) (c : Places) → IsSetAt 4 refs c → AreRefs 4 c
-are_refs refs c at i lt = elim (cases_lt i (length refs)) [
-  | inl inside ↦ spelled-none (slice_index_or refs i empty_ref) (slot c i) (at.held i empty_ref inside).valid (at.bytes.each i empty_ref inside)
-  | inr past ↦ spelled-none empty_ref (slot c i) empty_valid (at.bytes.empty i past lt)
-]
+are_refs refs c at = set_decoded 4 refs c at.held at.bytes
 
 -- a fault of the set is one of the body
 pub refs_fault : (kind : InodeKind) (size : ℕ) (c : Places) (f : SetFault) → IsFaultOf 4 c f → IsRefsFault kind size c (in_body f)

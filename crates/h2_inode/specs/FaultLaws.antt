@@ -1,13 +1,8 @@
 -- Bytes that meet a refusal spell no inode.
-use Rattle.std.specs.Prelude.{◌≡◌, ◌⊎◌, ◌<◌, ◌≤◌, ℕ, ◌+◌, ◌-◌, ◌*◌, nat_le, if◌then◌else◌, Bool, true, false, List, length, slice_index, slice_index_or, Some, None, refl}
+use Rattle.std.specs.Prelude.{◌≡◌, ◌<◌, ◌≤◌, ℕ, ◌+◌, ◌-◌, nat_le, if◌then◌else◌, Bool, true, false, refl}
 use Rattle.std.proofs.Common.{ap, sym, ◌∙◌, arith, inl, inr, subst}
-use Rattle.std.proofs.lemmas.Bool.{cases_lt}
 use Rattle.std.proofs.lemmas.Option.{none-some}
-use Rattle.h2_num.specs.Places.{Places, places, number_at, from_place, ZeroIn}
-use Rattle.h2_ref.specs.declared.reference.Ref.{Ref}
-use Rattle.h2_ref.specs.Ref.{empty_ref, IsValid}
-use Rattle.h2_ref.specs.FaultLaws.{spelled-none}
-use Rattle.h2_set.specs.SetBytes.{slot, SetBytes, IsHeld, AreRefs}
+use Rattle.h2_num.specs.Places.{Places, from_place}
 use Rattle.h2_set.specs.SetBytesLaws.{set_decoded}
 use Rattle.h2_inode.specs.declared.kind.InodeKind.{InodeKind}
 use Rattle.h2_inode.specs.declared.kind.InodeKind.TheVariants.{Directory, File, Pfs}
@@ -18,8 +13,8 @@ use Rattle.h2_inode.specs.declared.fault.InodeFault.{InodeFault}
 use Rattle.h2_inode.specs.declared.fault.InodeFault.TheVariants.{Kind, Body as BadBody, Links, Number, Size, Next, Name, Padding, Reference, Shape}
 use Rattle.h2_inode.specs.Kind.{kind_byte}
 use Rattle.h2_inode.specs.Limits.{limits_of, numbers, InSpan}
-use Rattle.h2_inode.specs.Head.{body_of, zeros_from, HasName, MustBeZero, HasBody}
-use Rattle.h2_inode.specs.Inode.{BodyFits, BodyBytes, body_byte, IsRootSet, IsInode, InodeBytes, NoInode}
+use Rattle.h2_inode.specs.Head.{body_of, zeros_from, MustBeZero}
+use Rattle.h2_inode.specs.Inode.{BodyFits, BodyBytes, body_byte, IsInode, InodeBytes, NoInode}
 use Rattle.h2_inode.specs.Fault.{IsFaultOf, IsFaultFor, IsRefsFault}
 
 -- a kind is known by its number
@@ -40,11 +35,17 @@ body_number kind size (Refs s) h = h.0
 body_number kind size (Bytes bytes) h = h.0
 
 -- behind which place the bytes of a file end
-choice_zero : (t : Bool) (size : ℕ) → (if t then 1 else 0) ≡ 0 → (if t then 512 + size else 1024) ≡ 1024
+abbrev number_if : Bool → ℕ
+number_if t = if t then 1 else 0
+
+abbrev from_if : Bool → ℕ → ℕ
+from_if t size = if t then 512 + size else 1024
+
+choice_zero : (t : Bool) (size : ℕ) → number_if t ≡ 0 → from_if t size ≡ 1024
 choice_zero true size e = absurd (omega arith)
 choice_zero false size e = refl
 
-choice_one : (t : Bool) (size : ℕ) → (if t then 1 else 0) ≡ 1 → (if t then 512 + size else 1024) ≡ 512 + size
+choice_one : (t : Bool) (size : ℕ) → number_if t ≡ 1 → from_if t size ≡ 512 + size
 choice_one true size e = refl
 choice_one false size e = absurd (omega arith)
 

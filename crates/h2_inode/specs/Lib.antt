@@ -3,4 +3,5 @@ pub mod Limits
 pub mod Head
 pub mod Inode
 pub mod Fault
+pub mod FaultLaws
 pub mod Block

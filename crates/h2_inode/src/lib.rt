@@ -8,6 +8,7 @@ mod fault;
 mod head;
 mod inode;
 mod kind;
+mod laws;
 mod layout;
 mod limits;
 mod pfs_name;
@@ -17,6 +18,7 @@ pub use encoding::encode_inode;
 pub use fault::InodeFault;
 pub use inode::{Body, Inode};
 pub use kind::InodeKind;
+pub use laws::refusal_law;
 pub use layout::INODE_BYTES;
 pub use pfs_name::PfsName;
 

@@ -31,8 +31,8 @@ one_more : (P : ℕ → Ref → Type 0) (xs : List Ref) (r : Ref) → ((i : ℕ)
 one_more P xs r all last i d lt = elim (cases_lt i (length xs)) [
   | inl inside ↦ subst (P i) (sym (get_or-append xs (r ∷ []) d i inside)) (all i d inside)
   | inr past ↦
-    let here : i ≡ length xs = omega (arith, length-append {A = Ref} xs (r ∷ [])) in
-    subst (λ j. P j (slice_index_or (xs ++ r ∷ []) j d)) (sym here) (subst (P (length xs)) (sym (get_or-append_seam xs r [] d)) last)
+      let here : i ≡ length xs = omega (arith, length-append {A = Ref} xs (r ∷ [])) in
+      subst (λ j. P j (slice_index_or (xs ++ r ∷ []) j d)) (sym here) (subst (P (length xs)) (sym (get_or-append_seam xs r [] d)) last)
 ]
 
 -- it is put at the end
@@ -72,10 +72,11 @@ pub front_step : (cap i : ℕ) (r : Ref) (old new : RefSet) (answer : PutAnswer)
 front_step cap i r old new answer b capacity len lt front valid decoded more full placed =
     let not_full : answer ≡ Full → ⊥ = λ e. let all = full.0 e in omega arith in
     let is = placed (placed_if answer not_full) in
-    let refs_are : new.refs ≡ put r old.refs = ap (λ s. s.refs) is in
-    (ap (λ s. s.capacity) is ∙ capacity,
-     ap length refs_are ∙ length_more r old.refs more.1 ∙ ap (λ n. n + 1) len,
-     subst (λ l. FrontAt l b) (sym refs_are) (front_more r old.refs b front valid.0 (subst (λ j. RefBytes r (slot b j)) (sym len) valid.1) (subst (λ j. first_fault (slot b j) ≡ None) (sym len) decoded) more))
+    let refs_are : new.refs ≡ put r old.refs = ap (λ s. s.refs) is in (
+      ap (λ s. s.capacity) is ∙ capacity,
+      ap length refs_are ∙ length_more r old.refs more.1 ∙ ap (λ n. n + 1) len,
+      subst (λ l. FrontAt l b) (sym refs_are) (front_more r old.refs b front valid.0 (subst (λ j. RefBytes r (slot b j)) (sym len) valid.1) (subst (λ j. first_fault (slot b j) ≡ None) (sym len) decoded) more),
+    )
 
 -- a reference of kind Empty is the empty one, in its bytes
 pub nothing_there : (r : Ref) (b : Places) → IsValid r × RefBytes r b → r.kind ≡ Empty → RefBytes empty_ref b
@@ -98,12 +99,12 @@ begins n refs ss b f at le = ext_get_or empty_ref (take (length refs) ss) refs (
 no_set : (n : ℕ) (refs ss : List Ref) (b : Places) → IsFront n refs b → SomeFrom (length refs) n b → IsSetAt n ss b → ⊥
 no_set n refs ss b f (k, ge, lt, r, held, there) at = elim (cases_lt k (length ss)) [
   | inl inside ↦
-    let fits = at.bytes.fits in
-    let m = length refs in
-    let stop = f.stop (omega arith) in
-    let same : slice_index_or ss m empty_ref ≡ stop.0 = one_value stop.0 (slice_index_or ss m empty_ref) (slot b m) stop.1 (at.held m empty_ref (omega arith)).valid stop.2 (at.bytes.each m empty_ref (omega arith)) in
-    let rises = rising_take 0 (2 ^ 64) m ss empty_ref at.rising (omega arith) in
-    stop.3 (λ e. (at.held m empty_ref (omega arith)).something (ap (λ x. x.kind) same ∙ e), subst (λ x. Rising 0 x.key refs) same (subst (λ l. Rising 0 (slice_index_or ss m empty_ref).key l) (begins n refs ss b f.front at (omega arith)) rises))
+      let fits = at.bytes.fits in
+      let m = length refs in
+      let stop = f.stop (omega arith) in
+      let same : slice_index_or ss m empty_ref ≡ stop.0 = one_value stop.0 (slice_index_or ss m empty_ref) (slot b m) stop.1 (at.held m empty_ref (omega arith)).valid stop.2 (at.bytes.each m empty_ref (omega arith)) in
+      let rises = rising_take 0 (2 ^ 64) m ss empty_ref at.rising (omega arith) in
+      stop.3 (λ e. (at.held m empty_ref (omega arith)).something (ap (λ x. x.kind) same ∙ e), subst (λ x. Rising 0 x.key refs) same (subst (λ l. Rising 0 (slice_index_or ss m empty_ref).key l) (begins n refs ss b f.front at (omega arith)) rises))
   | inr past ↦ held.something (number_zero r.kind (sym there.fields.kind ∙ (at.bytes.empty k past lt).fields.kind))
 ]
 

@@ -1,13 +1,14 @@
 -- A set has one spelling, bytes spell one set at most, and which one is seen by them alone.
-use Rattle.std.specs.Prelude.{◌≡◌, ◌⊎◌, ◌<◌, ◌≤◌, ℕ, ◌+◌, ◌*◌, ◌/◌, ◌%◌, nat_lt, if◌then◌else◌, List, length, slice_index_or}
-use Rattle.std.proofs.Common.{ap, sym, ◌∙◌, arith, inl, inr, subst}
+use Rattle.std.specs.Prelude.{◌≡◌, ◌⊎◌, ◌<◌, ◌≤◌, ℕ, ◌+◌, ◌*◌, ◌/◌, ◌%◌, nat_lt, if◌then◌else◌, List, length, slice_index_or, All, refl}
+use Rattle.std.proofs.Common.{ap, sym, ◌∙◌, arith, inl, inr, subst, lit<}
 use Rattle.std.proofs.lemmas.Bool.{cases_lt, lt-ltb, le-ltb, cond-true, cond-false}
 use Rattle.std.proofs.lemmas.List.{ext_get_or}
 use Rattle.h2_num.specs.Places.{Places, AreBytes, SameBelow}
 use Rattle.h2_ref.specs.declared.reference.Ref.{Ref}
-use Rattle.h2_ref.specs.Ref.{empty_ref, RefBytes}
+use Rattle.h2_ref.specs.Ref.{empty_ref, RefBytes, IsValid}
+use Rattle.h2_ref.specs.FaultLaws.{spelled-none}
 use Rattle.h2_ref.specs.Spelling.{one_spelling, one_value}
-use Rattle.h2_set.specs.SetBytes.{slot, SetBytes, IsSetAt}
+use Rattle.h2_set.specs.SetBytes.{slot, SetBytes, IsSetAt, IsHeld, AreRefs}
 use Rattle.h2_set.specs.Valid.{number_zero}
 
 -- a place of a set is seen by the bytes of the set
@@ -70,3 +71,22 @@ set_spelling n refs a b fa fb p q k lt =
     spelled : (k / 128 < length refs) ⊎ (length refs ≤ k / 128) → SameBelow 128 (slot a (k / 128)) (slot b (k / 128))
     spelled (inl inside) = one_spelling (slice_index_or refs (k / 128) empty_ref) (slot a (k / 128)) (slot b (k / 128)) (bytes a fa) (bytes b fb) (p.each (k / 128) empty_ref inside) (q.each (k / 128) empty_ref inside)
     spelled (inr past) = one_spelling empty_ref (slot a (k / 128)) (slot b (k / 128)) (bytes a fa) (bytes b fb) (p.empty (k / 128) past (omega arith)) (q.empty (k / 128) past (omega arith))
+
+-- the empty reference is valid
+pub empty_valid : IsValid empty_ref
+empty_valid = record {
+  method = refl;
+  stored = lit< tt;
+  radix = refl;
+  place = refl;
+  key = record { keybits = refl; key = record { least = omega arith; last = omega arith }; multiple = refl };
+  id = record { least = omega arith; last = omega arith };
+  entry = tt;
+}
+
+-- the references of a set are decoded, and so are the empty ones behind them
+pub set_decoded : (n : ℕ) (refs : List Ref) (c : Places) → All IsHeld refs → SetBytes n refs c → AreRefs n c
+set_decoded n refs c held bytes i lt = elim (cases_lt i (length refs)) [
+  | inl inside ↦ spelled-none (slice_index_or refs i empty_ref) (slot c i) (held i empty_ref inside).valid (bytes.each i empty_ref inside)
+  | inr past ↦ spelled-none empty_ref (slot c i) empty_valid (bytes.empty i past lt)
+]
