@@ -6,6 +6,7 @@ ghost use Rattle.h2_set.specs.RefSet.{RefSet, IsRefSet, IsSplitOf, rest_of, with
 
 use crate::range::holds;
 use crate::split::{parts_of, place_for};
+
 use arrayvec::ArrayVec;
 use h2_ref::Ref;
 use std::marker::Model;
