@@ -1,5 +1,5 @@
 -- The freemap of a header: which references it has to it.
-use Rattle.std.specs.Prelude.{◌≡◌, ◌<◌, ◌≤◌, ℕ, zero, suc, ◌+◌, ◌*◌, ◌-◌, ◌%◌, ◌^◌, nat_le, if◌then◌else◌, List, length, slice_index_or, All}
+use Rattle.std.specs.Prelude.{◌≡◌, ◌⊎◌, ◌<◌, ◌≤◌, ℕ, zero, suc, ◌+◌, ◌*◌, ◌-◌, ◌%◌, ◌^◌, nat_le, if◌then◌else◌, List, length, slice_index_or, All}
 use Rattle.h2_geom.specs.Places.{zone_place, node_place}
 use Rattle.h2_ref.specs.declared.reference.Kind.{Kind}
 use Rattle.h2_ref.specs.declared.reference.Kind.TheVariants.{MapNode, MapLeaf}
@@ -22,6 +22,10 @@ zones_under level = 8 ^ level
 abbrev pub map_kind : ℕ → Kind
 map_kind zero = MapLeaf
 map_kind (suc level) = MapNode
+
+-- a kind of blocks of the freemap
+abbrev pub IsMapKind : Kind → Type 0
+IsMapKind kind = (kind ≡ MapNode) ⊎ (kind ≡ MapLeaf)
 
 -- it names the block of a level that begins with a zone, in the map that the checkpoint of this number wrote
 pub record IsMapRef (level number zone : ℕ) (r : Ref) : Type 0 where

@@ -1,10 +1,10 @@
 use h2_ref::Ref;
 
 /// How many slots for headers a volume has.
-pub const SLOTS: usize = 4;
+pub const SLOTS: usize = h2_geom::SLOTS as usize;
 
 /// The bytes of a slot.
-pub const HEADER_BYTES: usize = 65536;
+pub const HEADER_BYTES: usize = h2_geom::HEADER_BYTES as usize;
 
 /// What a volume header says.
 #[derive(Clone, Copy, Debug, PartialEq, Eq)]

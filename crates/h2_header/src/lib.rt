@@ -5,7 +5,8 @@
 //! super-root and of the freemap. What a header may hold is one relation (`specs/Header`), the geometry
 //! of its map another (`specs/Map`), and its bytes a third, with a clause for each field and each gap
 //! between (`specs/Header`). A header has one spelling, and a block spells one header at most
-//! (`specs/HeaderLaws`).
+//! (`specs/HeaderLaws`). A block that spells none meets a first refusal, which is defined by its bytes
+//! (`specs/Fault`).
 #![tactic(auto)]
 
 mod choosing;
@@ -13,6 +14,7 @@ mod fault;
 mod header;
 mod laws;
 mod layout;
+mod map_check;
 mod reading;
 mod reading_refs;
 mod rules;
@@ -22,6 +24,7 @@ pub use choosing::newest;
 pub use fault::HeadFault;
 pub use header::{HEADER_BYTES, Header, SLOTS};
 pub use laws::{header_law, refusal_law};
+pub use map_check::check_of;
 pub use reading::read_from;
 pub use writing::write_into;
 

@@ -171,3 +171,12 @@ fn the_greatest_number_is_the_newest(rt: HostRuntime) -> Result<(), Fail> {
     }
     Ok(())
 }
+
+#[test]
+fn a_map_block_has_its_crc(rt: HostRuntime) -> Result<(), Fail> {
+    // the published value of CRC-32C
+    for kind in [Kind::MapNode, Kind::MapLeaf] {
+        assert_eq!(rt; check_of(kind, b"123456789"), Check::Crc(0xe306_9283));
+    }
+    Ok(())
+}
