@@ -3,7 +3,7 @@ use Rattle.std.specs.Prelude.{◌≡◌, ◌≤◌, ℕ, ◌+◌, List, length, 
 use Rattle.std.proofs.Common.{ap, ◌∙◌, arith}
 use Rattle.h2_num.specs.Places.{Places, places, from_place, SameOutside, SameBelow, Puts, Lays}
 use Rattle.h2_num.specs.PlaceLaws.{number_stays, byte_stays, outside_both}
-use Rattle.h2_set.specs.SetBytesLaws.{SetBytes-same}
+use Rattle.h2_inode.specs.SetBytesLaws.{SetBytes-same}
 use Rattle.h2_inode.specs.declared.kind.InodeKind.{InodeKind}
 use Rattle.h2_inode.specs.declared.kind.InodeKind.TheVariants.{Directory, File, Pfs}
 use Rattle.h2_inode.specs.declared.inode.Body.{Body}

@@ -1,4 +1,10 @@
 //! Inodes, and their 1024 bytes.
+//!
+//! An inode is a directory, a file or a PFS. What each kind allows is a table (`specs/Limits`) and a rule for
+//! its references (`specs/Inode`), its bytes are a relation with a clause for each field and each gap, and bytes
+//! that spell none meet a first refusal, which the bytes tell (`specs/Head`, `specs/Fault`). When a block passes
+//! the reference that names it is one definition for all kinds of files and directories (`Passes` in
+//! `specs/Block`).
 #![tactic(auto)]
 
 mod contents;
@@ -12,6 +18,8 @@ mod laws;
 mod layout;
 mod limits;
 mod pfs_name;
+mod set_decoding;
+mod set_encoding;
 
 pub use decoding::decode_inode;
 pub use encoding::encode_inode;

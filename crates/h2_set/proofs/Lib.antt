@@ -1,5 +1,6 @@
 mod Holding
 mod Least
 mod Filtered
-pub mod Slots
-pub mod Fronts
+mod Front
+mod BytesOf
+mod Shape

@@ -12,6 +12,3 @@ pub mod PutLaws
 pub mod SplitLaws
 pub mod RenewLaws
 pub mod MadeLaws
-pub mod Valid
-pub mod Front
-pub mod SetBytesLaws

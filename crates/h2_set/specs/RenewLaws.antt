@@ -4,8 +4,8 @@ use Rattle.std.proofs.lemmas.Option.{none-some}
 use Rattle.h2_ref.specs.declared.reference.Ref.{Ref}
 use Rattle.h2_ref.specs.declared.reference.Kind.{Kind}
 use Rattle.h2_ref.specs.declared.reference.Kind.TheVariants.{Empty, Inode, Indirect, Content, Dirent, MapNode, MapLeaf}
-use Rattle.h2_set.specs.Ranges.{leads_on, is_indirect, IsApart, Apart}
-use Rattle.h2_set.specs.Forest.{Forest, refs, IsAlike, Alike, names_node, IsRenewed, AllRenewed, InPlace, Keeps, Renews, Same}
+use Rattle.h2_set.specs.Ranges.{leads_on, is_indirect, IsApart, Apart, Rising, limit}
+use Rattle.h2_set.specs.Forest.{Forest, refs, IsAlike, Alike, names_node, IsRenewed, AllRenewed, InPlace, IsSound, Keeps, LeavesOf, Renews, Same, loaded, told, HasLeaves, done, one, near, far}
 use Rattle.h2_set.specs.StayLaws.{InPlace-trans, InPlace-refl}
 use Rattle.h2_set.specs.ChangeLaws.{Same-Keeps}
 
@@ -91,3 +91,60 @@ apart_alike leaf rs qs a apart i q read =
       | inl lower ↦ inl (rw it.like.key at lower)
       | inr upper ↦ inr (rw (it.like.key, it.like.keybits) at upper)
     ]
+
+-- The leaves of a tree whose nodes were renewed
+
+AllRenewed-refl : (rs : List Ref) → AllRenewed rs rs
+AllRenewed-refl [] = tt
+AllRenewed-refl (r ∷ rs) = (record { kind = refl; key = refl; keybits = refl; radix = refl; dirent = refl; others = λ e. refl }, AllRenewed-refl rs)
+
+AllRenewed-append : (rs qs rs' qs' : List Ref) → AllRenewed rs qs → AllRenewed rs' qs' → AllRenewed (rs ++ rs') (qs ++ qs')
+AllRenewed-append [] [] rs' qs' a b = b
+AllRenewed-append [] (q ∷ qs) rs' qs' a b = absurd a
+AllRenewed-append (r ∷ rs) [] rs' qs' a b = absurd a
+AllRenewed-append (r ∷ rs) (q ∷ qs) rs' qs' a b = (a.0, AllRenewed-append rs qs rs' qs' a.1 b)
+
+-- ranges that were renewed are the same
+Rising-renewed : (rs qs : List Ref) → AllRenewed rs qs → (low high : ℕ) → Rising low high rs → Rising low high qs
+Rising-renewed [] [] a low high h = h
+Rising-renewed [] (q ∷ qs) a low high h = absurd a
+Rising-renewed (r ∷ rs) [] a low high h = absurd a
+Rising-renewed (r ∷ rs) (q ∷ qs) a low high h =
+    let rest = Rising-renewed rs qs a.1 (limit r) high h.1 in
+    rw (a.0.key, a.0.keybits) (h.0, rest)
+
+-- a list of leaves, up to where the blocks of inodes lie
+pub record RenewsLeaves (g : Forest) (at : ℕ) (qs l : List Ref) : Type 0 where
+  pub list : List Ref
+  pub leaves : HasLeaves g at qs list
+  pub renewed : AllRenewed l list
+
+module _ (f g : Forest) (P : ℕ → Type 0) (closed : (m k c : ℕ) → P m → f.link m k ≡ loaded c → P c) (renew : (m : ℕ) → P m → Renews f g m) where
+  pub leaves_renewed : {at : ℕ} {rs l : List Ref} → P at → HasLeaves f at rs l → (qs : List Ref) → AllRenewed rs qs → RenewsLeaves g at qs l
+  leaves_renewed p done [] a = record { list = []; leaves = done; renewed = tt }
+  leaves_renewed p done (q ∷ qs) a = absurd a
+  leaves_renewed p (one leaf rest) [] a = absurd a
+  leaves_renewed p (one {r = r} leaf rest) (q ∷ qs) a =
+      let it = leaves_renewed p rest qs a.1 in
+      record { list = q ∷ it.list; leaves = one (ap leads_on a.0.kind ∙ leaf) it.leaves; renewed = (a.0, it.renewed) }
+  leaves_renewed p (near ind link kids inside rest) [] a = absurd a
+  leaves_renewed {at} p (near {c = c} {r = r} {below = b} {l = l} ind link kids inside rest) (q ∷ qs) a =
+      let pc : P c = closed at r.key c p link in
+      let it = leaves_renewed p rest qs a.1 in
+      let kids' = leaves_renewed pc kids (refs g c) (renew c pc).renewed in
+      let link' : g.link at q.key ≡ loaded c = rw a.0.key ((renew at p).link r.key ∙ link) in
+      let inside' : Rising q.key (limit q) kids'.list = rw (a.0.key, a.0.keybits) (Rising-renewed b kids'.list kids'.renewed r.key (limit r) inside) in
+      record { list = kids'.list ++ it.list; leaves = near (ap leads_on a.0.kind ∙ ind) link' kids'.leaves inside' it.leaves; renewed = AllRenewed-append b kids'.list l it.list kids'.renewed it.renewed }
+  leaves_renewed p (far ind link inside rest) [] a = absurd a
+  leaves_renewed {at} p (far {r = r} {below = b} {l = l} ind link inside rest) (q ∷ qs) a =
+      let it = leaves_renewed p rest qs a.1 in
+      let link' : g.link at q.key ≡ told b = rw a.0.key ((renew at p).link r.key ∙ link) in
+      let inside' : Rising q.key (limit q) b = rw (a.0.key, a.0.keybits) inside in
+      record { list = b ++ it.list; leaves = far (ap leads_on a.0.kind ∙ ind) link' inside' it.leaves; renewed = AllRenewed-append b b l it.list (AllRenewed-refl b) it.renewed }
+
+-- where the nodes of every tree but one were renewed, so were the lists of their leaves
+pub trees_renewed : (f g : Forest) (top : ℕ) → IsSound f → ((m : ℕ) → f.stands m ≡ true → (f.root m ≡ top → ⊥) → Renews f g m) → (at : ℕ) → f.stands at ≡ true → (f.root at ≡ top → ⊥) → (l : List Ref) → LeavesOf f at l → RenewsLeaves g at (refs g at) l
+trees_renewed f g top sound renew at stands other l h =
+    let P : ℕ → Type 0 = λ m. (f.stands m ≡ true) × (f.root m ≡ top → ⊥) in
+    let closed : (m k c : ℕ) → P m → f.link m k ≡ loaded c → P c = λ m k c p link. let child = (sound.node m p.0).child k c link in (child.stands, λ e. p.1 (sym child.root ∙ e)) in
+    leaves_renewed f g P closed (λ m p. renew m p.0 p.1) (stands, other) h (refs g at) (renew at stands other).renewed

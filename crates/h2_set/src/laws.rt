@@ -1,13 +1,22 @@
-ghost use Rattle.std.specs.Prelude.{◌≡◌, ◌*◌, ℕ, List};
-ghost use Rattle.h2_num.specs.Places.{Places, AreBytes, SameBelow};
+ghost use Rattle.std.specs.Prelude.{◌≡◌, ◌+◌, ◌^◌, ◌<◌, ◌≤◌, ℕ, List, true, Some, length, slice_get, count_by};
 ghost use Rattle.h2_ref.specs.declared.reference.Ref.{Ref};
-ghost use Rattle.h2_set.specs.SetBytes.{SetBytes, IsSetAt};
+ghost use Rattle.h2_set.specs.Ranges.{lies, AllAligned, Rising, Sides};
+ghost use Rattle.h2_set.specs.RefSet.{HoldsAll, IsSplitOf};
 
-/// A law: a set has one spelling, bytes spell one set at most, and which one is seen by them alone.
-pub fn set_law()
-    ensures one_spelling { (n : ℕ) (refs : List Ref) (a b : Places) → AreBytes a → AreBytes b
-        → SetBytes n refs a → SetBytes n refs b → SameBelow (128 * n) a b }
-    ensures one_value { (n : ℕ) (rs ss : List Ref) (b : Places) → IsSetAt n rs b → IsSetAt n ss b → ss ≡ rs }
-    ensures local { (n : ℕ) (refs : List Ref) (a b : Places) → SameBelow (128 * n) a b
-        → SetBytes n refs a → SetBytes n refs b }
+/// A law of the split rule, over three or more references with aligned, disjoint ranges in order. Its range lies in
+/// each aligned range that holds all of them and has fewer keybits than that; each reference lies in it or apart from
+/// it; those that lie in it have fewer keybits than it; they are at least two, and not all.
+pub fn split_law()
+    ensures inside { (rs : List Ref) (low high key bits k b : ℕ) → Rising low high rs → AllAligned rs → 3 ≤ length rs
+        → IsSplitOf rs key bits → HoldsAll rs k b → (k ≤ key) × (key + 2 ^ bits ≤ k + 2 ^ b) }
+    ensures fewer { (rs : List Ref) (low high key bits k b : ℕ) → Rising low high rs → AllAligned rs → 3 ≤ length rs
+        → IsSplitOf rs key bits → HoldsAll rs k b → bits < b }
+    ensures sides { (rs : List Ref) (low high key bits : ℕ) → Rising low high rs → AllAligned rs → 3 ≤ length rs
+        → IsSplitOf rs key bits → (i : ℕ) (r : Ref) → slice_get rs i ≡ Some r → Sides key bits r }
+    ensures shorter { (rs : List Ref) (low high key bits : ℕ) → Rising low high rs → AllAligned rs → 3 ≤ length rs
+        → IsSplitOf rs key bits → (i : ℕ) (r : Ref) → slice_get rs i ≡ Some r → lies key bits r ≡ true → r.keybits < bits }
+    ensures two { (rs : List Ref) (low high key bits : ℕ) → Rising low high rs → AllAligned rs → 3 ≤ length rs
+        → IsSplitOf rs key bits → 2 ≤ count_by (lies key bits) rs }
+    ensures few { (rs : List Ref) (low high key bits : ℕ) → Rising low high rs → AllAligned rs → 3 ≤ length rs
+        → IsSplitOf rs key bits → count_by (lies key bits) rs < length rs }
 {}

@@ -4,24 +4,23 @@
 //! or 32 (`specs/RefSet`). A full set that shall take one more is split by the split rule: the least aligned
 //! range of keys that holds at least half of the references goes into a block of its own (`IsSplitOf`).
 //!
-//! The bytes of a set are those of its references in order, and then empty ones (`specs/SetBytes`).
-//!
 //! [`Sets`] is a forest of such sets, wherever its nodes come from: trees whose nodes are loaded, or told by a
 //! disk, or neither (`specs/Forest`). What a tree means is one sorted list of leaves (`HasLeaves`), and each
 //! call of the trait has one relation between the forest before and after it.
 #![tactic(auto)]
 
-mod decoding;
-mod encoding;
+mod bytes;
 mod laws;
 mod range;
 mod set;
 mod sets;
 mod split;
 
-pub use decoding::{SetFault, decode_set};
-pub use encoding::encode_set;
-pub use laws::set_law;
+pub use bytes::{SetFault, decode_set, encode_set};
+pub use laws::split_law;
 pub use range::{holds, is_indirect};
 pub use set::{PutAnswer, Set, Split};
 pub use sets::{NodeId, Sets};
+
+#[cfg(test)]
+mod tests;

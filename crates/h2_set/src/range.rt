@@ -9,12 +9,8 @@ pub fn is_indirect(r: &Ref) -> bool
 {
     match r.kind {
         Kind::Indirect => true,
-        Kind::Empty
-        | Kind::Inode
-        | Kind::Content
-        | Kind::Dirent
-        | Kind::MapNode
-        | Kind::MapLeaf => false,
+        Kind::Empty | Kind::Inode | Kind::Content | Kind::Dirent | Kind::MapNode | Kind::MapLeaf =>
+            false,
     }
 }
 

@@ -138,7 +138,11 @@ fn left_over(r: Ref, key: u64, bits: u8) -> Option<Ref>
     requires { bits < 64 }
     ensures { result ≡ rest_of key bits r }
 {
-    if lies_in(&r, key, bits) { None } else { Some(r) }
+    if lies_in(&r, key, bits) {
+        None
+    } else {
+        Some(r)
+    }
 }
 
 /// The references with one more in its order.

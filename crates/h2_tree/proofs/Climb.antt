@@ -1,10 +1,10 @@
 -- From a node back to the root.
-use Rattle.std.proofs.Common.{◌≡◌, ℕ, Bool, true, false, List, Option, Some, None, ◌+◌, ◌<◌, ◌≤◌, ◌⊎◌, inl, inr, sym, subst, arith, slice_get, ap, ◌∙◌}
+use Rattle.std.proofs.Common.{◌≡◌, ℕ, true, false, List, Option, Some, ◌<◌, inl, inr, sym, subst, arith, slice_get, ap, ◌∙◌}
 use Rattle.h2_ref.specs.declared.reference.Ref.{Ref}
 use Rattle.h2_set.specs.RefSet.{RefSet}
 use Rattle.h2_set.specs.Ranges.{Rising, holds, find, is_indirect}
 use Rattle.h2_set.specs.Forest.{Forest, refs, loaded, IsSound, Walks, Reaches, nowhere, here, below, LeavesOf}
-use Rattle.h2_set.specs.StayLaws.{Walks-refl, Walks-trans, Walks-leaves, Reaches-walks}
+use Rattle.h2_set.specs.StayLaws.{Walks-trans, Walks-leaves, Reaches-walks}
 use Rattle.h2_set.specs.LeafLaws.{reaches_find, holds_inside}
 use Rattle.h2_set.specs.ChangeLaws.{apart_places, same_or_not}
 

@@ -1,15 +1,13 @@
 -- Leaves that are collected one reference after another.
-use Rattle.std.proofs.Common.{◌≡◌, ℕ, ◌+◌, ◌<◌, ◌≤◌, Bool, true, false, arith, refl, cond, sym, ◌∙◌, ap, List, [], ◌∷◌, ◌++◌, length, take, Option, Some, None, subst, ◌⊎◌, inl, inr, slice_get, suc, zero, get_or, append_assoc}
+use Rattle.std.proofs.Common.{◌≡◌, ℕ, ◌+◌, Bool, true, false, refl, sym, ◌∙◌, ap, List, [], ◌∷◌, ◌++◌, take, Some, subst, inl, inr, slice_get, append_assoc}
 use Rattle.std.specs.Prelude.{filter}
 use Rattle.std.proofs.lemmas.List.{append-nil, take_more}
 use Rattle.std.proofs.lemmas.List.Elements.{filter-append}
 use Rattle.std.proofs.lemmas.Option.{slice_get_within, get_or_from_slice_get}
 use Rattle.h2_ref.specs.declared.reference.Ref.{Ref}
 use Rattle.h2_set.specs.Ranges.{is_indirect}
-use Rattle.h2_set.specs.RefSet.{RefSet}
-use Rattle.h2_set.specs.Forest.{Link, Forest, refs, loaded, told, untold, HasLeaves, done, one, near, far, LeavesOf, Below, IsSound, Walks}
+use Rattle.h2_set.specs.Forest.{Forest, refs, loaded, told, HasLeaves, done, one, near, far, LeavesOf, Below, IsSound, Walks}
 use Rattle.h2_set.specs.StayLaws.{Walks-leaves, stands_below}
-use Rattle.h2_tree.specs.Changes.{is_between}
 
 -- the leaves of the last reference, after those before it
 pub record Last (f : Forest) (at : ℕ) (xs : List Ref) (r : Ref) (l : List Ref) : Type 0 where

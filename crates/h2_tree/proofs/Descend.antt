@@ -1,12 +1,12 @@
 -- An insertion below a node is one into the node's tree.
-use Rattle.std.proofs.Common.{◌≡◌, ℕ, ◌+◌, ◌<◌, ◌≤◌, ◌^◌, Bool, true, false, arith, refl, cond, sym, ◌∙◌, ap, List, [], ◌∷◌, length, Option, Some, None, subst, ◌⊎◌, inl, inr, slice_get, suc, zero, Result, Ok, Err, IfOk}
+use Rattle.std.proofs.Common.{◌≡◌, ℕ, ◌+◌, ◌<◌, ◌≤◌, ◌^◌, true, arith, sym, ◌∙◌, ap, List, Option, Some, subst, ◌⊎◌, inl, inr, slice_get, Result, Ok, Err, IfOk}
 use Rattle.std.specs.Prelude.{OnOk, OnErr}
 use Rattle.h2_ref.specs.declared.faults.Trouble.{Trouble}
 use Rattle.std.proofs.lemmas.Nat.{pow_pos, pow_below}
 use Rattle.h2_ref.specs.declared.reference.Ref.{Ref}
-use Rattle.h2_set.specs.Ranges.{Rising, limit, holds, find, put, Apart, is_indirect}
+use Rattle.h2_set.specs.Ranges.{Rising, limit, holds, find, put, is_indirect}
 use Rattle.h2_set.specs.RefSet.{RefSet}
-use Rattle.h2_set.specs.Forest.{Forest, refs, loaded, HasLeaves, LeavesOf, KeepsLeaves, IsSoundNode, IsSound, Stays, Keeps, Walks, Loads, Fits}
+use Rattle.h2_set.specs.Forest.{Forest, refs, loaded, LeavesOf, KeepsLeaves, IsSoundNode, IsSound, Stays, Keeps, Walks, Loads, Fits}
 use Rattle.h2_set.specs.StayLaws.{leaves_stay, Walks-leaves, Walks-trans, Fixed-trans, InPlace-trans}
 use Rattle.h2_set.specs.RenewLaws.{Keeps-Renews, Renews-trans}
 use Rattle.h2_set.specs.LeafLaws.{leaves_rising, holds_inside, find_below}

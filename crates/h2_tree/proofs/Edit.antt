@@ -1,11 +1,11 @@
 -- The set of a node with a leaf more, or with a leaf replaced.
-use Rattle.std.proofs.Common.{◌≡◌, ℕ, ◌+◌, ◌<◌, ◌≤◌, ◌^◌, Bool, true, false, arith, refl, cond, sym, ◌∙◌, ap, List, [], ◌∷◌, length, Option, Some, None, subst, ◌⊎◌, inl, inr, slice_get, slice_set, suc, zero}
+use Rattle.std.proofs.Common.{◌≡◌, ℕ, ◌+◌, ◌<◌, ◌≤◌, ◌^◌, Bool, true, false, arith, refl, sym, ◌∙◌, ap, List, [], ◌∷◌, length, Some, subst, ◌⊎◌, inl, inr, slice_get, slice_set, suc, zero}
 use Rattle.std.proofs.lemmas.Option.{none-some, slice_get_within}
 use Rattle.std.proofs.lemmas.Bool.{cases_lt}
 use Rattle.h2_ref.specs.declared.reference.Ref.{Ref}
-use Rattle.h2_set.specs.Ranges.{leads_on, Rising, limit, holds, NoneHolds, put, Apart, IsApart, IsAligned, is_indirect}
-use Rattle.h2_set.specs.RefSet.{RefSet, IsRefSet}
-use Rattle.h2_set.specs.Forest.{Forest, refs, HasLeaves, LeavesOf, IsSoundNode, IsSound, Fits, Alters, Keeps}
+use Rattle.h2_set.specs.Ranges.{leads_on, limit, holds, NoneHolds, put, IsApart, is_indirect}
+use Rattle.h2_set.specs.RefSet.{RefSet}
+use Rattle.h2_set.specs.Forest.{Forest, refs, IsSoundNode, IsSound, Fits, Alters, Keeps}
 use Rattle.h2_set.specs.EditLaws.{Rising-put, Rising-set, length-put, length-slice_set, set_put, set_swap}
 use Rattle.h2_set.specs.ChangeLaws.{leaves_put, leaves_swap, apart_aligned, step_up}
 use Rattle.h2_set.specs.LeafLaws.{holds_inside}

@@ -1,12 +1,11 @@
 -- A reference that leads to one leaf alone.
-use Rattle.std.proofs.Common.{◌≡◌, ℕ, ◌+◌, ◌<◌, ◌≤◌, ◌^◌, Bool, true, false, arith, refl, sym, ◌∙◌, ap, List, [], ◌∷◌, length, Option, Some, None, subst, ◌⊎◌, inl, inr, slice_get, suc, zero, cond}
+use Rattle.std.proofs.Common.{◌≡◌, ℕ, ◌<◌, ◌≤◌, ◌^◌, true, false, arith, refl, sym, ◌∙◌, ap, List, [], ◌∷◌, length, Some, subst, inl, inr, slice_get}
 use Rattle.std.proofs.lemmas.Bool.Decides.{nat_tests}
 use Rattle.std.proofs.lemmas.Nat.{pow_pos}
-use Rattle.std.proofs.lemmas.Option.{none-some, slice_get_within}
+use Rattle.std.proofs.lemmas.Option.{slice_get_within}
 use Rattle.h2_ref.specs.declared.reference.Ref.{Ref}
-use Rattle.h2_set.specs.RefSet.{RefSet}
-use Rattle.h2_set.specs.Ranges.{leads_on, Rising, limit, holds, at_key, find, is_indirect}
-use Rattle.h2_set.specs.Forest.{Forest, refs, Link, loaded, told, LeavesOf, IsSound, Alters, Keeps, Below, Reaches, nowhere, here, below}
+use Rattle.h2_set.specs.Ranges.{leads_on, limit, holds, is_indirect}
+use Rattle.h2_set.specs.Forest.{Forest, refs, loaded, told, LeavesOf, IsSound, Alters, Reaches, here, below}
 use Rattle.h2_set.specs.LeafLaws.{holds_inside, place_above}
 use Rattle.h2_set.specs.SplitLaws.{below_high}
 use Rattle.h2_set.specs.RenewLaws.{like_at, Alike-length}

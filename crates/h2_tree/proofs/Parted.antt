@@ -1,11 +1,11 @@
 -- A leaf that goes into a set which is split for it.
-use Rattle.std.proofs.Common.{◌≡◌, ℕ, ◌+◌, ◌<◌, ◌≤◌, ◌^◌, Bool, true, false, arith, refl, cond, sym, ◌∙◌, ap, List, [], ◌∷◌, length, Option, Some, None, subst, ◌⊎◌, inl, inr, slice_get, suc, zero}
+use Rattle.std.proofs.Common.{◌≡◌, ℕ, ◌+◌, ◌≤◌, ◌^◌, true, arith, refl, sym, ◌∙◌, ap, length, subst}
 use Rattle.h2_ref.specs.declared.reference.Ref.{Ref}
 use Rattle.h2_set.specs.declared.set.Split.{Split}
 use Rattle.std.specs.Prelude.{filter, not}
-use Rattle.h2_set.specs.Ranges.{Rising, limit, put, lies, is_indirect, NoneHolds, IsApart, AllAligned, IsOneClass}
+use Rattle.h2_set.specs.Ranges.{Rising, limit, put, lies, NoneHolds, IsApart, AllAligned, IsOneClass}
 use Rattle.h2_set.specs.RefSet.{RefSet, IsSplitOf, with_rest}
-use Rattle.h2_set.specs.Forest.{Forest, refs, loaded, HasLeaves, LeavesOf, KeepsLeaves, IsSoundNode, IsSound, Stays, Keeps, Alters, MadeFrom, Makes}
+use Rattle.h2_set.specs.Forest.{Forest, refs, loaded, HasLeaves, LeavesOf, IsSoundNode, IsSound, Stays, Keeps, Alters, MadeFrom, Makes}
 use Rattle.h2_set.specs.StayLaws.{leaves_stay, Fixed-trans, InPlace-trans}
 use Rattle.h2_set.specs.EditLaws.{Rising-put}
 use Rattle.h2_set.specs.ChangeLaws.{Keeps-Stays, Keeps-trans, below_keeps, leaves_put}

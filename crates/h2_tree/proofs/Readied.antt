@@ -1,14 +1,14 @@
 -- An insertion after spare nodes were made ready.
-use Rattle.std.proofs.Common.{◌≡◌, ℕ, ◌+◌, ◌<◌, ◌≤◌, ◌^◌, Bool, true, false, arith, refl, sym, ◌∙◌, ap, List, length, Option, Some, None, subst, slice_get, ◌⊎◌, inl, inr}
+use Rattle.std.proofs.Common.{◌≡◌, ℕ, ◌<◌, ◌≤◌, ◌^◌, true, arith, sym, ◌∙◌, ap, length, subst, inl, inr}
 use Rattle.std.proofs.lemmas.Bool.{cases_lt}
 use Rattle.h2_ref.specs.declared.reference.Ref.{Ref}
-use Rattle.h2_set.specs.Ranges.{NoneHolds, limit}
+use Rattle.h2_set.specs.Ranges.{NoneHolds}
 use Rattle.h2_set.specs.RefSet.{RefSet, IsRefSet}
-use Rattle.h2_set.specs.Forest.{Forest, refs, IsSound, ReadiesOnly, Walks}
+use Rattle.h2_set.specs.Forest.{Forest, refs, IsSound, ReadiesOnly}
 use Rattle.h2_set.specs.StayLaws.{Fixed-trans, InPlace-trans, Readies-walks, Walks-leaves}
 use Rattle.h2_set.specs.ChangeLaws.{Same-Keeps, Keeps-trans}
 use Rattle.h2_set.specs.RenewLaws.{Keeps-Renews, Renews-trans}
-use Rattle.h2_tree.specs.Changes.{Takes, Inserts, Under}
+use Rattle.h2_tree.specs.Changes.{Takes, Inserts}
 
 module _ (f h : Forest) (at : ℕ) (leaf : Ref) (stands : f.stands at ≡ true) (ready : ReadiesOnly f h) where
   pub takes_after : Takes f at leaf → Takes h at leaf

@@ -1,18 +1,18 @@
 -- A reference that is taken out of the set of a node.
-use Rattle.std.proofs.Common.{◌≡◌, ℕ, ◌+◌, ◌<◌, ◌≤◌, ◌^◌, Bool, true, false, arith, refl, cond, sym, ◌∙◌, ap, List, [], ◌∷◌, length, Option, Some, None, subst, ◌⊎◌, inl, inr, slice_get, suc, zero}
+use Rattle.std.proofs.Common.{◌≡◌, ℕ, ◌+◌, ◌<◌, ◌≤◌, ◌^◌, true, arith, refl, sym, ◌∙◌, ap, List, length, Some, subst, ◌⊎◌, inl, inr, slice_get}
 use Rattle.std.specs.List.{remove}
 use Rattle.std.proofs.lemmas.Nat.{pow_pos}
-use Rattle.std.proofs.lemmas.Option.{none-some, slice_get_within}
+use Rattle.std.proofs.lemmas.Option.{slice_get_within}
 use Rattle.h2_ref.specs.declared.reference.Ref.{Ref}
-use Rattle.h2_set.specs.Ranges.{Rising, limit, holds, without, is_indirect}
-use Rattle.h2_set.specs.RefSet.{RefSet, IsRefSet}
-use Rattle.h2_set.specs.Forest.{Forest, refs, loaded, HasLeaves, LeavesOf, KeepsLeaves, IsSoundNode, IsSound, Alike, InPlace, Renews, Stays, Keeps, Same, Alters, Stores, Storable, Loses, GoesBelow, GoesWith, Fits}
+use Rattle.h2_set.specs.Ranges.{limit, holds, without, is_indirect}
+use Rattle.h2_set.specs.RefSet.{RefSet}
+use Rattle.h2_set.specs.Forest.{Forest, refs, loaded, HasLeaves, LeavesOf, KeepsLeaves, IsSoundNode, IsSound, InPlace, Stays, Keeps, Alters, Stores, Storable, Loses, GoesBelow, GoesWith}
 use Rattle.h2_set.specs.StayLaws.{Alike-refl, Fixed-trans, InPlace-trans, leaves_stay}
 use Rattle.h2_set.specs.LeafLaws.{holds_inside, place_above}
-use Rattle.h2_set.specs.EditLaws.{set_cut, Rising-remove, length-remove_set, remove_from, remove_keeps, remove_lacks}
+use Rattle.h2_set.specs.EditLaws.{set_cut, Rising-remove, length-remove_set, remove_from, remove_keeps}
 use Rattle.h2_set.specs.ChangeLaws.{Keeps-Stays, Keeps-trans, Same-Keeps, leaves_move, same_or_not}
 use Rattle.h2_set.specs.SplitLaws.{nested, below_high}
-use Rattle.h2_set.specs.RenewLaws.{Keeps-Renews, Renews-trans, Alike-length, Alike-sym, like_at}
+use Rattle.h2_set.specs.RenewLaws.{Keeps-Renews, Renews-trans, Alike-length}
 use Rattle.h2_set.specs.CutLaws.{leaves_cut, leaves_drop}
 use Rattle.h2_tree.specs.Changes.{Under, LeadsOnly, itself, down, IsFree, Removes}
 use Rattle.h2_tree.proofs.Climb.{same_holder}
@@ -85,11 +85,13 @@ module _ (f h : Forest) (at i : ℕ) (leaf : Ref) (sound : IsSound f) (stands : 
   -- a node stands where it stood
   stood : (m : ℕ) → h.stands m ≡ true → (f.stands m ≡ true) × InPlace f h m
   stood m st =
-      let was = alters.none_new m st in
-      (was, elim (same_or_not (f.root m) (f.root at)) as (λ _. InPlace f h m) [
-        | inl same ↦ (alters.tree m was same).place
-        | inr differs ↦ (alters.above m was differs).place
-      ])
+      let was = alters.none_new m st in (
+        was,
+        elim (same_or_not (f.root m) (f.root at)) as (λ _. InPlace f h m) [
+          | inl same ↦ (alters.tree m was same).place
+          | inr differs ↦ (alters.above m was differs).place
+        ],
+      )
 
   pub storable_without : (f.root at ≡ at) ⊎ (2 ≤ length (refs f at)) → Storable h at s
   storable_without more = record {

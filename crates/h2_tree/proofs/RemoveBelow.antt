@@ -1,19 +1,16 @@
 -- A removal below a node is one from the node's tree.
-use Rattle.std.proofs.Common.{◌≡◌, ℕ, ◌+◌, ◌<◌, ◌≤◌, ◌^◌, Bool, true, false, arith, refl, cond, sym, ◌∙◌, ap, List, [], ◌∷◌, ◌++◌, length, Option, Some, None, subst, ◌⊎◌, inl, inr, slice_get, suc, zero, Result, Ok, Err, IfOk}
-use Rattle.std.specs.Prelude.{OnOk, OnErr}
-use Rattle.h2_ref.specs.declared.faults.Trouble.{Trouble}
+use Rattle.std.proofs.Common.{◌≡◌, ℕ, ◌+◌, ◌<◌, ◌≤◌, ◌^◌, true, arith, sym, ◌∙◌, ap, List, ◌++◌, Some, subst, inl, inr, slice_get}
 use Rattle.std.proofs.lemmas.Nat.{pow_pos, pow_below}
 use Rattle.h2_ref.specs.declared.reference.Ref.{Ref}
-use Rattle.h2_set.specs.Ranges.{Rising, limit, holds, find, at_key, without, Apart, is_indirect}
+use Rattle.h2_set.specs.Ranges.{Rising, limit, holds, without, is_indirect}
 use Rattle.h2_set.specs.RefSet.{RefSet}
-use Rattle.h2_set.specs.Forest.{Forest, refs, loaded, HasLeaves, LeavesOf, KeepsLeaves, IsSoundNode, IsSound, Stays, Keeps, Walks, Loads, Fits}
-use Rattle.h2_set.specs.StayLaws.{leaves_stay, Walks-leaves, Walks-trans, Fixed-trans, InPlace-trans}
+use Rattle.h2_set.specs.Forest.{Forest, refs, loaded, LeavesOf, KeepsLeaves, IsSoundNode, IsSound, Stays, Keeps, Walks, Loads}
+use Rattle.h2_set.specs.StayLaws.{leaves_stay, Walks-leaves, Fixed-trans, InPlace-trans}
 use Rattle.h2_set.specs.RenewLaws.{Keeps-Renews, Renews-trans}
-use Rattle.h2_set.specs.LeafLaws.{leaves_rising, holds_inside, find_below}
+use Rattle.h2_set.specs.LeafLaws.{leaves_rising}
 use Rattle.h2_set.specs.ChangeLaws.{Keeps-Stays, Keeps-trans, leaves_replace, apart_places}
-use Rattle.h2_tree.specs.Changes.{Under, WalksUnder, LeadsOnly, itself, down, IsFree, Removes, TakesOut, PathUnloaded}
+use Rattle.h2_tree.specs.Changes.{Under, Removes}
 use Rattle.h2_set.specs.CutLaws.{without-append, without-append_left}
-use Rattle.h2_tree.proofs.Climb.{reaches_child}
 
 without_right : (key low mid : ℕ) (xs ys : List Ref) → Rising low mid xs → mid ≤ key → without key (xs ++ ys) ≡ xs ++ without key ys
 without_right key low mid xs ys h le = without-append key low mid xs ys h le

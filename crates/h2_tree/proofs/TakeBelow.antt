@@ -1,20 +1,18 @@
 -- What taking a leaf out below a node is to the node.
-use Rattle.std.proofs.Common.{◌≡◌, ℕ, ◌+◌, ◌<◌, ◌≤◌, ◌^◌, Bool, true, false, arith, refl, sym, ◌∙◌, ap, List, length, Option, Some, None, subst, ◌⊎◌, inl, inr, slice_get, cond, Result, Ok, Err}
-use Rattle.std.specs.Prelude.{IfOk, OnErr}
+use Rattle.std.proofs.Common.{◌≡◌, ℕ, ◌≤◌, ◌^◌, true, arith, sym, ◌∙◌, ap, List, Option, Some, None, subst, slice_get}
 use Rattle.h2_ref.specs.declared.reference.Ref.{Ref}
-use Rattle.h2_ref.specs.declared.faults.Trouble.{Trouble}
 use Rattle.h2_set.specs.RefSet.{RefSet}
-use Rattle.h2_set.specs.Ranges.{holds, find, at_key, is_indirect}
-use Rattle.h2_set.specs.Forest.{Forest, refs, loaded, LeavesOf, IsSoundNode, IsSound, Walks, Loads, Stays, Reaches}
+use Rattle.h2_set.specs.Ranges.{holds, at_key, is_indirect}
+use Rattle.h2_set.specs.Forest.{Forest, refs, loaded, LeavesOf, IsSoundNode, IsSound, Walks, Loads, Stays}
 use Rattle.h2_set.specs.StayLaws.{Walks-trans, Walks-leaves}
 use Rattle.h2_set.specs.LeafLaws.{leaves_rising, find_below}
 use Rattle.h2_set.specs.ChangeLaws.{Keeps-trans}
-use Rattle.h2_tree.specs.Changes.{Under, WalksUnder, LeadsOnly, down, IsFree, Removes, TakesOut, PathUnloaded}
+use Rattle.h2_tree.specs.Changes.{WalksUnder, LeadsOnly, down, IsFree, Removes, TakesOut, PathUnloaded}
 use Rattle.h2_tree.specs.declared.removing.Taken.{Taken}
 use Rattle.h2_tree.specs.declared.removing.Taken.TheVariants.{Nothing, Out, Sole}
 use Rattle.h2_tree.proofs.Climb.{reaches_child}
 use Rattle.h2_tree.proofs.Taking.{keyed, at_key_find, only_at_key, under_load, under_child, removes_after, free_after}
-use Rattle.h2_tree.proofs.RemoveBelow.{remove_below, child_stands}
+use Rattle.h2_tree.proofs.RemoveBelow.{remove_below}
 
 -- walks under a node, one after the other
 pub under_on : (f h g : Forest) (at : ℕ) → f.stands at ≡ true → WalksUnder f h at → WalksUnder h g at → WalksUnder f g at

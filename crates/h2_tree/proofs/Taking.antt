@@ -1,15 +1,14 @@
 -- What is answered when a leaf is taken out, from node to node.
-use Rattle.std.proofs.Common.{◌≡◌, ℕ, ◌+◌, ◌<◌, ◌≤◌, ◌^◌, Bool, true, false, nat_eq, arith, refl, sym, ◌∙◌, ap, List, [], ◌∷◌, ◌++◌, length, Option, Some, None, subst, ◌⊎◌, inl, inr, slice_get, cond}
+use Rattle.std.proofs.Common.{◌≡◌, ℕ, ◌<◌, ◌^◌, Bool, true, false, nat_eq, arith, refl, sym, ◌∙◌, ap, List, [], ◌∷◌, length, Option, Some, None, subst, cond}
 use Rattle.std.proofs.lemmas.Bool.Decides.{nat_tests}
 use Rattle.std.proofs.lemmas.Nat.{pow_pos}
-use Rattle.std.proofs.lemmas.Option.{slice_get_within, none-some}
+use Rattle.std.proofs.lemmas.Option.{slice_get_within}
 use Rattle.h2_ref.specs.declared.reference.Ref.{Ref}
-use Rattle.h2_set.specs.RefSet.{RefSet}
-use Rattle.h2_set.specs.Ranges.{Rising, limit, holds, find, at_key, without, is_indirect, NoneHolds}
-use Rattle.h2_set.specs.Forest.{Forest, refs, loaded, LeavesOf, IsSound, Walks, Loads, Keeps, Reaches, nowhere, here, below}
+use Rattle.h2_set.specs.Ranges.{Rising, limit, holds, find, at_key}
+use Rattle.h2_set.specs.Forest.{Forest, refs, loaded, LeavesOf, IsSound, Walks, Loads, Reaches, here, below}
 use Rattle.h2_set.specs.StayLaws.{Walks-refl, Walks-trans, Walks-leaves, Fixed-trans, InPlace-trans}
-use Rattle.h2_set.specs.LeafLaws.{leaves_rising, holds_inside, reaches_find, find_below, outside_holds}
-use Rattle.h2_set.specs.ChangeLaws.{Keeps-refl, Keeps-trans, same_or_not}
+use Rattle.h2_set.specs.LeafLaws.{leaves_rising, holds_inside, reaches_find}
+use Rattle.h2_set.specs.ChangeLaws.{Keeps-refl, Keeps-trans}
 use Rattle.h2_set.specs.RenewLaws.{Keeps-Renews, Renews-trans}
 use Rattle.h2_tree.specs.Changes.{Under, WalksUnder, LeadsOnly, itself, down, IsFree, Removes}
 use Rattle.h2_tree.proofs.Only.{only_holds, in_holds}

@@ -12,6 +12,6 @@ mod looking_up;
 mod removing;
 
 pub use inserting::insert;
+pub use listing::range;
 pub use looking_up::lookup;
 pub use removing::remove;
-pub use listing::range;

@@ -1,4 +1,3 @@
-use Rattle.std.proofs.Common.{ℕ}
 use Rattle.h2_tree.proofs.inserting.+insert.Given as goal
 
 abbrev pub decreases-insert : goal.decreases-insert

@@ -1,11 +1,7 @@
-use Rattle.std.proofs.Common.{rules, ◌≡◌, ◌<◌, ◌≤◌, true, false, ℕ, List, Some, slice_get, length, arith, ap, sym, ◌∙◌, refl, subst}
-use Rattle.h2_ref.specs.declared.reference.Ref.{Ref}
-use Rattle.h2_set.specs.RefSet.{RefSet}
-use Rattle.h2_set.specs.Ranges.{NoneHolds}
-use Rattle.h2_set.specs.Forest.{Forest, refs, IsSound}
+use Rattle.std.proofs.Common.{◌≡◌, true, false, sym, ◌∙◌}
 use Rattle.h2_set.specs.StayLaws.{Readies-walks}
 use Rattle.h2_tree.proofs.Readied.{takes_after, inserts_after, none_after, full_after, not_full}
-use Rattle.h2_tree.proofs.Answering.{always_err, beside_on}
+use Rattle.h2_tree.proofs.Answering.{always_err}
 use Rattle.h2_tree.proofs.inserting.add.Goals as goal
 
 pub part-requires-clause-takes : goal.part-requires-clause-takes
@@ -21,9 +17,9 @@ pub place-requires-clause-space : goal.place-requires-clause-space
 place-requires-clause-space g c =
     let f = g.N.Sets.forest c.args.n.now in
     not_full (f.set c.args.at.0) (c.requires.sound.node c.args.at.0 c.requires.stands).set (λ e.
-        let full : c.is_full.result ≡ true = c.is_full.ensures.full.1 (rw c.get.ensures e) in
-        let clash : true ≡ false = sym full ∙ c.if-is_full.false in
-        cc)
+    let full : c.is_full.result ≡ true = c.is_full.ensures.full.1 (rw c.get.ensures e) in
+    let clash : true ≡ false = sym full ∙ c.if-is_full.false in
+    cc)
 
 pub returns-in_err-ready-clause-walks : goal.returns-in_err-ready-clause-walks
 returns-in_err-ready-clause-walks g c = always_err c.from_residual.result (Readies-walks _ _ c.in_err-ready.ensures.same)

@@ -1,5 +1,4 @@
-use Rattle.std.proofs.Common.{rules, ◌≡◌, ◌<◌, ◌≤◌, true, ℕ, List, Some, slice_get, length, arith, ap, sym, ◌∙◌, refl, subst}
-use Rattle.h2_ref.specs.declared.reference.Ref.{Ref}
+use Rattle.std.proofs.Common.{ap}
 use Rattle.h2_set.specs.RefSet.{RefSet}
 use Rattle.h2_tree.proofs.Store.{alters_still, enough_room}
 use Rattle.h2_tree.proofs.Parted.{parted, leaf_small, copy_apart, copy_full, copy_aligned, copy_class, made_from, part_space}

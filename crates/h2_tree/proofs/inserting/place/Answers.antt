@@ -1,8 +1,4 @@
-use Rattle.std.proofs.Common.{rules, ◌≡◌, ◌<◌, ◌≤◌, true, ℕ, List, Some, slice_get, length, arith, ap, sym, ◌∙◌, refl, subst}
-use Rattle.h2_ref.specs.declared.reference.Ref.{Ref}
-use Rattle.h2_set.specs.RefSet.{RefSet}
-use Rattle.h2_set.specs.Forest.{Forest, refs, IsSound}
-use Rattle.h2_tree.specs.Changes.{Takes, Inserts}
+use Rattle.std.proofs.Common.{arith, refl}
 use Rattle.h2_tree.proofs.Store.{storable, inserts, alters_still, enough_room}
 use Rattle.h2_tree.proofs.Edit.{apart_altered, room_altered, put_copy}
 use Rattle.h2_tree.proofs.Parted.{leaf_small}

@@ -1,9 +1,5 @@
-use Rattle.std.proofs.Common.{rules, ◌≡◌, ◌<◌, ◌≤◌, true, ℕ, List, Some, slice_get, slice_set, length, arith, ap, sym, ◌∙◌, refl, subst}
-use Rattle.h2_ref.specs.declared.reference.Ref.{Ref}
-use Rattle.h2_set.specs.RefSet.{RefSet}
-use Rattle.h2_set.specs.Forest.{Forest, refs, IsSound}
+use Rattle.std.proofs.Common.{arith, refl}
 use Rattle.h2_set.specs.RenewLaws.{Alike-length}
-use Rattle.h2_tree.specs.Changes.{Takes, Inserts}
 use Rattle.h2_tree.proofs.Store.{storable, inserts, alters_still, enough_room}
 use Rattle.h2_tree.proofs.Edit.{same_altered, old_copy, swap_copy}
 use Rattle.h2_tree.proofs.Answering.{beside_on}

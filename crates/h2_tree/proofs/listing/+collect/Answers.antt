@@ -1,14 +1,14 @@
-use Rattle.std.proofs.Common.{rules, ◌≡◌, ℕ, ◌+◌, ◌∙◌, sym, arith, ap, refl, true, false, List, ◌++◌, Some, subst, slice_get}
+use Rattle.std.proofs.Common.{◌≡◌, ◌∙◌, sym, arith, ap, refl, true, false, List, ◌++◌, Some, subst, slice_get}
 use Rattle.std.specs.Prelude.{filter}
 use Rattle.std.proofs.lemmas.List.{append-nil}
 use Rattle.h2_ref.specs.declared.reference.Ref.{Ref}
 use Rattle.h2_set.specs.Ranges.{is_indirect}
 use Rattle.h2_set.specs.RefSet.{RefSet}
-use Rattle.h2_set.specs.Forest.{Forest, refs, Walks}
+use Rattle.h2_set.specs.Forest.{refs}
 use Rattle.h2_set.specs.StayLaws.{Walks-refl, Walks-trans}
 use Rattle.h2_tree.specs.Changes.{is_between}
 use Rattle.h2_tree.proofs.Climb.{next_node}
-use Rattle.h2_tree.proofs.Answering.{always_err, beside_same, beside_on}
+use Rattle.h2_tree.proofs.Answering.{beside_same, beside_on}
 use Rattle.h2_tree.proofs.Collect.{no_leaves, collected_more, leaf_step, child_step}
 use Rattle.h2_tree.proofs.listing.+collect.Goals as goal
 use Rattle.h2_tree.proofs.listing.+collect.Goals.{then-is_indirect+in_ok-child+in_ok-collect, else-is_indirect+in_ok-take_leaf}

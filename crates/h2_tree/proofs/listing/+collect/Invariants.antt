@@ -1,7 +1,7 @@
-use Rattle.std.proofs.Common.{◌≡◌, ℕ, List, ◌++◌, take, length}
+use Rattle.std.proofs.Common.{◌≡◌, List, ◌++◌, take}
 use Rattle.std.specs.Prelude.{filter}
 use Rattle.h2_ref.specs.declared.reference.Ref.{Ref}
-use Rattle.h2_set.specs.Forest.{Forest, refs, HasLeaves, Walks, KeepsBeside}
+use Rattle.h2_set.specs.Forest.{refs, HasLeaves, Walks, KeepsBeside}
 use Rattle.h2_tree.specs.Changes.{is_between}
 use Rattle.h2_tree.proofs.listing.+collect.Given as goal
 

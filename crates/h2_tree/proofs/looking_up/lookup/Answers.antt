@@ -1,8 +1,6 @@
-use Rattle.std.proofs.Common.{rules, ◌≡◌, ℕ, ◌∙◌, sym, arith, ap, true, false, Option, Some, None, subst, slice_get}
-use Rattle.h2_ref.specs.declared.reference.Ref.{Ref}
+use Rattle.std.proofs.Common.{◌≡◌, ◌∙◌, sym, true, false, Some, slice_get}
 use Rattle.h2_set.specs.Ranges.{is_indirect}
-use Rattle.h2_set.specs.RefSet.{RefSet}
-use Rattle.h2_set.specs.Forest.{refs, IsSound, Walks, Reaches, nowhere, here}
+use Rattle.h2_set.specs.Forest.{refs, nowhere, here}
 use Rattle.h2_set.specs.StayLaws.{Walks-refl, Walks-trans}
 use Rattle.h2_tree.proofs.Climb.{leads_start, leads_on, next_node, found_in, led_start, led_on, not_led}
 use Rattle.h2_tree.proofs.Answering.{always_err, beside_same, beside_on}

@@ -1,5 +1,5 @@
-use Rattle.std.proofs.Common.{◌≡◌, ℕ, true, Option}
-use Rattle.h2_set.specs.Forest.{Forest, IsSound, Walks, Reaches, KeepsBeside}
+use Rattle.std.proofs.Common.{◌≡◌, true}
+use Rattle.h2_set.specs.Forest.{Walks, KeepsBeside}
 use Rattle.h2_tree.proofs.Climb.{LeadsTo, LedBack}
 use Rattle.h2_tree.proofs.looking_up.lookup.Given as goal
 

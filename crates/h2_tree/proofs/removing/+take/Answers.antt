@@ -1,14 +1,11 @@
-use Rattle.std.proofs.Common.{rules, ◌≡◌, ◌<◌, ◌≤◌, ◌⊎◌, inl, inr, true, false, ℕ, List, Option, Some, None, slice_get, length, arith, ap, sym, ◌∙◌, refl, subst}
-use Rattle.h2_ref.specs.declared.reference.Ref.{Ref}
-use Rattle.h2_set.specs.RefSet.{RefSet}
-use Rattle.h2_set.specs.Ranges.{find, holds, NoneHolds, is_indirect}
-use Rattle.h2_set.specs.Forest.{Forest, refs, IsSound, LeavesOf}
+use Rattle.std.proofs.Common.{◌≡◌, true, false, Some, slice_get, arith, sym, ◌∙◌, subst}
+use Rattle.h2_set.specs.Ranges.{is_indirect}
+use Rattle.h2_set.specs.Forest.{refs}
 use Rattle.h2_set.specs.StayLaws.{Walks-trans}
 use Rattle.h2_set.specs.LeafLaws.{find_none, find_here, leaves_rising}
 use Rattle.h2_tree.proofs.Answering.{always_err, beside_on}
 use Rattle.h2_tree.proofs.Climb.{reaches_loaded}
-use Rattle.h2_tree.specs.Changes.{TakesOut, LeadsOnly, itself, down}
-use Rattle.h2_tree.specs.declared.removing.Taken.{Taken}
+use Rattle.h2_tree.specs.Changes.{TakesOut, itself}
 use Rattle.h2_tree.specs.declared.removing.Taken.TheVariants.{Nothing, Out, Sole}
 use Rattle.h2_tree.proofs.Taking.{under_refl, at_key_none, at_key_other}
 use Rattle.h2_tree.proofs.RemoveBelow.{child_stands, child_fewer}
@@ -16,19 +13,24 @@ use Rattle.h2_tree.proofs.TakeBelow.{nothing_below, out_below, under_sole, only_
 use Rattle.h2_tree.proofs.removing.+take.Goals as goal
 
 pub returns-in_default-clause-taken : goal.returns-in_default-clause-taken
-returns-in_default-clause-taken g t c = (under_refl _ _ c.requires.stands c.requires.sound, λ l hl.
-    let node = c.requires.sound.node c.args.at.0 c.requires.stands in
-    at_key_none c.args.key _ _ l (leaves_rising hl _ _ node.inside) (find_none c.args.key hl (rw c.get-set.ensures at c.in_default.ensures.absent)))
+returns-in_default-clause-taken g t c = (
+  under_refl _ _ c.requires.stands c.requires.sound,
+  λ l hl.
+      let node = c.requires.sound.node c.args.at.0 c.requires.stands in
+      at_key_none c.args.key _ _ l (leaves_rising hl _ _ node.inside) (find_none c.args.key hl (rw c.get-set.ensures at c.in_default.ensures.absent)),
+)
 
 pub returns-then-found-key-clause-taken : goal.returns-then-found-key-clause-taken
 returns-then-found-key-clause-taken g t c =
     let f = g.N.Sets.forest c.args.n.now in
     let read : slice_get (refs f c.args.at.0) c.in-Some.i ≡ Some c.at.result.now = rw c.get-set.ensures at c.at.ensures in
     let in_r = c.in-Some.ensures.found.holds _ c.at.ensures in
-    let leaf : is_indirect c.at.result.now ≡ false = sym c.is_indirect.ensures ∙ c.if-not-is_indirect.true in
-    (under_refl _ _ c.requires.stands c.requires.sound, λ l hl.
-        let node = c.requires.sound.node c.args.at.0 c.requires.stands in
-        at_key_other c.args.key _ _ l c.at.result.now (leaves_rising hl _ _ node.inside) (find_here c.args.key _ _ c.in-Some.i c.at.result.now hl node.inside read in_r leaf) (omega (arith, c.if-found-key.true)))
+    let leaf : is_indirect c.at.result.now ≡ false = sym c.is_indirect.ensures ∙ c.if-not-is_indirect.true in (
+      under_refl _ _ c.requires.stands c.requires.sound,
+      λ l hl.
+          let node = c.requires.sound.node c.args.at.0 c.requires.stands in
+          at_key_other c.args.key _ _ l c.at.result.now (leaves_rising hl _ _ node.inside) (find_here c.args.key _ _ c.in-Some.i c.at.result.now hl node.inside read in_r leaf) (omega (arith, c.if-found-key.true)),
+    )
 
 pub cut_unless_sole-requires-clause-only : goal.cut_unless_sole-requires-clause-only
 cut_unless_sole-requires-clause-only g t c =
@@ -173,4 +175,3 @@ returns-in-Sole-clause-beside g t c =
     let first = beside_on _ _ _ _ _ _ (λ m st. (c.in_ok-child.ensures.walks.stays m st).place.stands) c.in_ok-child.ensures.beside c.in_ok-leaf.ensures.beside in
     let whole = (under_sole _ _ _ _ _ c.args.key c.at.result.now c.requires.sound c.requires.stands read ind in_r child.walks (child.loads _ read) (child.ok _ read) _ c.in-Sole.leaf taken).walks in
     beside_on _ _ _ _ _ _ (λ m st. (whole.stays m st).place.stands) first c.cut_unless_sole-in-Sole.ensures.beside
-

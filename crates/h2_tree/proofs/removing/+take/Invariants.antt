@@ -1,4 +1,3 @@
-use Rattle.std.proofs.Common.{ℕ}
 use Rattle.h2_tree.proofs.removing.+take.Given as goal
 
 abbrev pub decreases-take : goal.decreases-take

@@ -1,8 +1,5 @@
-use Rattle.std.proofs.Common.{rules, ◌≡◌, ◌<◌, ◌≤◌, arith, ap, sym, ◌∙◌, refl, subst, length, slice_get, Some}
-use Rattle.std.specs.List.{remove}
-use Rattle.h2_ref.specs.declared.reference.Ref.{Ref}
-use Rattle.h2_set.specs.RefSet.{RefSet}
-use Rattle.h2_tree.proofs.Removal.{set_without, cut_within, storable_copy, removes_copy}
+use Rattle.std.proofs.Common.{arith}
+use Rattle.h2_tree.proofs.Removal.{cut_within, storable_copy, removes_copy}
 use Rattle.h2_tree.proofs.Store.{alters_still}
 use Rattle.h2_tree.proofs.Answering.{beside_on}
 use Rattle.h2_tree.proofs.removing.cut_at.Goals as goal

@@ -1,4 +1,4 @@
-use Rattle.std.proofs.Common.{rules, ◌≡◌, ap, sym, ◌∙◌, refl, length}
+use Rattle.std.proofs.Common.{◌≡◌, ap, sym, ◌∙◌, refl, length}
 use Rattle.h2_set.specs.RefSet.{RefSet}
 use Rattle.h2_set.specs.Forest.{refs}
 use Rattle.h2_tree.proofs.Taking.{under_refl, only_first, only_at_key}

@@ -1,9 +1,6 @@
-use Rattle.std.proofs.Common.{rules, ◌≡◌, ◌<◌, ◌≤◌, ◌⊎◌, inl, inr, arith, ap, sym, ◌∙◌, refl, subst, List, Option, Some}
-use Rattle.h2_ref.specs.declared.reference.Ref.{Ref}
-use Rattle.h2_set.specs.Forest.{Forest, refs, LeavesOf}
-use Rattle.h2_tree.specs.Changes.{TakesOut, LeadsOnly, Removes, IsFree}
-use Rattle.h2_tree.specs.declared.removing.Taken.{Taken}
-use Rattle.h2_tree.specs.declared.removing.Taken.TheVariants.{Nothing, Out, Sole}
+use Rattle.std.proofs.Common.{inl, arith, ◌∙◌, subst}
+use Rattle.h2_tree.specs.Changes.{TakesOut}
+use Rattle.h2_tree.specs.declared.removing.Taken.TheVariants.{Sole}
 use Rattle.h2_tree.proofs.Answering.{beside_on}
 use Rattle.h2_tree.proofs.TakeBelow.{root_free, root_room, root_answer, root_removes}
 use Rattle.h2_tree.proofs.removing.remove.Goals as goal
