@@ -101,6 +101,7 @@ impl Ref {
     }
 }
 
+/// What fills the free places of a vector of fixed capacity: the empty reference.
 impl Default for Ref {
     /// The empty reference.
     fn default() -> Ref {

@@ -1,0 +1,11 @@
+pub mod Kind
+pub mod Limits
+pub mod Head
+pub mod SetBytes
+pub mod Valid
+pub mod Front
+pub mod SetBytesLaws
+pub mod Inode
+pub mod Fault
+pub mod FaultLaws
+pub mod Block

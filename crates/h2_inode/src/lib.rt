@@ -1,0 +1,34 @@
+//! Inodes, and their 1024 bytes.
+//!
+//! An inode is a directory, a file or a PFS. What each kind allows is a table (`specs/Limits`) and a rule for
+//! its references (`specs/Inode`), its bytes are a relation with a clause for each field and each gap, and bytes
+//! that spell none meet a first refusal, which the bytes tell (`specs/Head`, `specs/Fault`). When a block passes
+//! the reference that names it is one definition for all kinds of files and directories (`Passes` in
+//! `specs/Block`).
+#![tactic(auto)]
+
+mod contents;
+mod decoding;
+mod encoding;
+mod fault;
+mod head;
+mod inode;
+mod kind;
+mod laws;
+mod layout;
+mod limits;
+mod pfs_name;
+mod set_decoding;
+mod set_encoding;
+
+pub use decoding::decode_inode;
+pub use encoding::encode_inode;
+pub use fault::InodeFault;
+pub use inode::{Body, Inode};
+pub use kind::InodeKind;
+pub use laws::refusal_law;
+pub use layout::INODE_BYTES;
+pub use pfs_name::PfsName;
+
+#[cfg(test)]
+mod tests;
