@@ -1,0 +1,12 @@
+//! The script language of the volume, and the text that tells its replies.
+//!
+//! A script is lines; a line is skipped, ends a phase, or is a command of one of 8 clients. Which bytes are
+//! a script, and which script they are, is a relation by cases (`specs/Scripts`), and so is what is wrong
+//! first with bytes that are none.
+#![tactic(auto)]
+
+mod fault;
+mod names;
+mod number;
+
+pub use fault::{LineFault, ParseFault};
