@@ -1,3 +1,7 @@
+mod Cuts
 mod Elements
-mod Numerals
 mod Joined
+mod Numerals
+mod Paths
+mod Payloads
+mod Refusals

@@ -1,3 +1,6 @@
 pub mod Numbers
 pub mod Names
+pub mod Cuts
+pub mod Paths
+pub mod Payloads
 pub mod Refusals

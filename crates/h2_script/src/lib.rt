@@ -5,8 +5,11 @@
 //! first with bytes that are none.
 #![tactic(auto)]
 
+mod cut;
 mod fault;
 mod names;
 mod number;
+mod path;
+mod payload;
 
 pub use fault::{LineFault, ParseFault};

@@ -1,5 +1,5 @@
-ghost use Rattle.std.specs.Prelude.{◌↔◌, ℕ, IsTrue, All, MatchOption};
-ghost use Rattle.h2_script.specs.Numbers.{IsDigit, IsNumeral, IsNoNumber, IsNumberAs};
+ghost use Rattle.std.specs.Prelude.{◌↔◌, ◌≤◌, ◌<◌, ◌^◌, ℕ, IsTrue, All, MatchOption};
+ghost use Rattle.h2_script.specs.Numbers.{IsDigit, IsNumeral, IsNumber, IsNoNumber, IsNumberAs, IsNoByte, IsAmount};
 
 /// A number of a script.
 #[derive(Clone, Copy, Debug, PartialEq, Eq)]
@@ -8,6 +8,18 @@ pub enum Number {
     Small(u64),
     /// A greater number.
     Large,
+}
+
+/// The most bytes that one command reads or writes.
+pub const DATA_BYTES: usize = 1_048_576;
+
+/// A number of bytes to read or to write.
+#[derive(Clone, Copy, Debug, PartialEq, Eq)]
+pub enum Amount {
+    /// At most 1,048,576 bytes.
+    Few(u32),
+    /// More bytes.
+    Many,
 }
 
 fn are_digits(word: &[u8]) -> bool
@@ -42,4 +54,33 @@ pub fn parse_number(word: &str) -> Option<Number>
         Ok(number) => Some(Number::Small(number)),
         Err(_) => Some(Number::Large),
     }
+}
+
+/// The number of at most 255 that the word is; None exactly where it is none.
+pub fn read_byte(word: &str) -> Option<u8>
+    ensures { MatchOption result (IsNoByte word.now) (IsNumber word.now) }
+{
+    let Some(Number::Small(byte)) = parse_number(word) else {
+        return None;
+    };
+    if byte > 255 {
+        return None;
+    }
+    Some(byte as u8)
+}
+
+/// The number of bytes that the word is; None exactly where it is no number.
+pub fn read_amount(word: &str) -> Option<Amount>
+    ensures { MatchOption result (IsNoNumber word.now) (IsAmount word.now) }
+{
+    let Some(number) = parse_number(word) else {
+        return None;
+    };
+    let Number::Small(count) = number else {
+        return Some(Amount::Many);
+    };
+    if count > DATA_BYTES as u64 {
+        return Some(Amount::Many);
+    }
+    Some(Amount::Few(count as u32))
 }
