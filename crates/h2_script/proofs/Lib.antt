@@ -1,3 +1,4 @@
+mod WordFaults
 mod Cuts
 mod Elements
 mod Joined

@@ -4,3 +4,6 @@ pub mod Cuts
 pub mod Paths
 pub mod Payloads
 pub mod Refusals
+pub mod Verbs
+pub mod Arguments
+pub mod Commands

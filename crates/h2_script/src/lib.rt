@@ -5,11 +5,14 @@
 //! first with bytes that are none.
 #![tactic(auto)]
 
+mod arguments;
+mod commands;
 mod cut;
 mod fault;
 mod names;
 mod number;
 mod path;
 mod payload;
+mod verb;
 
 pub use fault::{LineFault, ParseFault};
