@@ -7,3 +7,4 @@ pub mod Refusals
 pub mod Verbs
 pub mod Arguments
 pub mod Commands
+pub mod Lines

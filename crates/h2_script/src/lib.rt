@@ -8,6 +8,7 @@
 mod arguments;
 mod commands;
 mod cut;
+mod line;
 mod fault;
 mod names;
 mod number;
