@@ -43,8 +43,9 @@ none_before word k d lt =
 
 found : (word before after : List ℕ) → position_or_len (λ b. eqb b 58) word < length word → before ≡ before_first (λ b. eqb b 58) word → after ≡ after_first (λ b. eqb b 58) word → IsCut word before after
 found word before after lt is_before is_after = record {
-    word_is = split_at_first (λ b. eqb b 58) word 0 lt ∙ ap (λ b. before_first (λ b. eqb b 58) word ++ b ∷ after_first (λ b. eqb b 58) word) (same _ (passes_at_first (λ b. eqb b 58) word 0 lt)) ∙ cc;
-    first = subst HasNoColon (sym is_before) (none_before word) }
+  word_is = split_at_first (λ b. eqb b 58) word 0 lt ∙ ap (λ b. before_first (λ b. eqb b 58) word ++ b ∷ after_first (λ b. eqb b 58) word) (same _ (passes_at_first (λ b. eqb b 58) word 0 lt)) ∙ cc;
+  first = subst HasNoColon (sym is_before) (none_before word);
+}
 
 -- what the standard split answers
 pub cut_or_none : (word : List ℕ) (r : Option (Bor (List ℕ) × Bor (List ℕ))) → IsSplitOnceResult 58 word r → MatchOption r (HasNoColon word) (λ parts. IsCut word parts.0.now parts.1.now)

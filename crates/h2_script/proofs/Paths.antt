@@ -65,7 +65,6 @@ nameless word p spells none q entry =
     let short : length (join_with_byte 47 q.names) ≡ 0 = ap length (sym parts.1.2.joined ∙ sym (tails spells.written.0 parts.1.0 parts.1.1) ∙ empty) in
     omega arith
 
-
 no_element : {X : Type 0} (xs : List X) → length xs ≡ 0 → xs ≡ []
 no_element [] e = refl
 no_element (x ∷ xs) e = absurd (omega arith)

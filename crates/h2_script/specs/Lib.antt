@@ -8,3 +8,6 @@ pub mod Verbs
 pub mod Arguments
 pub mod Commands
 pub mod Lines
+pub mod Scripts
+pub mod Counts
+pub mod Reading

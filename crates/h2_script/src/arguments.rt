@@ -66,7 +66,7 @@ pub fn one_entry(alloc: Global, words: &[&str]) -> Result<Path, Refusal>
 pub fn two_entries(alloc: Global, words: &[&str]) -> Result<(Path, Path), Refusal>
     ensures { MatchResult result (λ paths. TwoEntries (map (λ word. word.now) words.now) paths.0 paths.1)
         (RefusedBy (λ why. IsFaultOfWords (EntryPath ∷ EntryPath ∷ []) (map (λ word. word.now) words.now) why
-            ⊎ NameTwoPfss (map (λ word. word.now) words.now) why)) }
+        ⊎ NameTwoPfss (map (λ word. word.now) words.now) why)) }
 {
     let [path, other] = words else {
         return Err(Refusal::Fault(LineFault::Word));
@@ -149,7 +149,7 @@ pub fn handle_and_size(words: &[&str]) -> Result<(u32, u64), Refusal>
 pub fn handle_and_range(words: &[&str]) -> Result<(u32, u64, u32), Refusal>
     ensures { MatchResult result (λ parts. HandleAndRange (map (λ word. word.now) words.now) parts.0 parts.1 parts.2)
         (RefusedBy (λ why. IsFaultOfWords (Handle ∷ Place ∷ Length ∷ []) (map (λ word. word.now) words.now) why
-            ⊎ AsksTooMuch (map (λ word. word.now) words.now) why)) }
+        ⊎ AsksTooMuch (map (λ word. word.now) words.now) why)) }
 {
     let [handle, off, len] = words else {
         return Err(Refusal::Fault(LineFault::Word));
@@ -171,7 +171,7 @@ pub fn handle_and_range(words: &[&str]) -> Result<(u32, u64, u32), Refusal>
 pub fn handle_and_data(alloc: Global, words: &[&str]) -> Result<(u32, u64, Payload), Refusal>
     ensures { MatchResult result (λ parts. HandleAndData (map (λ word. word.now) words.now) parts.0 parts.1 parts.2)
         (RefusedBy (λ why. IsFaultOfWords (Handle ∷ Place ∷ Datum ∷ []) (map (λ word. word.now) words.now) why
-            ⊎ WritesTooMuch (map (λ word. word.now) words.now) why)) }
+        ⊎ WritesTooMuch (map (λ word. word.now) words.now) why)) }
 {
     let [handle, off, payload] = words else {
         return Err(Refusal::Fault(LineFault::Word));

@@ -3,8 +3,8 @@ ghost use Rattle.h2_script.specs.Commands.{IsCommand, SpellsCommand, IsFaultOfAr
 ghost use Rattle.h2_script.specs.Refusals.{RefusedBy};
 
 use crate::arguments::{
-    handle_and_data, handle_and_range, handle_and_size, no_argument, one_entry, one_handle, one_name,
-    one_path, two_entries, two_names,
+    handle_and_data, handle_and_range, handle_and_size, no_argument, one_entry, one_handle,
+    one_name, one_path, two_entries, two_names,
 };
 use crate::fault::{LineFault, Refusal};
 use crate::verb::{Verb, read_verb};
@@ -39,7 +39,11 @@ fn read_arguments(alloc: Global, verb: Verb, words: &[&str]) -> Result<Command, 
         }
         Verb::Write => {
             let (handle, off, payload) = handle_and_data(alloc, words)?;
-            Ok(Command::WriteAt { handle, off, payload })
+            Ok(Command::WriteAt {
+                handle,
+                off,
+                payload,
+            })
         }
         Verb::Cut => {
             let (handle, size) = handle_and_size(words)?;

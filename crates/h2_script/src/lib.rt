@@ -7,13 +7,19 @@
 
 mod arguments;
 mod commands;
+mod counts;
 mod cut;
-mod line;
 mod fault;
+mod line;
 mod names;
 mod number;
+mod parsing;
 mod path;
 mod payload;
+mod reading;
+mod script;
 mod verb;
 
 pub use fault::{LineFault, ParseFault};
+pub use parsing::parse;
+pub use script::Script;
