@@ -1,0 +1,12 @@
+mod WordFaults
+mod Counting
+mod Cuts
+mod Elements
+mod FirstFaults
+mod Joined
+mod Numerals
+mod Paths
+mod Payloads
+mod Phases
+mod ReadSoFar
+mod Refusals

@@ -1,0 +1,8 @@
+use Rattle.std.proofs.Common.{◌≡◌, List, map, take}
+use Rattle.h2_script.specs.declared.line.Line.{Line}
+use Rattle.h2_script.specs.Scripts.{AreLines}
+use Rattle.h2_script.specs.Reading.{IsReadSoFar}
+use Rattle.h2_script.proofs.parsing.read_lines.Given as goal
+
+abbrev pub invariant-loop-line : goal.invariant-loop-line
+invariant-loop-line l = (l.number ≡ l.line-index) × (before : List Line) × IsReadSoFar before l.reading × AreLines (map (λ line. line.now) (take l.line-index l.lines)) before

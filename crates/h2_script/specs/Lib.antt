@@ -1,0 +1,13 @@
+pub mod Numbers
+pub mod Names
+pub mod Cuts
+pub mod Paths
+pub mod Payloads
+pub mod Refusals
+pub mod Verbs
+pub mod Arguments
+pub mod Commands
+pub mod Lines
+pub mod Scripts
+pub mod Counts
+pub mod Reading

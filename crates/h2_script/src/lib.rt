@@ -1,0 +1,25 @@
+//! The script language of the volume, and the text that tells its replies.
+//!
+//! A script is lines; a line is skipped, ends a phase, or is a command of one of 8 clients. Which bytes are
+//! a script, and which script they are, is a relation by cases (`specs/Scripts`), and so is what is wrong
+//! first with bytes that are none.
+#![tactic(auto)]
+
+mod arguments;
+mod commands;
+mod counts;
+mod cut;
+mod fault;
+mod line;
+mod names;
+mod number;
+mod parsing;
+mod path;
+mod payload;
+mod reading;
+mod script;
+mod verb;
+
+pub use fault::{LineFault, ParseFault};
+pub use parsing::parse;
+pub use script::Script;

@@ -1,0 +1,68 @@
+ghost use Rattle.std.specs.Prelude.{◌≡◌, ◌==◌, ◌<◌, ◌≤◌, ◌^◌, List, IfOk, length, map, MatchResult};
+ghost use Rattle.h2_script.specs.declared.line.Line.{Line};
+ghost use Rattle.h2_script.specs.Lines.{lines_of};
+ghost use Rattle.h2_script.specs.Scripts.{AreLines, IsScript, IsFaultOfLines, IsFaultOfScript, fault_in};
+ghost use Rattle.h2_script.specs.Reading.{IsReadSoFar};
+
+use crate::fault::{LineFault, ParseFault, Refusal};
+use crate::reading::Reading;
+use crate::script::Script;
+use std::alloc::{AllocError, Global};
+
+/// The most bytes of a script.
+const SCRIPT_BYTES: usize = 4_194_304;
+
+fn split_at_line_feeds(alloc: Global, bytes: &[u8]) -> Result<Vec<&[u8]>, AllocError>
+    ensures { IfOk result (λ lines. map (λ line. line.now) lines.items ≡ lines_of bytes.now) }
+{
+    bytes.split(|byte| *byte == b'\n').collect(alloc)
+}
+
+// The refusal of a line as that of a script.
+fn refuse_in(line: u32, refusal: Refusal) -> ParseFault
+    ensures { result ≡ fault_in line refusal }
+{
+    match refusal {
+        Refusal::Fault(why) => ParseFault::Script { line, why },
+        Refusal::NoMemory => ParseFault::NoMemory,
+    }
+}
+
+fn read_lines(alloc: Global, lines: &[&[u8]]) -> Result<Reading, ParseFault>
+    requires { length lines.now < 2 ^ 32 }
+    ensures { MatchResult result
+        (λ reading. (read : List Line) × AreLines (map (λ line. line.now) lines.now) read × IsReadSoFar read reading)
+        (IsFaultOfLines (map (λ line. line.now) lines.now)) }
+{
+    let mut reading = Reading::new(alloc);
+    let mut number: u32 = 0;
+    for line in lines {
+        number += 1;
+        match reading.take_line(alloc, line) {
+            Ok(()) => {}
+            Err(refusal) => return Err(refuse_in(number, refusal)),
+        }
+    }
+    Ok(reading)
+}
+
+/// The script that the bytes are. A line of the bytes is skipped, ends a phase, or is a command of a
+/// client. The error names the first faulty line, and its first fault.
+pub fn parse(alloc: Global, bytes: &[u8]) -> Result<Script, ParseFault>
+    ensures { MatchResult result (IsScript bytes.now) (IsFaultOfScript bytes.now) }
+{
+    if bytes.len() > SCRIPT_BYTES {
+        return Err(ParseFault::Script {
+            line: 0,
+            why: LineFault::TooLong,
+        });
+    }
+    let Ok(lines) = split_at_line_feeds(alloc, bytes) else {
+        return Err(ParseFault::NoMemory);
+    };
+    let reading = read_lines(alloc, &lines)?;
+    let Ok(script) = Script::from_reading(reading) else {
+        return Err(ParseFault::NoMemory);
+    };
+    Ok(script)
+}

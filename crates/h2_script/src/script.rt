@@ -1,0 +1,62 @@
+ghost use Rattle.std.specs.Prelude.{◌≡◌, ◌<◌, List, [], length, slice_index_or, IfOk};
+ghost use Rattle.h2_script.specs.Scripts.{phases_of};
+ghost use Rattle.h2_script.specs.Reading.{IsReadSoFar};
+ghost use Rattle.h2_script.specs.declared.line.Line.{Line};
+
+use crate::reading::Reading;
+use h2_command::Command;
+use h2_num::NoMemory;
+use std::marker::Model;
+
+/// A script: its phases, each with the clients and their commands in order.
+#[derive(Drop)]
+pub struct Script {
+    phases: Vec<Vec<(u32, Command)>>,
+}
+
+impl Model for Script {
+    ghost use Rattle.std.specs.Prelude.{List, ℕ, map};
+    ghost use Rattle.h2_command.specs.declared.command.Command.{Command};
+
+    ghost Value = { List (List (ℕ × Command)) };
+
+    ghost view = { λ s. map (λ phase. phase.items) s.phases.items };
+}
+
+impl Script {
+    /// The script of the phases that were read.
+    pub fn from_reading(reading: Reading) -> Result<Script, NoMemory>
+        ensures { (lines : List Line) → IsReadSoFar lines reading → IfOk result (λ script. script ≡ phases_of lines) }
+    {
+        let mut phases = reading.ended;
+        phases.push(reading.open)?;
+        Ok(Script { phases })
+    }
+
+    /// The number of phases.
+    pub fn phases(&self) -> usize
+        ensures { result ≡ length self.now }
+    {
+        self.phases.len()
+    }
+}
+
+impl Script {
+    /// The number of commands of a phase that is there.
+    pub fn len(&self, phase: usize) -> usize
+        requires { phase < length self.now }
+        ensures { result ≡ length (slice_index_or self.now phase []) }
+    {
+        self.phases[phase].len()
+    }
+
+    /// The client and the command at a place that is there.
+    pub fn at(&self, phase: usize, i: usize) -> (u32, &Command)
+        requires phase { phase < length self.now }
+        requires place { i < length (slice_index_or self.now phase []) }
+        ensures { (result.0, result.1.now) ≡ slice_index_or (slice_index_or self.now phase []) i (result.0, result.1.now) }
+    {
+        let (client, command) = &self.phases[phase][i];
+        (*client, command)
+    }
+}
