@@ -77,57 +77,106 @@ fn after_zero(register: u32) -> u32 {
     r
 }
 
+// How the check changes where one bit does, the first of the byte at a place below 65532: it changes by the
+// same, whatever the other bytes are.
+fn check_change(at: usize) -> u32 {
+    let mut change = 1;
+    for _ in at..65532 {
+        change = after_zero(change);
+    }
+    change
+}
+
+// Whether the block, with one bit changed, is refused for what comes before the fields.
+fn is_refused_early(b: &mut [u8], at: usize, change: u32) -> bool {
+    if b.len() != 65536 {
+        return false;
+    }
+    if at >= 65536 {
+        return false;
+    }
+    b[at] ^= 1;
+    let expected = match at {
+        0..8 => HeadFault::Magic,
+        8..12 => HeadFault::Version(get32(b, 8)),
+        12..65532 => HeadFault::Check {
+            want: CHECK,
+            got: CHECK ^ change,
+        },
+        _ => HeadFault::Check {
+            want: get32(b, 65532),
+            got: CHECK,
+        },
+    };
+    let read = read_from(b, 1);
+    b[at] ^= 1;
+    read == Err(expected)
+}
+
+// Whether it is refused for the field, or read, if its check is made anew.
+fn is_refused_by_field(b: &mut [u8], at: usize, change: u32) -> bool {
+    if b.len() != 65536 {
+        return false;
+    }
+    if at >= 65536 {
+        return false;
+    }
+    b[at] ^= 1;
+    put32(b, 65532, CHECK ^ change);
+    let read = read_from(b, 1).err();
+    let expected = field_refusal(b, at);
+    if at < b.len() {
+        b[at] ^= 1;
+    }
+    read == expected
+}
+
 #[test]
-fn a_changed_byte_is_refused_before_the_fields(rt: HostRuntime) -> Result<(), Fail> {
+fn the_first_bytes_are_covered(rt: HostRuntime) -> Result<(), Fail> {
     let mut b = block(rt.alloc())?;
-    // a bit that is changed changes the check by the same, whatever the other bytes are
-    let mut change = 1u32;
-    for step in 0..65536usize {
-        let at = 65535 - step;
-        if at < 65532 {
-            change = after_zero(change);
-        }
-        if at < 600 || at >= 64936 {
-            assert!(rt; b.len() == HEADER_BYTES && at < b.len());
-            b[at] ^= 1;
-            let expected = match at {
-                0..8 => HeadFault::Magic,
-                8..12 => HeadFault::Version(get32(&b, 8)),
-                12..65532 => HeadFault::Check {
-                    want: CHECK,
-                    got: CHECK ^ change,
-                },
-                _ => HeadFault::Check {
-                    want: get32(&b, 65532),
-                    got: CHECK,
-                },
-            };
-            assert_eq!(rt; b.len(), HEADER_BYTES);
-            assert_eq!(rt; read_from(&b, 1), Err(expected), "byte {at}");
-            assert!(rt; at < b.len());
-            b[at] ^= 1;
-        }
+    let mut change = check_change(600);
+    for step in 0..600usize {
+        change = after_zero(change);
+        let at = 599 - step;
+        assert!(rt; is_refused_early(&mut b, at, change), "byte {at}");
     }
     Ok(())
 }
 
 #[test]
-fn a_changed_field_is_named(rt: HostRuntime) -> Result<(), Fail> {
+fn the_last_bytes_are_covered(rt: HostRuntime) -> Result<(), Fail> {
     let mut b = block(rt.alloc())?;
-    let mut change = 1u32;
-    for step in 0..65520usize {
-        let at = 65531 - step;
-        change = after_zero(change);
-        if at < 600 || at >= 64936 {
-            assert!(rt; b.len() == HEADER_BYTES && at < b.len());
-            b[at] ^= 1;
-            assert_eq!(rt; b.len(), HEADER_BYTES);
-            put32(&mut b, 65532, CHECK ^ change);
-            assert_eq!(rt; b.len(), HEADER_BYTES);
-            assert_eq!(rt; read_from(&b, 1).err(), field_refusal(&b, at), "byte {at}");
-            assert!(rt; at < b.len());
-            b[at] ^= 1;
+    let mut change = 1;
+    for step in 0..600usize {
+        let at = 65535 - step;
+        if at < 65532 {
+            change = after_zero(change);
         }
+        assert!(rt; is_refused_early(&mut b, at, change), "byte {at}");
+    }
+    Ok(())
+}
+
+#[test]
+fn the_first_fields_are_named(rt: HostRuntime) -> Result<(), Fail> {
+    let mut b = block(rt.alloc())?;
+    let mut change = check_change(600);
+    for step in 0..588usize {
+        change = after_zero(change);
+        let at = 599 - step;
+        assert!(rt; is_refused_by_field(&mut b, at, change), "byte {at}");
+    }
+    Ok(())
+}
+
+#[test]
+fn the_last_fields_are_named(rt: HostRuntime) -> Result<(), Fail> {
+    let mut b = block(rt.alloc())?;
+    let mut change = 1;
+    for step in 0..596usize {
+        change = after_zero(change);
+        let at = 65531 - step;
+        assert!(rt; is_refused_by_field(&mut b, at, change), "byte {at}");
     }
     Ok(())
 }

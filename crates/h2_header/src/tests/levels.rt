@@ -60,27 +60,55 @@ fn block(alloc: Global, zones: u32, map: &[Ref; 8]) -> Result<Vec<u8>, AllocErro
     Ok(b)
 }
 
-// How many zones, the level of the blocks that the header names, the zones under each, and how many it names.
-const LEVELS: [(u32, u8, u8, u8); 8] = [
-    (4, 0, 1, 4),
-    (8, 0, 1, 8),
-    (9, 1, 8, 2),
-    (16, 1, 8, 2),
-    (64, 1, 8, 8),
-    (65, 2, 64, 2),
-    (129, 2, 64, 3),
-    (512, 2, 64, 8),
+// How many zones, the level of the blocks that the header names, another level, the zones under each block,
+// and how many blocks the header names.
+const LEVELS: [(u32, u8, u8, u8, u8); 8] = [
+    (4, 0, 1, 1, 4),
+    (8, 0, 2, 1, 8),
+    (9, 1, 0, 8, 2),
+    (16, 1, 2, 8, 2),
+    (64, 1, 2, 8, 8),
+    (65, 2, 1, 64, 2),
+    (129, 2, 0, 64, 3),
+    (512, 2, 1, 64, 8),
 ];
+
+// The references of a map with so many blocks of a level.
+fn map_of(level: u8, under: u8, used: u8) -> [Ref; 8] {
+    let mut map = [Ref::empty(); 8];
+    for i in 0..8u8 {
+        if i < used {
+            map[i as usize] = map_ref(level, under as u64 * i as u64);
+        }
+    }
+    map
+}
+
+// References that aren't those of their slots: to a block of another level, zone or copy, of another
+// checkpoint, one too few and one too many.
+fn others(level: u8, other: u8, under: u8, used: u8) -> [(u8, Ref); 6] {
+    let second = map_ref(level, under as u64);
+    let past = map_ref(level, under as u64 * used as u64);
+    [
+        (1, map_ref(other, under as u64)),
+        (1, map_ref(level, 0)),
+        (
+            1,
+            Ref {
+                place: second.place ^ 16384,
+                ..second
+            },
+        ),
+        (1, Ref { id: 3, ..second }),
+        (used.saturating_sub(1), Ref::empty()),
+        (used, past),
+    ]
+}
 
 #[test]
 fn maps_of_all_levels_are_read(rt: HostRuntime) -> Result<(), Fail> {
-    for (zones, level, under, used) in LEVELS {
-        let mut map = [Ref::empty(); 8];
-        for i in 0..8u8 {
-            if i < used {
-                map[i as usize] = map_ref(level, under as u64 * i as u64);
-            }
-        }
+    for (zones, level, _, under, used) in LEVELS {
+        let map = map_of(level, under, used);
         let b = block(rt.alloc(), zones, &map)?;
         assert_eq!(rt; b.len(), HEADER_BYTES);
         let Ok(h) = read_from(&b, 3) else {
@@ -92,31 +120,42 @@ fn maps_of_all_levels_are_read(rt: HostRuntime) -> Result<(), Fail> {
         assert_eq!(rt; out.len(), HEADER_BYTES);
         write_into(&h, &mut out);
         assert_eq!(rt; out.as_slice(), b.as_slice());
-        // one block of another level, zone or copy, one too many, one too few
-        let node = map_ref(level, under as u64);
-        let others = [
-            (1, map_ref((level + 1) % 3, under as u64)),
-            (1, map_ref(level, under as u64 * 2)),
-            (
-                1,
-                Ref {
-                    place: node.place ^ 16384,
-                    ..node
-                },
-            ),
-            (1, Ref { id: 3, ..node }),
-            (used - 1, Ref::empty()),
-            (used, map_ref(level, under as u64 * used as u64)),
-        ];
-        for (slot, other) in others {
-            if slot < 8 {
-                let mut wrong = map;
-                wrong[slot as usize] = other;
-                let b = block(rt.alloc(), zones, &wrong)?;
-                assert_eq!(rt; b.len(), HEADER_BYTES);
-                let expected = HeadFault::Field(1024 + 128 * slot as u32);
-                assert_eq!(rt; read_from(&b, 3), Err(expected), "slot {slot} of {zones}");
-            }
+    }
+    Ok(())
+}
+
+// What the header of a map is refused for, if one slot has another reference.
+fn refused(
+    alloc: Global,
+    zones: u32,
+    map: &[Ref; 8],
+    slot: u8,
+    r: Ref,
+) -> Result<Option<HeadFault>, AllocError> {
+    let mut wrong = *map;
+    if slot >= 8 {
+        return Ok(None);
+    }
+    wrong[slot as usize] = r;
+    let b = block(alloc, zones, &wrong)?;
+    if b.len() != 65536 {
+        return Ok(None);
+    }
+    Ok(read_from(&b, 3).err())
+}
+
+#[test]
+fn other_references_of_a_map_are_refused(rt: HostRuntime) -> Result<(), Fail> {
+    for (zones, level, other, under, used) in LEVELS {
+        let map = map_of(level, under, used);
+        for (slot, r) in others(level, other, under, used) {
+            let expected = if slot < 8 {
+                Some(HeadFault::Field(1024 + 128 * slot as u32))
+            } else {
+                None
+            };
+            let fault = refused(rt.alloc(), zones, &map, slot, r)?;
+            assert_eq!(rt; fault, expected, "slot {slot} of {zones}");
         }
     }
     Ok(())
