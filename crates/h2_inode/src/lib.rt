@@ -7,6 +7,7 @@
 //! `specs/Block`).
 #![tactic(auto)]
 
+mod block_check;
 mod contents;
 mod decoding;
 mod encoding;
@@ -21,6 +22,7 @@ mod pfs_name;
 mod set_decoding;
 mod set_encoding;
 
+pub use block_check::check_of;
 pub use decoding::decode_inode;
 pub use encoding::encode_inode;
 pub use fault::InodeFault;

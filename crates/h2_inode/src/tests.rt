@@ -1,5 +1,5 @@
 use super::*;
-use h2_ref::RefFault;
+use h2_ref::{Check, Kind, RefFault};
 use std::test::Fail;
 
 // A directory, from the format's table: kind 1, a body of references, 1 link, number 7, 2 entries, and no
@@ -167,4 +167,11 @@ fn inodes_are_spelled_both_ways(rt: HostRuntime) -> Result<(), Fail> {
     let found = decode_inode(&directory()).ok().ok_or("no inode")?;
     assert_eq!(rt; encode_inode(&found).as_slice(), directory().as_slice());
     Ok(())
+}
+
+// The XXH64 of `abc` is published.
+#[test]
+fn blocks_of_files_have_an_xxh64(rt: HostRuntime) {
+    let check = Check::Xx(0x44BC_2CF5_AD77_0999);
+    assert_eq!(rt; check_of(Kind::Content, b"abc"), check);
 }
