@@ -8,5 +8,6 @@ mod Numerals
 mod Paths
 mod Payloads
 mod Phases
+mod Places
 mod ReadSoFar
 mod Refusals

@@ -23,3 +23,6 @@ mod verb;
 pub use fault::{LineFault, ParseFault};
 pub use parsing::parse;
 pub use script::Script;
+
+#[cfg(test)]
+mod tests;

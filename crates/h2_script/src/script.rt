@@ -1,4 +1,4 @@
-ghost use Rattle.std.specs.Prelude.{◌≡◌, ◌<◌, List, [], length, slice_index_or, IfOk};
+ghost use Rattle.std.specs.Prelude.{◌≡◌, ◌<◌, List, [], length, slice_index_or, slice_set, IfOk};
 ghost use Rattle.h2_script.specs.Scripts.{phases_of};
 ghost use Rattle.h2_script.specs.Reading.{IsReadSoFar};
 ghost use Rattle.h2_script.specs.declared.line.Line.{Line};
@@ -58,5 +58,16 @@ impl Script {
     {
         let (client, command) = &self.phases[phase][i];
         (*client, command)
+    }
+
+    /// Takes the command at a place that is there, and leaves `PfsList` in it. It takes no memory.
+    pub fn take(&mut self, phase: usize, i: usize) -> Command
+        requires phase { phase < length self.old }
+        requires place { i < length (slice_index_or self.old phase []) }
+        ensures command { result ≡ (slice_index_or (slice_index_or self.old phase []) i (0, result)).1 }
+        ensures left { self.new ≡ slice_set self.old phase (slice_set (slice_index_or self.old phase []) i ((slice_index_or (slice_index_or self.old phase []) i (0, result)).0, Command.PfsList)) }
+    {
+        let place = &mut self.phases[phase][i];
+        std::mem::replace(&mut place.1, Command::PfsList)
     }
 }
