@@ -52,8 +52,8 @@ abbrev pub EventTakesDistinct : {Set : Type 0} → (Block → Set → Type 0) �
 EventTakesDistinct {Set} has = (moves : List Move) (x y : Ledger Set) → Run has moves x y → AllByRecursion NoApply moves → IsSound has x
     → ArePairwiseDisjoint (taken_by moves)
 
--- while a pass runs that has marked, what is taken shares no byte with what it marked at its freeze, whatever passes apply: from an opened ledger on, the
--- pass has marked after the first moves, and after the further ones it still runs
+-- while a pass runs, what is taken after its freeze shares no byte with what it marked there, also where it applies segments meanwhile: from an opened
+-- ledger on, the pass has marked after the first moves, and after the further ones it still runs
 abbrev pub TakesSinceApart : {Set : Type 0} → (Block → Set → Type 0) → Type 0
 TakesSinceApart {Set} has = (before moves : List Move) (opened x y : Ledger Set) → IsOpened has opened → Run has before opened x → Run has moves x y
     → (number s t : ℕ) → HasMarked x.pass number s → HasMarked y.pass number t
