@@ -20,6 +20,10 @@ marked_taken a b e (inr p) = inr (e ∙ ap seen_code p)
 unmarked_taken : (a b : Code) → b ≡ unseen_code a → a ≡ Used → IsTaken b
 unmarked_taken a b e p = inl (e ∙ ap unseen_code p)
 
+unfreed_taken : (a b : Code) → b ≡ unseen_code a → IsTaken a → b ≢ Free → IsTaken b
+unfreed_taken a b e (inl p) nf = absurd (nf (e ∙ ap unseen_code p))
+unfreed_taken a b e (inr p) nf = unmarked_taken a b e p
+
 module _ {Set : Type 0} (◌∈◌ : Block → Set → Type 0) where
   infix 40 ◌∈◌
   -- while a pass scans, all that is in use counts as in use since its freeze
@@ -38,7 +42,7 @@ module _ {Set : Type 0} (◌∈◌ : Block → Set → Type 0) where
     scans_after_header = λ n s e. rw m.roots.completed_number (rw (now n s (inr e)).0 (sx.scans_after_header number segment m.was));
     frozen_is_next = λ n e. sx.frozen_is_next n (sym m.roots.frozen_number ∙ e) ∙ ap suc (sym m.roots.completed_number);
     below_cursor = λ k at e b h same. sx.below_cursor k at (m.forgotten k at e).0 b (either b h) same;
-    cursor_not_free = λ k at e. (m.forgotten k at e).1;
+    cursor_taken = λ k at e. kept_taken at.chunk (sx.cursor_taken k at (m.forgotten k at e).0) (m.forgotten k at e).1 (cases_eq (segment_of at.chunk) segment);
     cursors_apart = λ j k a b ea eb same. sx.cursors_apart j k a b (m.forgotten j a ea).0 (m.forgotten k b eb).0 same;
     reserved_is_free = let h : x.reserved ≤ free_below x.code x.chunks = sx.reserved_is_free in let more : free_below x.code x.chunks ≤ free_below y.code x.chunks = free_more x.code y.code (λ c f. still_free c f (cases_eq (segment_of c) segment)) x.chunks in rw (m.chunks, m.reserved) (omega arith);
   }
@@ -72,6 +76,15 @@ module _ {Set : Type 0} (◌∈◌ : Block → Set → Type 0) where
       marked : (b : Block) → b ∈ x.marked → (segment_of (block_chunk b) ≡ segment) ⊎ (segment_of (block_chunk b) ≢ segment) → IsTaken (y.code (block_chunk b))
       marked b i (inl e) = applied_taken (block_chunk b) (sx.marked_covered number segment (inr m.was) b i) (inl (b, i, refl)) (m.applied (block_chunk b) e)
       marked b i (inr ne) = in_use_too (x.code (block_chunk b)) (y.code (block_chunk b)) (m.elsewhere (block_chunk b) ne) (sx.marked_covered number segment (inr m.was) b i)
+
+      -- a staged or used chunk that isn't free now is staged or used
+      kept_taken : (c : ℕ) → IsTaken (x.code c) → y.code c ≢ Free → (segment_of c ≡ segment) ⊎ (segment_of c ≢ segment) → IsTaken (y.code c)
+      kept_taken c t nf (inr ne) = in_use_too (x.code c) (y.code c) (m.elsewhere c ne) t
+      kept_taken c t nf (inl here) = split (m.applied c here)
+        where
+          split : (HasBlockIn ◌∈◌ x.marked c × (y.code c ≡ seen_code (x.code c))) ⊎ ((HasBlockIn ◌∈◌ x.marked c → ⊥) × (y.code c ≡ unseen_code (x.code c))) → IsTaken (y.code c)
+          split (inl (i, e)) = marked_taken (x.code c) (y.code c) e t
+          split (inr (ni, e)) = unfreed_taken (x.code c) (y.code c) e t nf
 
       kept : (c : ℕ) → segment_of c ≢ segment → HasBlockIn ◌∈◌ x.marked c ⊎ (x.code c ≡ Used) → HasBlockIn ◌∈◌ y.marked c ⊎ (y.code c ≡ Used)
       kept c ne (inl i) = inl (chunk_stays ◌∈◌ x y m.marked c i)

@@ -100,7 +100,7 @@ module _ {Set : Type 0} (has : Block → Set → Type 0) where
       split (inr le) (inl h) = let off : v.pass ≡ Idle = ended le in let e : v.pass ≡ Marked n = h.0 in cc
       split (inr le) (inr e) = let off : v.pass ≡ Idle = ended le in cc
 
-  none_marked : (v : Ledger Set) (pass : Pass) → v.pass ≡ pass → (pass ≡ Idle) ⊎ (pass ≡ Begun) → (A : Type 0) (n t : ℕ) → HasMarked v.pass n t → A
+  pub none_marked : (v : Ledger Set) (pass : Pass) → v.pass ≡ pass → (pass ≡ Idle) ⊎ (pass ≡ Begun) → (A : Type 0) (n t : ℕ) → HasMarked v.pass n t → A
   none_marked v pass e (inl f) A n t (inl h) = let g : v.pass ≡ Marked n = h.0 in cc
   none_marked v pass e (inl f) A n t (inr h) = cc
   none_marked v pass e (inr f) A n t (inl h) = let g : v.pass ≡ Marked n = h.0 in cc
@@ -178,7 +178,7 @@ module _ {Set : Type 0} (has : Block → Set → Type 0) where
       past_along p s moves v y rest (past_on p s move u v m past_u (keeps_sound has move u v m past_u.sound))
 
   -- a pass doesn't apply a segment again
-  not_past : (p s : ℕ) (u : Ledger Set) → Past p s u → u.pass ≡ Scanning p s → ⊥
+  pub not_past : (p s : ℕ) (u : Ledger Set) → Past p s u → u.pass ≡ Scanning p s → ⊥
   not_past p s u past e = split (past.later p s (inr e))
     where
       split : ((p ≡ p) × (s < s)) ⊎ (p < p) → ⊥

@@ -1,10 +1,10 @@
 -- The laws of the ledger.
-use Rattle.std.specs.Prelude.{ℕ, ◌≡◌, ◌≢◌, ◌⊎◌, ◌<◌, List, [], ◌∷◌}
+use Rattle.std.specs.Prelude.{ℕ, ◌≡◌, ◌≢◌, ◌⊎◌, ◌<◌, List, [], ◌∷◌, ◌++◌}
 use Rattle.std.specs.List.{Contains, AllByRecursion}
 use Rattle.h2_num.specs.declared.block.Block.{Block}
 use Rattle.h2_codes.specs.declared.code.Code.TheVariants.{Free, Reserved, Staged, Used}
 use Rattle.h2_ledger.specs.declared.pass.Pass.TheVariants.{Scanning}
-use Rattle.h2_ledger.specs.Ledger.{AreDisjoint, Ledger, IsInUse, IsMarked}
+use Rattle.h2_ledger.specs.Ledger.{AreDisjoint, Ledger, IsInUse, HasMarked, IsMarked}
 use Rattle.h2_ledger.specs.Moves.{Move, apply, Makes, IsGranted}
 use Rattle.h2_ledger.specs.Sound.{IsSound, UnwrittenIsApart}
 use Rattle.h2_ledger.specs.Runs.{NoApply, taken_by, Spares, Run, Touches, RunsBeside, AppliesUnmarked, IsOpened}
@@ -21,6 +21,11 @@ KeepsSound {Set} has = (move : Move) (x y : Ledger Set) → Makes has move x y �
 -- and so does each list of moves
 abbrev pub RunsSound : {Set : Type 0} → (Block → Set → Type 0) → Type 0
 RunsSound {Set} has = (moves : List Move) (x y : Ledger Set) → Run has moves x y → IsSound has x → IsSound has y
+
+-- the same chunks are reserved after moves as before
+abbrev pub ReservedStays : {Set : Type 0} → (Block → Set → Type 0) → Type 0
+ReservedStays {Set} has = (moves : List Move) (x y : Ledger Set) → Run has moves x y → IsSound has x
+    → (c : ℕ) → (x.code c ≡ Reserved → y.code c ≡ Reserved) × (y.code c ≡ Reserved → x.code c ≡ Reserved)
 
 -- a block that is about to be taken shares no byte with a block in use or marked
 abbrev pub TakesApart : {Set : Type 0} → (Block → Set → Type 0) → Type 0
@@ -46,6 +51,13 @@ EventTakesApart {Set} has = (moves : List Move) (x y : Ledger Set) → Run has m
 abbrev pub EventTakesDistinct : {Set : Type 0} → (Block → Set → Type 0) → Type 0
 EventTakesDistinct {Set} has = (moves : List Move) (x y : Ledger Set) → Run has moves x y → AllByRecursion NoApply moves → IsSound has x
     → ArePairwiseDisjoint (taken_by moves)
+
+-- while a pass runs, what is taken after its freeze shares no byte with what it marked there, also where it applies segments meanwhile: from an opened
+-- ledger on, the pass has marked after the first moves, and after the further ones it still runs
+abbrev pub TakesSinceApart : {Set : Type 0} → (Block → Set → Type 0) → Type 0
+TakesSinceApart {Set} has = (before moves : List Move) (opened x y : Ledger Set) → IsOpened has opened → Run has before opened x → Run has moves x y
+    → (number s t : ℕ) → HasMarked x.pass number s → HasMarked y.pass number t
+    → (b : Block) → has b x.marked → AllByRecursion (λ taken. AreDisjoint taken b) (taken_by moves)
 
 -- in an opened ledger nothing is yet to be written
 abbrev pub OpensApart : {Set : Type 0} → (Block → Set → Type 0) → Type 0
@@ -84,6 +96,11 @@ abbrev pub AppliesAllOrRuns : {Set : Type 0} → (Block → Set → Type 0) → 
 AppliesAllOrRuns {Set} has = (moves : List Move) (x y : Ledger Set) → IsOpened has x → Run has moves x y
     → (number segment : ℕ) → Contains moves (apply number segment)
     → IsComplete x.chunks number moves ⊎ ((applied : ℕ) × (y.pass ≡ Scanning number applied) × (segment < applied) × ((s : ℕ) → s < applied → Contains moves (apply number s)))
+
+-- a pass applies each segment at most once: no list of moves from a sound ledger on has two such applies
+abbrev pub AppliesOnce : {Set : Type 0} → (Block → Set → Type 0) → Type 0
+AppliesOnce {Set} has = (number segment : ℕ) (before between after : List Move) (x y : Ledger Set) → IsSound has x
+    → Run has (before ++ (apply number segment ∷ (between ++ (apply number segment ∷ after)))) x y → ⊥
 
 -- a chunk that two successive complete passes find unmarked, and in which nothing is taken or adopted between their applies of its segment, is free after the second
 abbrev pub FreesAfterTwoPasses : {Set : Type 0} → (Block → Set → Type 0) → Type 0

@@ -46,10 +46,12 @@ free_below code (suc n) = one_if_free (code n) + free_below code n
 abbrev pub HasMarked : Pass → ℕ → ℕ → Type 0
 HasMarked pass number applied = ((pass ≡ Marked number) × (applied ≡ 0)) ⊎ (pass ≡ Scanning number applied)
 
+-- what a volume keeps of its space at a moment
 pub record Ledger (Set : Type 0) : Type 0 where
   -- how many chunks the volume has, and the code of each
   pub chunks : ℕ
   pub code : ℕ → Code
+  -- where the next block of each shared size goes, if there is a chunk for it
   pub cursor : SharedSize → Option Cursor
   -- how many chunks running commands have reserved and not yet taken
   pub reserved : ℕ
@@ -63,10 +65,11 @@ pub record Ledger (Set : Type 0) : Type 0 where
   -- the root of the newest completed header
   pub completed_number : ℕ
   pub completed : Set
+  -- how far the pass of bulkfree has come
   pub pass : Pass
   -- what the running pass marked at its freeze
   pub marked : Set
-  -- what was taken since the last freeze, so that no header leads there yet
+  -- of what was taken since the last freeze, what the next flush has to write: no header leads there yet
   pub fresh : Set
   -- what the flush under way has yet to write: it was fresh at the freeze
   pub queued : Set

@@ -15,3 +15,5 @@ pub mod GrantLaws
 pub mod FreedLaws
 pub mod UnwrittenLaws
 pub mod PassLaws
+pub mod SinceLaws
+pub mod ReservedLaws

@@ -59,6 +59,7 @@ module _ {Set : Type 0} (◌∈◌ : Block → Set → Type 0) where
     pub chunks : y.chunks ≡ x.chunks
     pub codes : (c : ℕ) → y.code c ≡ x.code c
 
+  -- the cursors stay
   pub record CursorsStay (x y : Ledger Set) : Type 0 where
     pub cursors : (k : SharedSize) → y.cursor k ≡ x.cursor k
 
@@ -115,6 +116,7 @@ module _ {Set : Type 0} (◌∈◌ : Block → Set → Type 0) where
   abbrev pub IsPaid : Ledger Set → Ledger Set → Type 0
   IsPaid x y = (suc y.reserved ≡ x.reserved) ⊎ ((y.reserved ≡ x.reserved) × (x.reserved < free_below x.code x.chunks))
 
+  -- a block of a shared size is taken at its cursor, which moves behind it
   pub record TakesNext (size : SharedSize) (b : Block) (x y : Ledger Set) : Type 0 where
     pub place : IsAtCursor size b x
     pub joins : Joins b x y
@@ -123,6 +125,7 @@ module _ {Set : Type 0} (◌∈◌ : Block → Set → Type 0) where
     pub others : (k : SharedSize) → k ≢ size → y.cursor k ≡ x.cursor k
     pub reserved : y.reserved ≡ x.reserved
 
+  -- a block of a shared size is taken in the lowest free chunk, which gets the cursor, since the cursor's chunk is filled
   pub record TakesFirst (size : SharedSize) (b : Block) (x y : Ledger Set) : Type 0 where
     pub radix : b.radix ≡ radix_of size
     pub filled : IsFilled size b x
@@ -133,6 +136,7 @@ module _ {Set : Type 0} (◌∈◌ : Block → Set → Type 0) where
     pub moved : y.cursor size ≡ Some (record { chunk = block_chunk b; used = block_bytes b })
     pub others : (k : SharedSize) → k ≢ size → y.cursor k ≡ x.cursor k
 
+  -- a block of a whole chunk is taken: the lowest free one
   pub record TakesWhole (b : Block) (x y : Ledger Set) : Type 0 where
     pub radix : b.radix ≡ 14
     pub place : IsAtLowest b x

@@ -47,7 +47,7 @@ module _ {Set : Type 0} (◌∈◌ : Block → Set → Type 0) where
     scans_after_header = q.scans_after_header;
     frozen_is_next = q.frozen_is_next;
     below_cursor = λ k at e b h same. sx.below_cursor k at (sym (q.cursors.cursors k) ∙ e) b (either x y q b h) same;
-    cursor_not_free = λ k at e free. sx.cursor_not_free k at (sym (q.cursors.cursors k) ∙ e) (sym (q.codes.codes at.chunk) ∙ free);
+    cursor_taken = λ k at e. in_use_too (x.code at.chunk) (y.code at.chunk) (q.codes.codes at.chunk) (sx.cursor_taken k at (sym (q.cursors.cursors k) ∙ e));
     cursors_apart = λ j k a b ea eb same. sx.cursors_apart j k a b (sym (q.cursors.cursors j) ∙ ea) (sym (q.cursors.cursors k) ∙ eb) same;
     reserved_is_free = let e : free_below y.code y.chunks ≡ free_below x.code x.chunks = free_stays ◌∈◌ x y q.codes in let h : y.reserved ≤ free_below x.code x.chunks = q.reserved_is_free in omega arith;
   }

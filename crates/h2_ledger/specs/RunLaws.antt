@@ -5,7 +5,7 @@ use Rattle.h2_geom.specs.Geometry.{chunk_bytes}
 use Rattle.h2_ledger.specs.declared.pass.Pass.TheVariants.{Idle, Marked}
 use Rattle.h2_ledger.specs.declared.cursor.Cursor.{Cursor}
 use Rattle.h2_ledger.specs.declared.cursor.SharedSize.{SharedSize}
-use Rattle.h2_ledger.specs.Ledger.{block_bytes, LiesInOneChunk, Ledger, IsInUse, by_live, by_pin, by_frozen, by_completed, HasMarked, IsMarked}
+use Rattle.h2_ledger.specs.Ledger.{block_bytes, LiesInOneChunk, IsTaken, Ledger, IsInUse, by_live, by_pin, by_frozen, by_completed, HasMarked, IsMarked}
 use Rattle.h2_ledger.specs.Sound.{IsSound}
 use Rattle.h2_ledger.specs.Moves.{Move, Makes, Same}
 use Rattle.h2_ledger.specs.Runs.{Stays, Run}
@@ -38,7 +38,7 @@ opens_sound {Set} has x o = record {
   scans_after_header = λ n s e. absurd (none n s (inr e));
   frozen_is_next = λ m e. no_frozen (m ≡ suc x.completed_number) m e;
   below_cursor = λ k at e b h same. no_cursor (b.place + block_bytes b ≤ chunk_bytes * at.chunk + at.used) k at e;
-  cursor_not_free = λ k at e free. no_cursor ⊥ k at e;
+  cursor_taken = λ k at e. no_cursor (IsTaken (x.code at.chunk)) k at e;
   cursors_apart = λ j k a b ea eb same. no_cursor (j ≡ k) j a ea;
   reserved_is_free = rw o.unreserved (omega arith);
 }
@@ -111,3 +111,10 @@ run_after has (move ∷ moves) x y z s (u, v, t, m, rest) = (u, v, stays_on has 
 pub run_append : {Set : Type 0} (has : Block → Set → Type 0) (moves more : List Move) (x y z : Ledger Set) → Run has moves x y → Run has more y z → Run has (moves ++ more) x z
 run_append has [] more x y z m n = run_after has more x y z m n
 run_append has (move ∷ moves) more x y z (u, v, s, m, rest) n = (u, v, s, m, run_append has moves more v y z rest n)
+
+-- the ledger between the two parts of a run
+pub run_split : {Set : Type 0} (has : Block → Set → Type 0) (moves more : List Move) (x z : Ledger Set) → Run has (moves ++ more) x z → (y : Ledger Set) × Run has moves x y × Run has more y z
+run_split has [] more x z m = (x, stays_self has x, m)
+run_split {Set} has (move ∷ moves) more x z (u, v, s, m, rest) =
+    let parts : (y : Ledger Set) × Run has moves v y × Run has more y z = run_split has moves more v z rest in
+    (parts.0, (u, v, s, m, parts.1), parts.2)

@@ -1,8 +1,8 @@
 -- What every move keeps.
-use Rattle.std.specs.Prelude.{ℕ, suc, ◌≡◌, ◌≢◌, ◌⊎◌, ◌+◌, ◌*◌, ◌≤◌, ◌<◌, Some}
+use Rattle.std.specs.Prelude.{ℕ, suc, ◌≡◌, ◌⊎◌, ◌+◌, ◌*◌, ◌≤◌, ◌<◌, Some}
 use Rattle.h2_num.specs.declared.block.Block.{Block}
 use Rattle.h2_geom.specs.Geometry.{chunk_bytes, segment_of}
-use Rattle.h2_codes.specs.declared.code.Code.TheVariants.{Free, Used}
+use Rattle.h2_codes.specs.declared.code.Code.TheVariants.{Used}
 use Rattle.h2_ledger.specs.declared.cursor.SharedSize.{SharedSize}
 use Rattle.h2_ledger.specs.declared.cursor.Cursor.{Cursor}
 use Rattle.h2_ledger.specs.declared.pass.Pass.TheVariants.{Scanning}
@@ -10,6 +10,7 @@ use Rattle.h2_ledger.specs.Ledger.{block_bytes, block_chunk, LiesInOneChunk, Are
 
 module _ {Set : Type 0} (◌∈◌ : Block → Set → Type 0) where
   infix 40 ◌∈◌
+  -- what always holds: each move keeps it, and it holds when a volume is opened
   pub record IsSound (l : Ledger Set) : Type 0 where
     -- the chunk of a block in use is staged or used: nothing in use counts as free
     pub covered : (b : Block) → IsInUse ◌∈◌ l b → IsTaken (l.code (block_chunk b))
@@ -28,18 +29,23 @@ module _ {Set : Type 0} (◌∈◌ : Block → Set → Type 0) where
     -- blocks in a cursor's chunk, in use or marked, end at or below the cursor
     pub below_cursor : (k : SharedSize) (at : Cursor) → l.cursor k ≡ Some at → (b : Block) → IsInUse ◌∈◌ l b ⊎ IsMarked ◌∈◌ l b → block_chunk b ≡ at.chunk
         → b.place + block_bytes b ≤ chunk_bytes * at.chunk + at.used
-    -- a cursor's chunk isn't free, so that it isn't handed out a second time
-    pub cursor_not_free : (k : SharedSize) (at : Cursor) → l.cursor k ≡ Some at → l.code at.chunk ≢ Free
+    -- a cursor's chunk is staged or used: it isn't handed out a second time, and isn't a reserved one
+    pub cursor_taken : (k : SharedSize) (at : Cursor) → l.cursor k ≡ Some at → IsTaken (l.code at.chunk)
     -- the two cursors are in different chunks
     pub cursors_apart : (j k : SharedSize) (a b : Cursor) → l.cursor j ≡ Some a → l.cursor k ≡ Some b → a.chunk ≡ b.chunk → j ≡ k
     -- what is reserved is there
     pub reserved_is_free : l.reserved ≤ free_below l.code l.chunks
 
-  -- what no header leads to yet shares no byte with what a header or the pass reads
+  -- what is fresh or queued (taken since the last freeze, or waiting to be written by the flush under way) shares no byte with what a header leads to or
+  -- the pass marked
   pub record UnwrittenIsApart (l : Ledger Set) : Type 0 where
+    -- a fresh block shares no byte with the newest completed root
     pub fresh_completed : (a b : Block) → a ∈ l.fresh → b ∈ l.completed → AreDisjoint a b
+    -- nor with the root that is being flushed
     pub fresh_frozen : (a b : Block) → a ∈ l.fresh → IsFrozen ◌∈◌ l b → AreDisjoint a b
+    -- nor with what the running pass marked
     pub fresh_marked : (a b : Block) → a ∈ l.fresh → IsMarked ◌∈◌ l b → AreDisjoint a b
+    -- a queued block shares no byte with the newest completed root, to which a power cut may lead back
     pub queued_completed : (a b : Block) → a ∈ l.queued → b ∈ l.completed → AreDisjoint a b
-    -- the queue of a flush whose freeze came after the pass's own
+    -- nor with what the running pass marked, where the flush was frozen after the pass's own freeze
     pub queued_marked : (n s m : ℕ) → HasMarked l.pass n s → l.frozen_number ≡ Some m → n < m → (a b : Block) → a ∈ l.queued → b ∈ l.marked → AreDisjoint a b

@@ -39,7 +39,7 @@ module _ {Set : Type 0} (◌∈◌ : Block → Set → Type 0) where
     pub joins : Joins ◌∈◌ b x y
     pub in_one_chunk : LiesInOneChunk b
     pub below_cursor : (k : SharedSize) (at : Cursor) → y.cursor k ≡ Some at → (d : Block) → (IsInUse ◌∈◌ x d ⊎ IsMarked ◌∈◌ x d) ⊎ (d ≡ b) → block_chunk d ≡ at.chunk → d.place + block_bytes d ≤ chunk_bytes * at.chunk + at.used
-    pub cursor_not_free : (k : SharedSize) (at : Cursor) → y.cursor k ≡ Some at → (x.code at.chunk ≢ Free) ⊎ (at.chunk ≡ block_chunk b)
+    pub cursor_taken : (k : SharedSize) (at : Cursor) → y.cursor k ≡ Some at → IsTaken (x.code at.chunk) ⊎ (at.chunk ≡ block_chunk b)
     pub cursors_apart : (j k : SharedSize) (a b : Cursor) → y.cursor j ≡ Some a → y.cursor k ≡ Some b → a.chunk ≡ b.chunk → j ≡ k
     pub reserved_is_free : y.reserved ≤ free_below y.code y.chunks
 
@@ -111,7 +111,7 @@ module _ {Set : Type 0} (◌∈◌ : Block → Set → Type 0) where
     scans_after_header = λ n s e. rw j.roots.completed_number (sx.scans_after_header n s (sym j.pass.pass ∙ e));
     frozen_is_next = λ n e. sx.frozen_is_next n (sym j.roots.frozen_number ∙ e) ∙ ap suc (sym j.roots.completed_number);
     below_cursor = λ k at e d h same. m.below_cursor k at e d (either_or_new b x y j d h) same;
-    cursor_not_free = λ k at e free. cursor_used at (m.cursor_not_free k at e) (was_free b x y j at.chunk free);
+    cursor_taken = λ k at e. cursor_still at (m.cursor_taken k at e);
     cursors_apart = m.cursors_apart;
     reserved_is_free = m.reserved_is_free;
   }
@@ -138,9 +138,13 @@ module _ {Set : Type 0} (◌∈◌ : Block → Set → Type 0) where
       aged n s p d le (inl h) = old_aged (block_chunk d) (sx.marked_or_used n s p d h le)
       aged n s p d le (inr e) = inr (new_used d e)
 
-      cursor_used : (at : Cursor) → (x.code at.chunk ≢ Free) ⊎ (at.chunk ≡ block_chunk b) → (x.code at.chunk ≡ Free) × (at.chunk ≢ block_chunk b) → ⊥
-      cursor_used at (inl nf) (f, ne) = nf f
-      cursor_used at (inr e) (f, ne) = ne e
+      cursor_still : (at : Cursor) → IsTaken (x.code at.chunk) ⊎ (at.chunk ≡ block_chunk b) → IsTaken (y.code at.chunk)
+      cursor_still at (inl t) = still_in_use b x y j at.chunk t
+      cursor_still at (inr e) = inr (ap y.code e ∙ j.used)
+
+  -- a cursor's chunk isn't free
+  cursor_not_free : (x : Ledger Set) → IsSound ◌∈◌ x → (k : SharedSize) (at : Cursor) → x.cursor k ≡ Some at → x.code at.chunk ≢ Free
+  cursor_not_free x sx k at e = used_not_free (x.code at.chunk) (sx.cursor_taken k at e)
 
   -- nothing in use lies in a free chunk
   pub not_in_free : (x : Ledger Set) → IsSound ◌∈◌ x → (c : ℕ) → x.code c ≡ Free → (d : Block) → IsInUse ◌∈◌ x d ⊎ IsMarked ◌∈◌ x d → block_chunk d ≢ c
@@ -168,21 +172,21 @@ module _ {Set : Type 0} (◌∈◌ : Block → Set → Type 0) where
     joins = m.joins;
     in_one_chunk = rw m.radix (let at : b.place ≡ chunk_bytes * block_chunk b = m.place.at in omega arith);
     below_cursor = λ k at e d h same. below k at (sym (m.cursors.cursors k) ∙ e) d same h;
-    cursor_not_free = λ k at e. inl (sx.cursor_not_free k at (sym (m.cursors.cursors k) ∙ e));
+    cursor_taken = λ k at e. inl (sx.cursor_taken k at (sym (m.cursors.cursors k) ∙ e));
     cursors_apart = λ j k a c ea ec same. sx.cursors_apart j k a c (sym (m.cursors.cursors j) ∙ ea) (sym (m.cursors.cursors k) ∙ ec) same;
     reserved_is_free = first_backed b x y m.joins m.place m.paid sx;
   }) sx
     where
       below : (k : SharedSize) (at : Cursor) → x.cursor k ≡ Some at → (d : Block) → block_chunk d ≡ at.chunk → (IsInUse ◌∈◌ x d ⊎ IsMarked ◌∈◌ x d) ⊎ (d ≡ b) → d.place + block_bytes d ≤ chunk_bytes * at.chunk + at.used
       below k at e d same (inl h) = sx.below_cursor k at e d h same
-      below k at e d same (inr new) = absurd (sx.cursor_not_free k at e (ap x.code (sym same ∙ ap block_chunk new) ∙ m.place.free))
+      below k at e d same (inr new) = absurd (cursor_not_free x sx k at e (ap x.code (sym same ∙ ap block_chunk new) ∙ m.place.free))
 
   pub adopt_sound : (b : Block) (x y : Ledger Set) → Adopts ◌∈◌ b x y → IsSound ◌∈◌ x → IsSound ◌∈◌ y
   adopt_sound b x y m sx = joined b x y (record {
     joins = m.joins;
     in_one_chunk = m.in_one_chunk;
     below_cursor = λ k at e d h same. below k at (sym (m.cursors.cursors k) ∙ e) d same h;
-    cursor_not_free = λ k at e. inl (sx.cursor_not_free k at (sym (m.cursors.cursors k) ∙ e));
+    cursor_taken = λ k at e. inl (sx.cursor_taken k at (sym (m.cursors.cursors k) ∙ e));
     cursors_apart = λ j k a c ea ec same. sx.cursors_apart j k a c (sym (m.cursors.cursors j) ∙ ea) (sym (m.cursors.cursors k) ∙ ec) same;
     reserved_is_free = used_backed b x y m.joins (used_not_free (x.code (block_chunk b)) m.taken) m.reserved sx;
   }) sx
@@ -204,9 +208,9 @@ module _ {Set : Type 0} (◌∈◌ : Block → Set → Type 0) where
     joins = m.joins;
     in_one_chunk = (next_place size b x m.place).1;
     below_cursor = λ k at e d h same. below k at e d same (same_size k size) h;
-    cursor_not_free = λ k at e. inl (λ free. cursor_used k at (prior k at e (same_size k size)) free);
+    cursor_taken = λ k at e. inl (cursor_used k at (prior k at e (same_size k size)));
     cursors_apart = λ j k a c ea ec same. apart j k a c same (prior j a ea (same_size j size)) (prior k c ec (same_size k size));
-    reserved_is_free = used_backed b x y m.joins (λ free. sx.cursor_not_free size m.place.old m.place.was (ap x.code (sym (next_place size b x m.place).0) ∙ free)) m.reserved sx;
+    reserved_is_free = used_backed b x y m.joins (λ free. cursor_not_free x sx size m.place.old m.place.was (ap x.code (sym (next_place size b x m.place).0) ∙ free)) m.reserved sx;
   }) sx
     where
       moved_at : (k : SharedSize) (at : Cursor) → y.cursor k ≡ Some at → k ≡ size → at ≡ record { chunk = m.place.old.chunk; used = m.place.old.used + block_bytes b }
@@ -217,8 +221,8 @@ module _ {Set : Type 0} (◌∈◌ : Block → Set → Type 0) where
       prior k at e (inl ek) = (m.place.old, ap x.cursor ek ∙ m.place.was, sym (ap (λ (z : Cursor). z.chunk) (moved_at k at e ek)))
       prior k at e (inr nk) = (at, sym (m.others k nk) ∙ e, refl)
 
-      cursor_used : (k : SharedSize) (at : Cursor) → ((old : Cursor) × (x.cursor k ≡ Some old) × (old.chunk ≡ at.chunk)) → x.code at.chunk ≡ Free → ⊥
-      cursor_used k at (old, e, same) free = sx.cursor_not_free k old e (ap x.code same ∙ free)
+      cursor_used : (k : SharedSize) (at : Cursor) → ((old : Cursor) × (x.cursor k ≡ Some old) × (old.chunk ≡ at.chunk)) → IsTaken (x.code at.chunk)
+      cursor_used k at (old, e, same) = subst (λ c. IsTaken (x.code c)) same (sx.cursor_taken k old e)
 
       apart : (j k : SharedSize) (a c : Cursor) → a.chunk ≡ c.chunk → ((old : Cursor) × (x.cursor j ≡ Some old) × (old.chunk ≡ a.chunk)) → ((old : Cursor) × (x.cursor k ≡ Some old) × (old.chunk ≡ c.chunk)) → j ≡ k
       apart j k a c same (old, e, ea) (former, f, fc) = sx.cursors_apart j k old former e f (ea ∙ same ∙ sym fc)
@@ -242,7 +246,7 @@ module _ {Set : Type 0} (◌∈◌ : Block → Set → Type 0) where
     joins = m.joins;
     in_one_chunk = (let at : b.place ≡ chunk_bytes * block_chunk b = m.place.at in let small : block_bytes b ≤ chunk_bytes = small_size size b m.radix in omega arith);
     below_cursor = λ k at e d h same. below k at e d same (same_size k size) h;
-    cursor_not_free = λ k at e. cursor_used k at e (same_size k size);
+    cursor_taken = λ k at e. cursor_used k at e (same_size k size);
     cursors_apart = λ j k a c ea ec same. apart j k a c ea ec same (same_size j size) (same_size k size);
     reserved_is_free = first_backed b x y m.joins m.place m.paid sx;
   }) sx
@@ -255,11 +259,11 @@ module _ {Set : Type 0} (◌∈◌ : Block → Set → Type 0) where
 
       -- no cursor was in a free chunk
       elsewhere : (k : SharedSize) (at : Cursor) → y.cursor k ≡ Some at → k ≢ size → at.chunk ≡ block_chunk b → ⊥
-      elsewhere k at e nk same = sx.cursor_not_free k at (sym (m.others k nk) ∙ e) (ap x.code same ∙ m.place.free)
+      elsewhere k at e nk same = cursor_not_free x sx k at (sym (m.others k nk) ∙ e) (ap x.code same ∙ m.place.free)
 
-      cursor_used : (k : SharedSize) (at : Cursor) → y.cursor k ≡ Some at → (k ≡ size) ⊎ (k ≢ size) → (x.code at.chunk ≢ Free) ⊎ (at.chunk ≡ block_chunk b)
+      cursor_used : (k : SharedSize) (at : Cursor) → y.cursor k ≡ Some at → (k ≡ size) ⊎ (k ≢ size) → IsTaken (x.code at.chunk) ⊎ (at.chunk ≡ block_chunk b)
       cursor_used k at e (inl ek) = inr (chunk_at k at e ek)
-      cursor_used k at e (inr nk) = inl (sx.cursor_not_free k at (sym (m.others k nk) ∙ e))
+      cursor_used k at e (inr nk) = inl (sx.cursor_taken k at (sym (m.others k nk) ∙ e))
 
       apart : (j k : SharedSize) (a c : Cursor) → y.cursor j ≡ Some a → y.cursor k ≡ Some c → a.chunk ≡ c.chunk → (j ≡ size) ⊎ (j ≢ size) → (k ≡ size) ⊎ (k ≢ size) → j ≡ k
       apart j k a c ea ec same (inl ej) (inl ek) = ej ∙ sym ek
