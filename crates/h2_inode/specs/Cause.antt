@@ -3,7 +3,7 @@ use Rattle.std.specs.Prelude.{◌≡◌, ℕ, List}
 use Rattle.h2_num.specs.Places.{Places}
 use Rattle.h2_check.specs.Xxh.{xxh64_of}
 use Rattle.h2_ref.specs.declared.faults.Why.{Why}
-use Rattle.h2_ref.specs.declared.faults.Why.TheVariants.{Check as Other_check, Reference as Bad_ref, Inode as No_inode, Name as No_name, Tail as Bad_tail, Shape as No_shape}
+use Rattle.h2_ref.specs.declared.faults.Why.TheVariants.{Check as Other_check, Reference as Bad_ref, Inode as No_inode, Name as No_name, Shape as No_shape}
 use Rattle.h2_ref.specs.declared.reference.Kind.{Kind}
 use Rattle.h2_ref.specs.declared.reference.Kind.TheVariants.{Empty, Inode as Inode_kind, Indirect, Content, Dirent as Entry_kind, MapNode, MapLeaf}
 use Rattle.h2_ref.specs.declared.reference.Check.TheVariants.{Xx}

@@ -1,5 +1,5 @@
 -- A block that doesn't pass for a cause doesn't pass at all.
-use Rattle.std.specs.Prelude.{◌≡◌, ◌<◌, ℕ, zero, suc, ◌^◌, ◌==◌, if◌then◌else◌, List, Option, Some, None, refl}
+use Rattle.std.specs.Prelude.{◌≡◌, ◌<◌, ℕ, zero, suc, ◌^◌, ◌==◌, if◌then◌else◌, List}
 use Rattle.std.proofs.Common.{ap, sym, ◌∙◌, arith, subst}
 use Rattle.std.proofs.lemmas.Option.{none-some}
 use Rattle.h2_num.specs.Places.{Places}
@@ -16,7 +16,7 @@ use Rattle.h2_inode.specs.SetBytes.{IsSetAt, IsFaultOf as IsSetFaultOf}
 use Rattle.h2_inode.specs.SetBytesLaws.{set_one, set_decoded}
 use Rattle.h2_inode.specs.Inode.{IsInode, InodeBytes}
 use Rattle.h2_inode.specs.FaultLaws.{fault_refuses}
-use Rattle.h2_inode.specs.Block.{HasCheck, IsArranged, IsNameOf, IsInodeBlock, IsSetBlock, IsContentBlock, IsNameBlock, PassesAs, Passes}
+use Rattle.h2_inode.specs.Block.{HasCheck, IsArranged, IsNameOf, PassesAs, Passes}
 use Rattle.h2_inode.specs.Cause.{IsInodeCause, IsSetCause, IsNameCause, IsSpellingCause, IsCauseOf}
 use Rattle.h2_inode.specs.Cause.IsInodeCause.{no_inode, other_number}
 use Rattle.h2_inode.specs.Cause.IsSetCause.{no_set, unarranged}

@@ -1,6 +1,5 @@
-use Rattle.std.proofs.Common.{◌∙◌, sym, length, subst}
+use Rattle.std.proofs.Common.{length}
 use Rattle.h2_num.specs.Places.{places}
-use Rattle.h2_inode.specs.Block.{HasCheck}
 use Rattle.h2_inode.specs.CauseLaws.{cause_refuses}
 use Rattle.h2_inode.proofs.Judged.{exactly, cause_found, why_found, check_found, has_it}
 use Rattle.h2_inode.proofs.judging.judge.Goals as goal

@@ -1,4 +1,3 @@
-use Rattle.h2_num.specs.Places.{places}
 use Rattle.h2_inode.specs.Cause.IsInodeCause.{no_inode, other_number}
 use Rattle.h2_inode.proofs.judging.judge_inode.Goals as goal
 
