@@ -1,5 +1,5 @@
 -- The front of references that are a set, one by one.
-use Rattle.std.specs.Prelude.{◌≡◌, ◌⊎◌, ◌<◌, ◌≤◌, ℕ, zero, suc, ◌+◌, ◌^◌, List, [], ◌∷◌, ◌++◌, length, take, slice_index_or, slice_get, All, Some, None, ◌↔◌}
+use Rattle.std.specs.Prelude.{◌≡◌, ◌<◌, ◌≤◌, ℕ, zero, suc, ◌+◌, ◌^◌, List, [], ◌∷◌, ◌++◌, length, take, slice_index_or, None, ◌↔◌}
 use Rattle.std.proofs.Common.{ap, sym, ◌∙◌, refl, arith, inl, inr, subst}
 use Rattle.std.proofs.Math.ListN.{get_or-append}
 use Rattle.std.proofs.Math.Seq.{get_or-append_seam}
@@ -7,23 +7,21 @@ use Rattle.std.proofs.lemmas.Bool.{cases_lt}
 use Rattle.std.proofs.lemmas.List.{append-nil, length-append, ext_get_or, get_or-take, length-take-le}
 use Rattle.h2_num.specs.Places.{Places}
 use Rattle.h2_ref.specs.declared.reference.Kind.TheVariants.{Empty}
-use Rattle.h2_ref.specs.declared.reference.Kind.{Kind}
 use Rattle.h2_ref.specs.declared.reference.Ref.{Ref}
-use Rattle.h2_ref.specs.Ref.{RefBytes, IsValid, empty_ref, kind_number}
+use Rattle.h2_ref.specs.Ref.{RefBytes, IsValid, empty_ref}
 use Rattle.h2_ref.specs.Spelling.{one_value}
 use Rattle.h2_ref.specs.Fault.{first_fault}
 use Rattle.h2_set.specs.declared.set.PutAnswer.{PutAnswer}
 use Rattle.h2_set.specs.declared.set.PutAnswer.TheVariants.{Placed, Full}
 use Rattle.h2_set.specs.Ranges.{Rising, limit, put, IsApart}
-use Rattle.h2_set.specs.LeafLaws.{Rising-le}
 use Rattle.h2_set.specs.RefSet.{RefSet}
 use Rattle.h2_set.specs.SplitLaws.{below_high}
 use Rattle.h2_set.specs.ChangeLaws.{put-append_right}
 use Rattle.h2_inode.specs.declared.set_decoding.SetFault.{SetFault}
 use Rattle.h2_inode.specs.declared.set_decoding.SetFault.TheVariants.{Reference, Shape}
-use Rattle.h2_inode.specs.SetBytes.{slot, IsHeld, SetBytes, IsSetAt, AreRefs, IsFaultOf}
+use Rattle.h2_inode.specs.SetBytes.{slot, IsHeld, IsSetAt, IsFaultOf}
 use Rattle.h2_inode.specs.Valid.{valid_empty, number_zero}
-use Rattle.h2_inode.specs.Front.{Extends, FrontAt, IsFront, StopsAt, EmptyFrom, SomeFrom, IsRestFault}
+use Rattle.h2_inode.specs.Front.{Extends, FrontAt, IsFront, EmptyFrom, SomeFrom, IsRestFault}
 
 -- what holds of each place of a list and of one more
 one_more : (P : ℕ → Ref → Type 0) (xs : List Ref) (r : Ref) → ((i : ℕ) (d : Ref) → i < length xs → P i (slice_index_or xs i d)) → P (length xs) r

@@ -3,3 +3,5 @@ pub mod SetLemmas
 pub mod FieldLemmas
 pub mod Slots
 pub mod Fronts
+pub mod Arrangements
+pub mod Judged

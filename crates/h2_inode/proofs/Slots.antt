@@ -1,9 +1,9 @@
 -- The references at the places of a set.
-use Rattle.std.specs.Prelude.{◌≡◌, ◌⊎◌, ◌↔◌, ◌<◌, ◌≤◌, ℕ, suc, zero, ◌+◌, ◌-◌, ◌*◌, ◌^◌, nat_lt, List, [], ◌∷◌, length, take, drop, slice_index, slice_get, slice_index_or, if◌then◌else◌, Option, Some, None, ◌≢◌}
-use Rattle.std.proofs.Common.{ap, sym, ◌∙◌, refl, arith, inl, inr, subst}
+use Rattle.std.specs.Prelude.{◌≡◌, ◌⊎◌, ◌<◌, ◌≤◌, ℕ, suc, zero, ◌+◌, ◌*◌, ◌^◌, nat_lt, List, [], ◌∷◌, length, take, drop, slice_index, slice_get, slice_index_or, Some, ◌≢◌}
+use Rattle.std.proofs.Common.{ap, sym, ◌∙◌, arith, inl, inr, subst}
 use Rattle.std.proofs.lemmas.Bool.{cases_lt, lt-ltb, le-ltb, cond-true, cond-false}
 use Rattle.std.proofs.lemmas.List.{get_or-take, get_or-drop, get_or_past, length-take, get_or_default}
-use Rattle.std.proofs.lemmas.Option.{none-some, same_Some}
+use Rattle.std.proofs.lemmas.Option.{same_Some}
 use Rattle.std.proofs.Math.Pow.{pow_mono}
 use Rattle.h2_num.specs.Places.{Places, places, Lays}
 use Rattle.h2_ref.specs.declared.reference.Ref.{Ref}

@@ -32,14 +32,18 @@ pub record IsInodeBlock (r : Ref) (b : Places) (i : Inode) : Type 0 where
 abbrev pub Falls : Ref → Ref → Type 0
 Falls r s = s.kind ≡ Indirect → s.keybits < r.keybits
 
--- the block has these references: at least one, all in the range of the one that names the block
+-- what an indirect block may hold: at least one reference, all in the range of the one that names the block
+pub record IsArranged (r : Ref) (refs : List Ref) : Type 0 where
+  pub some : 1 ≤ length refs
+  pub inside : All (λ s. lies r.key r.keybits s ≡ true) refs
+  pub falls : All (Falls r) refs
+
+-- the block has these references, and may hold them
 pub record IsSetBlock (r : Ref) (b : Places) (refs : List Ref) : Type 0 where
   pub kind_is : r.kind ≡ Indirect
   pub check_is : HasCheck r 4096 b
   pub set : IsSetAt 32 refs b
-  pub some : 1 ≤ length refs
-  pub inside : All (λ s. lies r.key r.keybits s ≡ true) refs
-  pub falls : All (Falls r) refs
+  pub arranged : IsArranged r refs
 
 -- the block has a part of a file's contents, of which the reference says nothing more
 pub record IsContentBlock (r : Ref) (b : Places) : Type 0 where
@@ -51,13 +55,17 @@ abbrev pub name_len : Option Dirent → ℕ
 name_len None = 0
 name_len (Some e) = e.len
 
--- the block is that of this name, which may stand under the key
-pub record IsNameBlock (r : Ref) (b : Places) (name : List ℕ) : Type 0 where
-  pub kind_is : r.kind ≡ Entry_kind
-  pub check_is : HasCheck r 1024 b
+-- the bytes are those of this name, which has the entry's length and may stand under the key
+pub record IsNameOf (r : Ref) (b : Places) (name : List ℕ) : Type 0 where
   pub len_is : length name ≡ name_len r.dirent
   pub bytes : NameBytes name b
   pub under : IsNameUnder r.key name
+
+-- the block is that of this name
+pub record IsNameBlock (r : Ref) (b : Places) (name : List ℕ) : Type 0 where
+  pub kind_is : r.kind ≡ Entry_kind
+  pub check_is : HasCheck r 1024 b
+  pub named : IsNameOf r b name
 
 -- by the kind of the reference: its block has the check and is spelled for it
 abbrev pub PassesAs : Kind → Ref → Places → Type 0

@@ -9,3 +9,5 @@ pub mod Inode
 pub mod Fault
 pub mod FaultLaws
 pub mod Block
+pub mod Cause
+pub mod CauseLaws

@@ -1,5 +1,5 @@
 -- Valid references: their ranges, and the one that is empty.
-use Rattle.std.specs.Prelude.{◌≡◌, ◌⊎◌, ◌<◌, ◌≤◌, ℕ, zero, suc, ◌+◌, ◌*◌, ◌/◌, ◌%◌, ◌-◌, ◌^◌, Option, Some, None, refl}
+use Rattle.std.specs.Prelude.{◌≡◌, ◌<◌, ◌≤◌, ℕ, zero, suc, ◌+◌, ◌%◌, ◌^◌, Option, Some, None, refl}
 use Rattle.std.proofs.Common.{ap, sym, ◌∙◌, arith, inl, inr, subst}
 use Rattle.std.proofs.Math.Nat.{mod_self}
 use Rattle.h2_ref.specs.declared.reference.Kind.{Kind}
@@ -9,7 +9,7 @@ use Rattle.h2_ref.specs.declared.reference.Check.TheVariants.{Nothing, Crc, Xx}
 use Rattle.h2_ref.specs.declared.reference.Dirent.{Dirent}
 use Rattle.h2_ref.specs.declared.reference.Ref.{Ref}
 use Rattle.h2_ref.specs.declared.table.Row.{Row}
-use Rattle.h2_ref.specs.Table.{row_of, empty_row, block_row, map_row, inline_row, name_row}
+use Rattle.h2_ref.specs.Table.{row_of, empty_row}
 use Rattle.h2_ref.specs.Ref.{IsValid, FitsRow, empty_ref, kind_number, method_number, EntryFits}
 use Rattle.h2_ref.specs.Fault.{kind_of}
 use Rattle.h2_ref.specs.FaultLaws.{kind_back}

@@ -7,6 +7,7 @@
 //! `specs/Block`).
 #![tactic(auto)]
 
+mod arrangement;
 mod block_check;
 mod contents;
 mod decoding;
@@ -14,6 +15,7 @@ mod encoding;
 mod fault;
 mod head;
 mod inode;
+mod judging;
 mod kind;
 mod laws;
 mod layout;
@@ -27,8 +29,9 @@ pub use decoding::decode_inode;
 pub use encoding::encode_inode;
 pub use fault::InodeFault;
 pub use inode::{Body, Inode};
+pub use judging::judge;
 pub use kind::InodeKind;
-pub use laws::refusal_law;
+pub use laws::{cause_law, refusal_law};
 pub use layout::INODE_BYTES;
 pub use pfs_name::PfsName;
 

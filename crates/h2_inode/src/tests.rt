@@ -1,3 +1,5 @@
+mod judging;
+
 use super::*;
 use h2_ref::{Check, Kind, RefFault};
 use std::test::Fail;

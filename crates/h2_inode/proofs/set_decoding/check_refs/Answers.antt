@@ -1,4 +1,4 @@
-use Rattle.std.proofs.Common.{◌≡◌, ℕ, None, below_more}
+use Rattle.std.proofs.Common.{◌≡◌, None, below_more}
 use Rattle.h2_num.specs.Places.{places}
 use Rattle.h2_ref.specs.Fault.{first_fault}
 use Rattle.h2_inode.specs.SetBytes.{slot}

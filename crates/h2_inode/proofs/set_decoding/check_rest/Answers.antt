@@ -1,8 +1,7 @@
-use Rattle.std.proofs.Common.{◌≡◌, ◌<◌, ℕ, None, below_more, arith, inl, inr}
+use Rattle.std.proofs.Common.{◌≡◌, None, below_more, arith, inl, inr}
 use Rattle.std.proofs.lemmas.Bool.{cases_lt}
 use Rattle.h2_num.specs.Places.{places}
 use Rattle.h2_ref.specs.Fault.{first_fault}
-use Rattle.h2_ref.specs.Ref.{RefBytes, empty_ref}
 use Rattle.h2_inode.specs.SetBytes.{slot}
 use Rattle.h2_inode.proofs.Fronts.{nothing_there}
 use Rattle.h2_inode.proofs.set_decoding.check_rest.Goals as goal

@@ -1,4 +1,3 @@
-use Rattle.std.proofs.Common.{arith}
 use Rattle.h2_num.specs.Places.{places}
 use Rattle.h2_inode.specs.Valid.{valid_limit}
 use Rattle.h2_inode.proofs.Fronts.{apart_last, front_step}

@@ -1,4 +1,4 @@
-use Rattle.std.proofs.Common.{◌^◌, ◌-◌, suc, length, arith}
+use Rattle.std.proofs.Common.{◌^◌, ◌-◌, arith}
 use Rattle.h2_set.specs.SplitLaws.{below_high}
 use Rattle.h2_inode.proofs.Slots.{rising_to}
 use Rattle.h2_inode.proofs.set_decoding.may_follow.Goals as goal

@@ -1,4 +1,3 @@
-use Rattle.std.proofs.Common.{◌≡◌, ◌*◌, length}
 use Rattle.h2_num.specs.Places.{places}
 use Rattle.h2_inode.specs.Front.{AreWritten}
 use Rattle.h2_inode.proofs.set_encoding.encode_set.Given as goal
