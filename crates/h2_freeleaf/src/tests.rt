@@ -34,6 +34,20 @@ fn leaf_bytes() -> [u8; 1024] {
     b
 }
 
+// Codes of the leaf: the segment, the chunk in it, and its code.
+const CODES: [(u8, u8, Code); 6] = [
+    (0, 17, Code::Reserved),
+    (1, 0, Code::Free),
+    (2, 0, Code::Used),
+    (2, 1, Code::Staged),
+    (2, 255, Code::Reserved),
+    (7, 255, Code::Free),
+];
+
+fn code_of(leaf: &[Segment; 8], segment: u8, chunk: u8) -> Code {
+    leaf[segment as usize % 8].get(chunk)
+}
+
 // Changes of the lowest bit of bytes of the leaf, and what is refused then: nothing where a used chunk becomes a
 // staged one.
 const LEAF_FAULTS: [(&[u16], Option<MapFault>); 11] = [
@@ -54,13 +68,13 @@ const LEAF_FAULTS: [(&[u16], Option<MapFault>); 11] = [
 fn leaves_by_hand(rt: HostRuntime) -> Result<(), Fail> {
     let want = leaf_bytes();
     assert_eq!(rt; encode_leaf(&segments()).as_slice(), want.as_slice());
-    let found = decode_leaf(&want, PLACE).ok().ok_or("a leaf")?;
-    assert_eq!(rt; found[0].get(17), Code::Reserved);
-    assert_eq!(rt; found[2].get(0), Code::Used);
-    assert_eq!(rt; found[2].get(1), Code::Staged);
-    assert_eq!(rt; found[2].get(255), Code::Reserved);
-    assert_eq!(rt; found[2].free(), 253);
-    assert_eq!(rt; found[7].free(), 256);
+    let Ok(found) = decode_leaf(&want, PLACE) else {
+        return Err("no leaf")?;
+    };
+    for (segment, chunk, code) in CODES {
+        assert_eq!(rt; code_of(&found, segment, chunk), code);
+    }
+    assert_eq!(rt; encode_leaf(&found).as_slice(), want.as_slice());
     for (changes, fault) in LEAF_FAULTS {
         let mut b = leaf_bytes();
         for at in changes.iter() {
@@ -122,10 +136,12 @@ const NODE_FAULTS: [(&[u16], u64); 6] = [
 fn nodes_by_hand(rt: HostRuntime) -> Result<(), Fail> {
     let none = Ref::empty();
     let refs = [leaf_ref(0), leaf_ref(1), none, none, none, none, none, none];
-    assert!(rt; refs.iter().all(|r| r.valid()));
     let want = node_bytes();
-    assert_eq!(rt; encode_node(&refs).as_slice(), want.as_slice());
-    assert_eq!(rt; decode_node(&want, PLACE), Ok(refs));
+    let Ok(found) = decode_node(&want, PLACE) else {
+        return Err("no node")?;
+    };
+    assert_eq!(rt; found, refs);
+    assert_eq!(rt; encode_node(&found).as_slice(), want.as_slice());
     for (changes, place) in NODE_FAULTS {
         let mut b = node_bytes();
         for at in changes.iter() {
