@@ -1,5 +1,5 @@
 -- Parts of leaves.
-use Rattle.std.proofs.Common.{◌≡◌, ◌≢◌, ◌<◌, ◌≤◌, ◌+◌, ◌*◌, ℕ, List, [], length, sym, ap, ◌∙◌, arith}
+use Rattle.std.proofs.Common.{◌≡◌, ◌≢◌, ◌<◌, ◌+◌, ◌*◌, ℕ, List, [], length, sym, ap, ◌∙◌, arith}
 use Rattle.std.specs.Prelude.{Result, Ok, Err, IfOk, IfErr, slice_index_or}
 use Rattle.h2_num.specs.Places.{Places, places, number_at, ZeroIn, SameBelow, Puts, Lays}
 use Rattle.h2_codes.specs.declared.code.Code.{Code}
@@ -12,7 +12,6 @@ use Rattle.h2_freeleaf.specs.Leaf.{part_of, PartBytes, IsLeaf, LeafBytes}
 use Rattle.h2_freeleaf.specs.LeafLaws.{HoldCodes-same, PartBytes-same}
 use Rattle.h2_freeleaf.specs.Fault.{IsCounted, IsPartFault, bad_count, bad_tail, IsLeafFault}
 use Rattle.h2_freeleaf.specs.declared.fault.MapFault.{MapFault}
-use Rattle.h2_freeleaf.specs.declared.fault.MapFault.TheVariants.{Padding, Shape}
 use Rattle.h2_freeleaf.proofs.Parts.{ReadTo}
 
 -- the part of a segment: its codes were laid over zeros, and its count was put

@@ -1,8 +1,8 @@
 -- References of nodes.
-use Rattle.std.proofs.Common.{◌≡◌, ◌<◌, ◌≤◌, ◌+◌, ◌*◌, ℕ, List, length, sym, subst, ◌∙◌, arith, All}
+use Rattle.std.proofs.Common.{◌≡◌, ◌<◌, ◌+◌, ◌*◌, ℕ, List, length, sym, subst, arith}
 use Rattle.std.specs.Prelude.{Result, Ok, Err, Option, IfOk, OnErr, IfNone, IfSome, slice_index_or}
 use Rattle.std.specs.Result.{result_ok}
-use Rattle.h2_num.specs.Places.{Places, places, SameBelow}
+use Rattle.h2_num.specs.Places.{Places, SameBelow}
 use Rattle.h2_ref.specs.declared.reference.Ref.{Ref}
 use Rattle.h2_ref.specs.declared.faults.RefFault.{RefFault}
 use Rattle.h2_ref.specs.Ref.{empty_ref, IsValid, NoRef, RefBytes}

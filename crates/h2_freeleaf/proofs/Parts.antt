@@ -1,11 +1,11 @@
 -- The eight parts of a block, put and read one after the other.
-use Rattle.std.proofs.Common.{◌≡◌, ◌≢◌, ◌<◌, ◌≤◌, ◌+◌, ◌*◌, ◌-◌, ℕ, List, length, drop, take, refl, sym, ap, subst, ◌∙◌, arith, inl, inr, get_or-set_other, get_or-set_same, length-set}
+use Rattle.std.proofs.Common.{◌≡◌, ◌≢◌, ◌<◌, ◌≤◌, ◌+◌, ◌*◌, ℕ, List, length, drop, take, sym, ap, ◌∙◌, arith, inl, inr, get_or-set_other, get_or-set_same, length-set}
 use Rattle.std.specs.Prelude.{slice_index, slice_index_or, slice_set}
 use Rattle.std.specs.List.{AllWithin}
 use Rattle.std.proofs.lemmas.Bool.{cases_lt}
 use Rattle.std.specs.Array.{IsFirstChunk}
 use Rattle.std.proofs.lemmas.List.{get_or-take, get_or-drop}
-use Rattle.h2_num.specs.Places.{Places, places, from_place, SameBelow, SameOutside, Holds, Lays}
+use Rattle.h2_num.specs.Places.{Places, places, from_place, SameBelow, SameOutside, Lays}
 use Rattle.h2_freeleaf.specs.Leaf.{part_of}
 
 -- the first bytes of a list

@@ -1,19 +1,17 @@
 -- A block that meets a refusal of leaves is no leaf, one that meets a refusal of nodes is no node, and it meets one refusal
 -- of each at most.
-use Rattle.std.specs.Prelude.{◌≡◌, ◌≢◌, ◌<◌, ◌≤◌, ℕ, ◌+◌, ◌*◌, List, [], length, slice_index_or, refl}
+use Rattle.std.specs.Prelude.{◌≡◌, ◌<◌, ℕ, ◌+◌, ◌*◌, List, [], length, slice_index_or, refl}
 use Rattle.std.proofs.Common.{ap, sym, ◌∙◌, subst, arith, inl, inr}
 use Rattle.std.proofs.lemmas.Bool.{cases_lt}
-use Rattle.h2_num.specs.Places.{Places, ZeroIn}
+use Rattle.h2_num.specs.Places.{Places}
 use Rattle.h2_codes.specs.declared.code.Code.{Code}
-use Rattle.h2_codes.specs.Codes.{IsSegment}
-use Rattle.h2_ref.specs.declared.reference.Ref.{Ref}
 use Rattle.h2_ref.specs.Ref.{empty_ref, NoRef}
 use Rattle.h2_ref.specs.FaultLaws.{IsSpelled}
-use Rattle.h2_freeleaf.specs.Leaf.{part_of, PartBytes, IsLeaf, LeafBytes, NoLeaf}
-use Rattle.h2_freeleaf.specs.Node.{IsNode, NodeBytes, NoNode}
-use Rattle.h2_freeleaf.specs.Fault.{IsCounted, IsPart, IsPartFault, bad_count, bad_tail, IsLeafFault, IsNodeFault}
+use Rattle.h2_freeleaf.specs.Leaf.{part_of, IsLeaf, LeafBytes, NoLeaf}
+use Rattle.h2_freeleaf.specs.Node.{NoNode}
+use Rattle.h2_freeleaf.specs.Fault.{IsPart, IsPartFault, bad_count, bad_tail, IsLeafFault, IsNodeFault}
 use Rattle.h2_freeleaf.specs.declared.fault.MapFault.{MapFault}
-use Rattle.h2_freeleaf.specs.declared.fault.MapFault.TheVariants.{Padding, Shape, Reference}
+use Rattle.h2_freeleaf.specs.declared.fault.MapFault.TheVariants.{Padding, Reference}
 
 -- a part that meets a refusal spells no segment
 pub part_fault-none : (at : ℕ) (b : Places) (f : MapFault) → IsPartFault at b f → IsPart b → ⊥

@@ -1,5 +1,5 @@
 -- The bytes of a leaf of the freemap, which stands for a zone.
-use Rattle.std.specs.Prelude.{◌≡◌, ◌<◌, ℕ, ◌+◌, ◌*◌, List, length, slice_index_or, All}
+use Rattle.std.specs.Prelude.{◌≡◌, ◌<◌, ℕ, ◌*◌, List, length, slice_index_or, All}
 use Rattle.h2_num.specs.Places.{Places, number_at, from_place, ZeroIn}
 use Rattle.h2_codes.specs.declared.code.Code.{Code}
 use Rattle.h2_codes.specs.declared.code.Code.TheVariants.{Free}

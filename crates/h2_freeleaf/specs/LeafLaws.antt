@@ -1,9 +1,9 @@
 -- A leaf is seen by its 1024 places alone; it has one spelling, and bytes spell one leaf at most.
-use Rattle.std.specs.Prelude.{◌≡◌, ◌<◌, ◌≤◌, ℕ, ◌+◌, ◌*◌, ◌-◌, ◌/◌, ◌%◌, ◌^◌, List, [], length, slice_index_or}
+use Rattle.std.specs.Prelude.{◌≡◌, ◌<◌, ℕ, ◌+◌, ◌*◌, ◌/◌, ◌%◌, ◌^◌, List, [], length, slice_index_or}
 use Rattle.std.proofs.Common.{ap, sym, ◌∙◌, arith, inl, inr}
 use Rattle.std.proofs.lemmas.Bool.{cases_lt}
 use Rattle.std.proofs.lemmas.List.{ext_get_or}
-use Rattle.h2_num.specs.Places.{Places, AreBytes, SameBelow, from_place}
+use Rattle.h2_num.specs.Places.{Places, AreBytes, SameBelow}
 use Rattle.h2_num.specs.PlaceLaws.{number_same, zeros_same, number_bytes, zero_bytes}
 use Rattle.h2_codes.specs.declared.code.Code.{Code}
 use Rattle.h2_codes.specs.Layout.{HoldCodes}

@@ -1,5 +1,5 @@
 -- A node is seen by its 1024 places alone; it has one spelling, and bytes spell one node at most.
-use Rattle.std.specs.Prelude.{◌≡◌, ◌<◌, ℕ, ◌*◌, List, length}
+use Rattle.std.specs.Prelude.{◌≡◌, List, length}
 use Rattle.std.proofs.Common.{sym, ◌∙◌, arith}
 use Rattle.h2_num.specs.Places.{Places, AreBytes, SameBelow}
 use Rattle.h2_ref.specs.declared.reference.Ref.{Ref}

@@ -1,4 +1,4 @@
-use Rattle.std.proofs.Common.{◌≡◌, ◌≢◌, sym, ◌∙◌, arith, rules}
+use Rattle.std.proofs.Common.{◌≡◌, ◌≢◌, arith, rules}
 use Rattle.h2_num.specs.Places.{places, number_at}
 use Rattle.h2_codes.specs.declared.code.Code.TheVariants.{Free}
 use Rattle.h2_codes.specs.Codes.{count_of}

@@ -1,4 +1,4 @@
-use Rattle.std.proofs.Common.{◌-◌, ◌*◌, length, arith}
+use Rattle.std.proofs.Common.{◌-◌, ◌*◌, arith}
 use Rattle.h2_freeleaf.proofs.Parts.{part_same}
 use Rattle.h2_freeleaf.proofs.part.part_of.Goals as goal
 
