@@ -1,0 +1,18 @@
+use Rattle.std.proofs.Common.{◌≡◌, ◌<◌, length, arith, rules}
+use Rattle.std.proofs.lemmas.List.{get_or_default}
+use Rattle.h2_num.specs.Places.{places}
+use Rattle.h2_ref.specs.Ref.{RefBytes}
+use Rattle.h2_ref.specs.RefLaws.{RefBytes-same}
+use Rattle.h2_freeleaf.proofs.Parts.{put_more}
+use Rattle.h2_freeleaf.proofs.node.encode_node.Goals as goal
+
+pub loop-i-preserved : goal.loop-i-preserved
+loop-i-preserved c =
+    let len : length c.args.r.now ≡ 8 = search rules in
+    let below : c.loop-i.i < 8 = c.loop-i-test.true in
+    let inside : c.loop-i.i < length c.args.r.now = omega (arith, len, below) in
+    record {
+      size = search rules;
+      bytes = put_more RefBytes RefBytes-same c.args.r.now _ c.loop-i.i (places c.loop-i.out) (places c.put_ref.new.out) (λ d. get_or_default c.args.r.now c.loop-i.i d _ inside)
+          c.loop-i.invariant.bytes c.put_ref.ensures.bytes c.put_ref.ensures.others;
+    }

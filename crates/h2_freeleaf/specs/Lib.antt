@@ -1,0 +1,6 @@
+pub mod Leaf
+pub mod Node
+pub mod Fault
+pub mod LeafLaws
+pub mod NodeLaws
+pub mod FaultLaws

@@ -1,0 +1,41 @@
+ghost use Rattle.std.specs.Prelude.{◌≡◌, ℕ, List};
+ghost use Rattle.h2_num.specs.Places.{Places, AreBytes, SameBelow};
+ghost use Rattle.h2_codes.specs.declared.code.Code.{Code};
+ghost use Rattle.h2_ref.specs.declared.reference.Ref.{Ref};
+ghost use Rattle.h2_freeleaf.specs.Leaf.{IsLeaf, LeafBytes, NoLeaf};
+ghost use Rattle.h2_freeleaf.specs.Node.{IsNode, NodeBytes, NoNode};
+ghost use Rattle.h2_freeleaf.specs.Fault.{IsLeafFault, IsNodeFault};
+ghost use Rattle.h2_freeleaf.specs.declared.fault.MapFault.{MapFault};
+
+use h2_codes::layout_law;
+
+/// A law: a leaf has one spelling, bytes spell one leaf at most, and which one is seen by their first 1024 alone.
+pub fn leaf_law()
+    ensures one_spelling { (leaf : List (List Code)) (a b : Places) → AreBytes a → AreBytes b → IsLeaf leaf
+        → LeafBytes leaf a → LeafBytes leaf b → SameBelow 1024 a b }
+    ensures one_value { (x y : List (List Code)) (b : Places) → IsLeaf x → IsLeaf y
+        → LeafBytes x b → LeafBytes y b → y ≡ x }
+    ensures local { (leaf : List (List Code)) (a b : Places) → IsLeaf leaf → SameBelow 1024 a b
+        → LeafBytes leaf a → LeafBytes leaf b }
+{
+    layout_law();
+}
+
+/// A law: a node has one spelling, bytes spell one node at most, and which one is seen by their first 1024 alone.
+pub fn node_law()
+    ensures one_spelling { (node : List Ref) (a b : Places) → AreBytes a → AreBytes b → IsNode node
+        → NodeBytes node a → NodeBytes node b → SameBelow 1024 a b }
+    ensures one_value { (x y : List Ref) (b : Places) → IsNode x → IsNode y
+        → NodeBytes x b → NodeBytes y b → y ≡ x }
+    ensures local { (node : List Ref) (a b : Places) → IsNode node → SameBelow 1024 a b
+        → NodeBytes node a → NodeBytes node b }
+{}
+
+/// A law: bytes that meet a refusal of leaves spell no leaf, and those that meet one of nodes no node; they meet
+/// one refusal of each at most.
+pub fn refusal_law()
+    ensures no_leaf { (at : ℕ) (b : Places) (f : MapFault) → IsLeafFault at b f → NoLeaf b }
+    ensures one_of_leaf { (at : ℕ) (b : Places) (f g : MapFault) → IsLeafFault at b f → IsLeafFault at b g → g ≡ f }
+    ensures no_node { (at : ℕ) (b : Places) (f : MapFault) → IsNodeFault at b f → NoNode b }
+    ensures one_of_node { (at : ℕ) (b : Places) (f g : MapFault) → IsNodeFault at b f → IsNodeFault at b g → g ≡ f }
+{}

@@ -1,0 +1,23 @@
+//! The blocks of the freemap on disk: leaves and nodes, of 1 KiB each.
+//!
+//! A leaf has the codes of the eight segments of a zone, and a node the references of eight blocks below it.
+//! Their bytes are relations with a clause for each field and each gap between (`specs/Leaf`, `specs/Node`). A
+//! leaf or node has one spelling, and bytes spell one at most (`specs/LeafLaws`, `specs/NodeLaws`). Bytes that
+//! spell none meet a first refusal, which is defined by the bytes (`specs/Fault`). No call takes memory.
+#![tactic(auto)]
+
+mod fault;
+mod laws;
+mod layout;
+mod leaf;
+mod node;
+mod part;
+
+pub use fault::MapFault;
+pub use laws::{leaf_law, node_law, refusal_law};
+pub use layout::{LEAF_SEGMENTS, MAP_BYTES, NODE_REFS};
+pub use leaf::{decode_leaf, encode_leaf};
+pub use node::{decode_node, encode_node};
+
+#[cfg(test)]
+mod tests;
