@@ -1,6 +1,7 @@
 pub mod DecimalNumber
 pub mod CommandLine
 pub mod CommandLineLaws
+pub mod Taking
 pub mod Planning
 pub mod Formatting
 pub mod Status

@@ -13,7 +13,7 @@ use h2_check::{crc32c, xxh64};
 use h2_checkpoint::Piece;
 use h2_geom::{ZONE_BYTES, leaf_place};
 use h2_header::Header;
-use h2_num::{Bytes, NoMemory};
+use h2_num::{Block, Bytes, NoMemory};
 use h2_ref::{Check, Kind, Ref};
 use std::alloc::Global;
 
@@ -23,8 +23,8 @@ const ZONE_BITS: u8 = 25;
 // The copy of the freemap that the first checkpoint writes.
 const FIRST_COPY: u32 = 0;
 
-// The base-2 logarithm of the bytes of a block of an inode or a leaf.
-const SMALL_RADIX: u8 = 10;
+// The base-2 logarithm of the bytes of a leaf.
+const LEAF_RADIX: u8 = 10;
 
 /// What formatting writes: the blocks in order, and then the header.
 #[derive(Drop)]
@@ -35,16 +35,17 @@ pub struct Plan {
     pub header: Header,
 }
 
-// The reference to the inode with number or id 1 whose block stands at a place.
-fn make_inode_ref(place: u64, block: &[u8; SMALL_BLOCK_BYTES]) -> Ref
-    ensures { result ≡ inode_ref place (places block.now) }
+// The reference to the inode with number or id 1 whose bytes stand in a block of 1 KiB.
+fn make_inode_ref(at: Block, block: &[u8; SMALL_BLOCK_BYTES]) -> Ref
+    requires { at.radix ≡ 10 }
+    ensures { result ≡ inode_ref at.place (places block.now) }
 {
     Ref {
         kind: Kind::Inode,
         key: 1,
         keybits: 0,
-        place,
-        radix: SMALL_RADIX,
+        place: at.place,
+        radix: at.radix,
         id: 1,
         check: Check::Xx(xxh64(block)),
         dirent: None,
@@ -62,7 +63,7 @@ fn make_leaf_ref(zone: u32, block: &[u8; SMALL_BLOCK_BYTES]) -> Ref
         key: ZONE_BYTES * zone as u64,
         keybits: ZONE_BITS,
         place: leaf_place(zone, FIRST_COPY),
-        radix: SMALL_RADIX,
+        radix: LEAF_RADIX,
         id: 1,
         check: Check::Crc(crc32c(block)),
         dirent: None,
@@ -91,17 +92,19 @@ fn plan_inodes(
 ) -> Result<Ref, NoMemory>
     requires none { pieces.old.items ≡ [] }
     requires directory { blocks.now.directory.place ≡ directory_place }
+    requires directory_radix { blocks.now.directory.radix ≡ 10 }
     requires pfs { blocks.now.pfs.place ≡ pfs_place }
+    requires pfs_radix { blocks.now.pfs.radix ≡ 10 }
     ensures count { OnOk result (length pieces.new.items ≡ 2) }
     ensures inodes { OnOk result (HasInodes pieces.new.items) }
     ensures pfs { IfOk result (λ r. r ≡ inode_ref pfs_place (block_at pieces.new.items 1)) }
 {
     let directory = root_directory_block();
-    let directory_ref = make_inode_ref(blocks.directory.place, &directory);
+    let directory_ref = make_inode_ref(blocks.directory, &directory);
     let pfs = root_pfs_block(&directory_ref);
     push_block(alloc, pieces, blocks.directory.place, &directory)?;
     push_block(alloc, pieces, blocks.pfs.place, &pfs)?;
-    Ok(make_inode_ref(blocks.pfs.place, &pfs))
+    Ok(make_inode_ref(blocks.pfs, &pfs))
 }
 
 // The piece of the leaf of a zone, and the reference to it.

@@ -10,7 +10,7 @@ use Rattle.h2_freemap.specs.declared.cursor.Cursor.{Cursor}
 use Rattle.h2_freemap.specs.Space.{Space, code_of}
 use Rattle.h2_freemap.specs.Free.{free_of}
 use Rattle.h2_freemap.specs.Taking.{HasNoRoom, GoesTo, at_cursor, at_lowest, Takes}
-use Rattle.h2_freemap.specs.Need.{blocks_left, small_chunks, middle_chunks, need_of, need_of_one, need_of_all, small_of, middle_of, whole_of, NeedIsUsed, NeedIsEnough, NeedGrows, NeedIsAtMost, TakesOnlyUse}
+use Rattle.h2_freemap.specs.Need.{blocks_left, small_chunks, middle_chunks, need_of, need_of_one, need_of_all, small_of, middle_of, whole_of, NeedIsUsed, NeedIsEnough, NeedGrows, NeedIsAtMost, TakesOnlyUse, TakesAll, NeedSplits}
 use Rattle.h2_freemap.proofs.Taken.{cost, taken_free, taken_in_use}
 
 -- a block at the cursor is one less that has room
@@ -105,3 +105,11 @@ need_grows small middle whole more_small more_middle more_whole x s m w = omega 
 
 pub need_is_at_most : NeedIsAtMost
 need_is_at_most small middle whole x = omega arith
+
+pub need_splits : NeedSplits
+need_splits [] after x y e = let same : need_of_all after x ≡ need_of_all after y = ap (need_of_all after) e in omega arith
+need_splits (first ∷ before) after x y (u, b, t, rest) =
+    let all : need_of_all (first ∷ (before ++ after)) x ≡ cost t.goes_to + need_of_all (before ++ after) u = need_step (before ++ after) first x u b t in
+    let own : need_of_all (first ∷ before) x ≡ cost t.goes_to + need_of_all before u = need_step before first x u b t in
+    let others : need_of_all (before ++ after) u ≡ need_of_all before u + need_of_all after y = need_splits before after u y rest in
+    omega arith

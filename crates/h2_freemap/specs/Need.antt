@@ -86,3 +86,7 @@ NeedGrows = (small middle whole more_small more_middle more_whole : ℕ) (x : Sp
 -- Whatever the cursors, blocks need no more chunks than they fill alone.
 abbrev pub NeedIsAtMost : Type 0
 NeedIsAtMost = (small middle whole : ℕ) (x : Space) → need_of small middle whole x ≤ small_chunks small + middle_chunks middle + whole
+
+-- After some blocks were taken, the need of all is what those used and what the others need now.
+abbrev pub NeedSplits : Type 0
+NeedSplits = (before after : List Size) (x y : Space) → TakesAll before x y → need_of_all (before ++ after) x ≡ need_of_all before x + need_of_all after y

@@ -62,6 +62,7 @@ impl Freemap {
         requires count { length segments.items ≡ segments_of geometry }
         ensures { IfOk result (λ map. IsOpened geometry segments.items map) }
     {
+        // A geometry is used, so that the proof learns what holds of each: 4 to 512 zones.
         let _ = geometry.zones();
         let free = count_free(&segments);
         Ok(Freemap {

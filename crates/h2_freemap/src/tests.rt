@@ -64,6 +64,15 @@ fn pin(map: &mut Freemap, block: Block) -> Option<()> {
     Some(())
 }
 
+// Ends the pin of a block, where it is pinned.
+fn unpin(map: &mut Freemap, block: Block) -> Option<()> {
+    if !map.pins().contains(&block) {
+        return None;
+    }
+    map.unpin(block);
+    Some(())
+}
+
 #[test]
 fn a_fresh_map_of_four_zones(rt: HostRuntime) -> Result<(), Fail> {
     let alloc = rt.alloc();
@@ -79,12 +88,22 @@ fn a_fresh_map_of_four_zones(rt: HostRuntime) -> Result<(), Fail> {
     assert_eq!(rt; code(&map, 256), Some(Code::Used));
     assert_eq!(rt; apply(&mut map, 1, &unseen), Some((1, 2)));
     assert_eq!(rt; take(&mut map, Size::Middle), Some(4_210_688));
-    let block = Block {
+    assert_eq!(rt; code(&map, 256), Some(Code::Staged));
+    assert_eq!(rt; code(&map, 257), Some(Code::Used));
+    assert_eq!(rt; code(&map, 258), Some(Code::Free));
+    let small = Block {
+        place: 4_194_304,
+        radix: 10,
+    };
+    let middle = Block {
         place: 4_210_688,
         radix: 12,
     };
-    pin(&mut map, block).ok_or("memory")?;
-    assert_eq!(rt; map.pins(), [block].as_slice());
+    pin(&mut map, small).ok_or("memory")?;
+    pin(&mut map, middle).ok_or("memory")?;
+    assert_eq!(rt; map.pins(), [small, middle].as_slice());
+    unpin(&mut map, small).ok_or("no such pin")?;
+    assert_eq!(rt; map.pins(), [middle].as_slice());
     let map = reopen(alloc, &map).ok_or("memory")?;
     assert_eq!(rt; map.free(), 7166);
     Ok(())

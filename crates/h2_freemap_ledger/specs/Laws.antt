@@ -6,7 +6,7 @@ use Rattle.h2_freemap.specs.declared.size.Size.{Size}
 use Rattle.h2_freemap.specs.Space.{Space, code_of}
 use Rattle.h2_freemap.specs.Free.{free_of}
 use Rattle.h2_freemap.specs.Taking.{Takes}
-use Rattle.h2_freemap.specs.Need.{need_of_one, need_of_all, TakesAll, HasCursorsInUse}
+use Rattle.h2_freemap.specs.Need.{need_of_one, need_of_all, TakesAll}
 use Rattle.h2_freemap.specs.Pins.{is_in_use}
 use Rattle.h2_freemap.specs.Pins as pinning
 use Rattle.h2_freemap.specs.Sweeping.{Sweeps}
@@ -42,7 +42,8 @@ ApplyMoves {Set} has = (number segment : ℕ) (seen : List Bool) (s t : Space) (
 abbrev pub PaidIsFree : {Set : Type 0} → (Block → Set → Type 0) → Type 0
 PaidIsFree {Set} has = (s : Space) (n : ℕ) (x y : Ledger Set) → IsSound has x → HasSpace has s x → PaysFor has n x y → n ≤ free_of s
 
--- What a command has reserved for blocks pays for each of them at its turn: the need of those before it and its own are within the need of all.
+-- What a command has reserved for blocks that are taken one after another, with nothing in between, pays for each of
+-- them at its turn: the need of those before it and its own are within the need of all.
 abbrev pub ReservationPays : Type 0
-ReservationPays = (before : List Size) (size : Size) (after : List Size) (s u v : Space) (b : Block) → HasCursorsInUse s → TakesAll before s u → Takes size u v b
+ReservationPays = (before : List Size) (size : Size) (after : List Size) (s u : Space) → TakesAll before s u
     → need_of_all before s + need_of_one size u ≤ need_of_all (before ++ size ∷ after) s

@@ -16,7 +16,7 @@ use Rattle.h2_freemap.specs.Free as counting
 use Rattle.h2_freemap.specs.Free.{free_of, IsLowestFree}
 use Rattle.h2_freemap.specs.Taking as taking
 use Rattle.h2_freemap.specs.Taking.{bytes_of, HasRoom, HasNoRoom, GoesTo, at_cursor, at_lowest, cursor_behind, Takes}
-use Rattle.h2_freemap.specs.Need.{blocks_left, need_of, need_of_one, need_of_all, small_of, middle_of, whole_of, TakesAll, HasCursorsInUse, NeedIsUsed}
+use Rattle.h2_freemap.specs.Need.{blocks_left, need_of, need_of_one, need_of_all, small_of, middle_of, whole_of, NeedSplits}
 use Rattle.h2_freemap.specs.Pins.{is_in_use}
 use Rattle.h2_freemap.specs.Sweeping.{unless_free, kept_cursor}
 use Rattle.h2_ledger.specs.declared.cursor.SharedSize.{SharedSize}
@@ -340,86 +340,13 @@ module _ {Set : Type 0} (◌∈◌ : Block → Set → Type 0) where
 
 -- What a reservation pays for
 
-takes_after : (before more : List Size) (s u v : Space) → TakesAll before s u → TakesAll more u v → TakesAll (before ++ more) s v
-takes_after [] more s u v e m = subst (λ (z : Space). TakesAll more z v) (sym e) m
-takes_after (z ∷ before) more s u v (w, b, m, rest) then = (w, b, m, takes_after before more w u v rest then)
+need_first : (size : Size) (after : List Size) (u : Space) → need_of_one size u ≤ need_of_all (size ∷ after) u
+need_first sizes.Small after u = omega arith
+need_first sizes.Middle after u = omega arith
+need_first sizes.Whole after u = omega arith
 
-same_size : (j k : Size) → (j ≡ k) ⊎ (j ≢ k)
-same_size sizes.Small sizes.Small = inl refl
-same_size sizes.Small sizes.Middle = inr (λ e. cc)
-same_size sizes.Small sizes.Whole = inr (λ e. cc)
-same_size sizes.Middle sizes.Small = inr (λ e. cc)
-same_size sizes.Middle sizes.Middle = inl refl
-same_size sizes.Middle sizes.Whole = inr (λ e. cc)
-same_size sizes.Whole sizes.Small = inr (λ e. cc)
-same_size sizes.Whole sizes.Middle = inr (λ e. cc)
-same_size sizes.Whole sizes.Whole = inl refl
-
--- where a block was taken no cursor lies in a free chunk
-in_use_after : (z : Size) (s t : Space) (b : Block) → HasCursorsInUse s → Takes z s t b → HasCursorsInUse t
-in_use_after z s t b in_use m = λ j at e free. split j at e free (same_size j z)
-  where
-    -- the code of a chunk that isn't free stays so
-    still : (c : ℕ) → code_of s c ≢ Free → code_of t c ≢ Free
-    still c ne free = split (cases_eq c m.at.chunk)
-      where
-        split : (c ≡ m.at.chunk) ⊎ (c ≡ m.at.chunk → ⊥) → ⊥
-        split (inl here) = let now : code_of t c ≡ Used = ap (code_of t) here ∙ m.code.changed in cc
-        split (inr elsewhere) = ne (sym (m.code.others c elsewhere) ∙ free)
-
-    behind_at : (k : Size) (at : map.Cursor) → cursor_behind k m.at ≡ Some at → m.at.chunk ≡ at.chunk
-    behind_at sizes.Small at e = let is : record { chunk = m.at.chunk; used = m.at.used + 1024 } ≡ at = cc in ap (λ (c : map.Cursor). c.chunk) is
-    behind_at sizes.Middle at e = let is : record { chunk = m.at.chunk; used = m.at.used + 4096 } ≡ at = cc in ap (λ (c : map.Cursor). c.chunk) is
-    behind_at sizes.Whole at e = cc
-
-    split : (j : Size) (at : map.Cursor) → cursor_of t j ≡ Some at → code_of t at.chunk ≡ Free → (j ≡ z) ⊎ (j ≢ z) → ⊥
-    split j at e free (inl same) =
-        let here : m.at.chunk ≡ at.chunk = behind_at z at (sym m.cursor ∙ ap (cursor_of t) (sym same) ∙ e) in
-        let now : code_of t at.chunk ≡ Used = ap (code_of t) (sym here) ∙ m.code.changed in
-        cc
-    split j at e free (inr other) = still at.chunk (in_use j at (sym (m.other_cursors j other) ∙ e)) free
-
-in_use_along : (before : List Size) (s u : Space) → HasCursorsInUse s → TakesAll before s u → HasCursorsInUse u
-in_use_along [] s u in_use e = subst HasCursorsInUse e in_use
-in_use_along (z ∷ before) s u in_use (w, b, m, rest) = in_use_along before w u (in_use_after z s w b in_use m) rest
-
-need_alone : (z : Size) (u : Space) → need_of_all (z ∷ []) u ≡ need_of_one z u
-need_alone sizes.Small u = refl
-need_alone sizes.Middle u = refl
-need_alone sizes.Whole u = refl
-
-small-more : (before : List Size) (z : Size) (after : List Size) → small_of (before ++ z ∷ []) ≤ small_of (before ++ z ∷ after)
-small-more [] sizes.Small after = omega arith
-small-more [] sizes.Middle after = omega arith
-small-more [] sizes.Whole after = omega arith
-small-more (sizes.Small ∷ before) z after = let rest : small_of (before ++ z ∷ []) ≤ small_of (before ++ z ∷ after) = small-more before z after in omega arith
-small-more (sizes.Middle ∷ before) z after = small-more before z after
-small-more (sizes.Whole ∷ before) z after = small-more before z after
-
-middle-more : (before : List Size) (z : Size) (after : List Size) → middle_of (before ++ z ∷ []) ≤ middle_of (before ++ z ∷ after)
-middle-more [] sizes.Small after = omega arith
-middle-more [] sizes.Middle after = omega arith
-middle-more [] sizes.Whole after = omega arith
-middle-more (sizes.Small ∷ before) z after = middle-more before z after
-middle-more (sizes.Middle ∷ before) z after = let rest : middle_of (before ++ z ∷ []) ≤ middle_of (before ++ z ∷ after) = middle-more before z after in omega arith
-middle-more (sizes.Whole ∷ before) z after = middle-more before z after
-
-whole-more : (before : List Size) (z : Size) (after : List Size) → whole_of (before ++ z ∷ []) ≤ whole_of (before ++ z ∷ after)
-whole-more [] sizes.Small after = omega arith
-whole-more [] sizes.Middle after = omega arith
-whole-more [] sizes.Whole after = omega arith
-whole-more (sizes.Small ∷ before) z after = whole-more before z after
-whole-more (sizes.Middle ∷ before) z after = whole-more before z after
-whole-more (sizes.Whole ∷ before) z after = let rest : whole_of (before ++ z ∷ []) ≤ whole_of (before ++ z ∷ after) = whole-more before z after in omega arith
-
-need-more : (a b c d e f : ℕ) (s : Space) → a ≤ d → b ≤ e → c ≤ f → need_of a b c s ≤ need_of d e f s
-need-more a b c d e f s la lb lc = omega arith
-
-pub reservation_pays : NeedIsUsed → ReservationPays
-reservation_pays used before z after s u v b in_use taken m =
-    let first : free_of s ≡ free_of u + need_of_all before s = used before s u in_use taken in
-    let both : free_of s ≡ free_of v + need_of_all (before ++ z ∷ []) s = used (before ++ z ∷ []) s v in_use (takes_after before (z ∷ []) s u v taken (v, b, m, refl)) in
-    let last : free_of u ≡ free_of v + need_of_all (z ∷ []) u = used (z ∷ []) u v (in_use_along before s u in_use taken) (v, b, m, refl) in
-    let alone : need_of_all (z ∷ []) u ≡ need_of_one z u = need_alone z u in
-    let more : need_of_all (before ++ z ∷ []) s ≤ need_of_all (before ++ z ∷ after) s = need-more (small_of (before ++ z ∷ [])) (middle_of (before ++ z ∷ [])) (whole_of (before ++ z ∷ [])) (small_of (before ++ z ∷ after)) (middle_of (before ++ z ∷ after)) (whole_of (before ++ z ∷ after)) s (small-more before z after) (middle-more before z after) (whole-more before z after) in
+pub reservation_pays : NeedSplits → ReservationPays
+reservation_pays splits before size after s u taken =
+    let all : need_of_all (before ++ size ∷ after) s ≡ need_of_all before s + need_of_all (size ∷ after) u = splits before (size ∷ after) s u taken in
+    let first : need_of_one size u ≤ need_of_all (size ∷ after) u = need_first size after u in
     omega arith

@@ -10,7 +10,8 @@ use h2_ledger::BlockSet;
 /// - `granted`: what is taken is what the ledger grants before anything has changed, and so shares no byte
 ///   with what is in use or marked.
 /// - `paid`: what is paid for is free, so that `take` may be called.
-/// - `pays`: a reservation of what some blocks need pays for each of them at its turn.
+/// - `pays`: a reservation of what some blocks need pays for each of them at its turn, where they are taken
+///   one after another, with nothing in between.
 pub fn freemap_law<S: BlockSet>()
     ensures take { TakeMoves S.has }
     ensures granted { TakeIsGranted S.has }

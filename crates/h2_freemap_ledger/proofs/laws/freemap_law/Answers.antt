@@ -8,5 +8,5 @@ returns g c = record {
   adopt = adopt_moves g.S.BlockSet.has;
   apply = apply_moves g.S.BlockSet.has;
   paid = paid_is_free g.S.BlockSet.has;
-  pays = reservation_pays c.need_law.ensures.used;
+  pays = reservation_pays c.need_law.ensures.splits;
 }
