@@ -1,8 +1,7 @@
-use Rattle.std.proofs.Common.{refl, rules, Bor}
+use Rattle.std.proofs.Common.{refl, rules}
 use Rattle.std.proofs.lemmas.List.Sorted.{answers_always, IsPermutation-map}
 use Rattle.std.specs.Ordering.{is_lt}
-use Rattle.h2_command.specs.declared.history.Entry.{Entry}
-use Rattle.h2_script.specs.Texts.{IsByPlace, place_of, place_cmp}
+use Rattle.h2_script.specs.Texts.{place_of, place_cmp}
 use Rattle.h2_script.proofs.Ordered.{sorted_mapped, stable_mapped}
 use Rattle.h2_script.proofs.printing.sort_by_place.Goals as goal
 
