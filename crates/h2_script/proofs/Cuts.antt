@@ -1,11 +1,11 @@
 -- A word is cut at its first colon in one way.
-use Rattle.std.proofs.Common.{◌≡◌, ◌≢◌, ◌<◌, ◌≤◌, ◌∙◌, ℕ, suc, Bool, true, false, eqb, List, [], ◌∷◌, ◌++◌, length, take, get_or, All, Bor, Option, Some, None, MatchOption, refl, sym, ap, subst, arith, lit<}
+use Rattle.std.proofs.Common.{◌≡◌, ◌≢◌, ◌<◌, ◌∙◌, ℕ, suc, true, false, eqb, List, [], ◌∷◌, ◌++◌, length, take, get_or, All, Bor, Option, Some, None, MatchOption, refl, sym, ap, subst, arith, lit<}
 use Rattle.std.specs.List.{before_first, after_first, position_or_len}
 use Rattle.std.proofs.lemmas.Str.Pattern.{IsSplitOnceResult, split_once_first}
 use Rattle.std.proofs.lemmas.List.Sums.{split_at_first, fails_before_first, passes_at_first}
 use Rattle.std.proofs.lemmas.List.{get_or-take, length-take}
 use Rattle.std.proofs.lemmas.Bool.Decides.{nat_tests}
-use Rattle.h2_script.specs.Cuts.{colon, IsCut, HasNoColon}
+use Rattle.h2_script.specs.Cuts.{IsCut, HasNoColon}
 
 first_of_all : {X : Type 0} (P : X → Type 0) (x : X) (xs : List X) → All P (x ∷ xs) → P x
 first_of_all P x xs all = all 0 x (omega arith)

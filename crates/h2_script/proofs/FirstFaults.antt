@@ -1,9 +1,8 @@
 -- The lines before the first fault.
-use Rattle.std.proofs.Common.{◌≡◌, ◌<◌, ◌≤◌, ◌+◌, ◌^◌, ◌∙◌, ℕ, zero, suc, List, [], ◌∷◌, ◌++◌, length, map, take, drop, get_or, eqb, count_by, Bor, refl, sym, ap, subst, inl, inr, arith}
+use Rattle.std.proofs.Common.{◌≡◌, ◌<◌, ◌≤◌, ◌+◌, ◌^◌, ℕ, zero, suc, List, [], ◌∷◌, ◌++◌, length, map, take, drop, get_or, eqb, count_by, Bor, refl, sym, ap, subst, arith}
 use Rattle.std.specs.Prelude.{◌⊎◌}
 use Rattle.std.proofs.lemmas.List.{map_more, length-map, length-take-le}
 use Rattle.h2_script.specs.declared.line.Line.{Line}
-use Rattle.h2_script.specs.declared.fault.LineFault.{LineFault}
 use Rattle.h2_script.specs.declared.fault.LineFault.TheVariants.{TooLong}
 use Rattle.h2_script.specs.declared.fault.Refusal.{Refusal}
 use Rattle.h2_script.specs.declared.fault.Refusal.TheVariants.{Fault, NoMemory}
@@ -11,7 +10,7 @@ use Rattle.h2_script.specs.declared.reading.Reading.{Reading}
 use Rattle.std.proofs.lemmas.List.Splits.{length-slice_split}
 use Rattle.std.proofs.lemmas.List.Sums.{count_by-le-length}
 use Rattle.h2_script.specs.Lines.{lines_of, SpellsLine, IsFaultOfLine}
-use Rattle.h2_script.specs.Scripts.{AreLines, AreFew, commands_of, IsOneTooMany, IsFirstFaulty, IsFaultOfLines, fault_in}
+use Rattle.h2_script.specs.Scripts.{AreLines, AreFew, commands_of, IsOneTooMany, IsFaultOfLines, fault_in}
 use Rattle.h2_script.specs.Reading.{IsReadSoFar}
 use Rattle.h2_script.specs.Refusals.{RefusedBy}
 use Rattle.h2_script.proofs.Phases.{lines_more, as_many}

@@ -1,7 +1,6 @@
 -- Names that were joined by slashes are the parts between them.
-use Rattle.std.proofs.Common.{◌≡◌, ◌≢◌, ◌<◌, ◌≤◌, ◌+◌, ◌∙◌, ℕ, zero, suc, Bool, true, false, eqb, List, [], ◌∷◌, ◌++◌, length, get_or, All, refl, sym, ap, subst, arith}
+use Rattle.std.proofs.Common.{◌≡◌, ◌≢◌, ◌≤◌, ◌∙◌, ℕ, suc, false, eqb, List, [], ◌∷◌, length, get_or, All, refl, sym, ap, subst, arith}
 use Rattle.std.specs.Prelude.{Result, Ok, Err, MatchResult}
-use Rattle.h2_script.specs.declared.fault.LineFault.{LineFault}
 use Rattle.h2_script.specs.declared.fault.LineFault.TheVariants.{Path}
 use Rattle.h2_script.specs.declared.fault.Refusal.{Refusal}
 use Rattle.h2_script.specs.declared.fault.Refusal.TheVariants.{Fault, NoMemory}
@@ -9,9 +8,7 @@ use Rattle.h2_script.specs.Refusals.{RefusedBy}
 use Rattle.std.specs.List.{join_with_byte, slice_split}
 use Rattle.std.proofs.lemmas.List.Splits.{slice_split_none, slice_split_at, join_with_byte-slice_split}
 use Rattle.std.proofs.lemmas.Bool.Decides.{nat_tests}
-use Rattle.std.proofs.lemmas.List.Elements.{All-cons}
-use Rattle.h2_dirkey.specs.Name.{slash}
-use Rattle.h2_script.specs.Names.{IsNameByte, IsEntryName, SpellsNames, AreNoNames}
+use Rattle.h2_script.specs.Names.{IsEntryName, SpellsNames, AreNoNames}
 
 -- a name has no slash
 no_slash : (name : List ℕ) → IsEntryName name → All (λ b. eqb b 47 ≡ false) name

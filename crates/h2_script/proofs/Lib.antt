@@ -1,13 +1,14 @@
-mod WordFaults
 mod Counting
 mod Cuts
 mod Elements
 mod FirstFaults
 mod Joined
 mod Numerals
+mod Ordered
 mod Paths
 mod Payloads
 mod Phases
 mod Places
 mod ReadSoFar
 mod Refusals
+mod WordFaults

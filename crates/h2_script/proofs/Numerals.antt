@@ -1,10 +1,10 @@
 -- What the standard parser makes of a numeral.
-use Rattle.std.proofs.Common.{◌≡◌, ◌<◌, ◌≤◌, ◌^◌, ℕ, List, length, get_or, All, arith, refl, sym}
-use Rattle.std.specs.Prelude.{Result, Ok, Err}
+use Rattle.std.proofs.Common.{◌<◌, ◌≤◌, ◌^◌, ℕ, List, length, get_or, arith, refl, sym}
+use Rattle.std.specs.Prelude.{Ok, Err}
 use Rattle.std.specs.Str.Parse.{digits_value, ParsesUnsigned}
 use Rattle.std.specs.Int.{IsInRange}
 use Rattle.std.proofs.lemmas.Str.Parse.{IsNumeralModel, numerals_by_value, tells_by_index, parse_digits}
-use Rattle.h2_script.specs.Numbers.{IsDigit, IsNumeral, IsNumber}
+use Rattle.h2_script.specs.Numbers.{IsNumeral, IsNumber}
 
 abbrev AreDigits : List ℕ → Type 0
 AreDigits ds = (i : ℕ) → i < length ds → IsInRange 48 57 (get_or ds i 0)

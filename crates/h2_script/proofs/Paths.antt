@@ -1,13 +1,13 @@
 -- Words that are no path.
-use Rattle.std.proofs.Common.{◌≡◌, ◌≢◌, ◌<◌, ◌≤◌, ◌∙◌, ℕ, List, [], ◌∷◌, ◌++◌, length, get_or, All, Bool, true, eqb, refl, sym, ap, subst, inl, inr, arith}
+use Rattle.std.proofs.Common.{◌≡◌, ◌≢◌, ◌≤◌, ◌∙◌, ℕ, List, [], ◌∷◌, length, get_or, All, Bool, true, eqb, refl, sym, ap, subst, inl, inr, arith}
 use Rattle.std.specs.List.{join_with_byte}
 use Rattle.std.proofs.lemmas.Bool.Decides.{nat_tests}
 use Rattle.std.proofs.lemmas.List.{length-append}
 use Rattle.h2_command.specs.declared.path.Path.{Path}
 use Rattle.h2_command.specs.Lawful.{IsPfsNameByte, IsPfsName}
-use Rattle.h2_script.specs.Cuts.{colon, IsCut, HasNoColon}
+use Rattle.h2_script.specs.Cuts.{IsCut, HasNoColon}
 use Rattle.h2_script.specs.Names.{IsEntryName, SpellsNames, AreNoNames}
-use Rattle.h2_script.specs.Paths.{BeginsWithSlash, SpellsPath, SpellsEntryPath, IsNoPath, IsNoEntryPath}
+use Rattle.h2_script.specs.Paths.{BeginsWithSlash, SpellsPath, IsNoPath, IsNoEntryPath}
 use Rattle.h2_script.proofs.Cuts.{no_cut, one_cut}
 
 tails : (x y : List ℕ) → 47 ∷ x ≡ 47 ∷ y → x ≡ y

@@ -1,5 +1,5 @@
 -- Words that are no data, or too much.
-use Rattle.std.proofs.Common.{◌≡◌, ◌≢◌, ◌<◌, ◌≤◌, ◌^◌, ◌∙◌, ℕ, List, [], ◌∷◌, ◌++◌, length, get_or, All, codes, refl, sym, ap, subst, inl, inr, arith}
+use Rattle.std.proofs.Common.{◌≡◌, ◌≢◌, ◌<◌, ◌≤◌, ◌∙◌, ℕ, List, [], ◌∷◌, ◌++◌, length, get_or, codes, sym, ap, subst, inl, inr, arith}
 use Rattle.std.specs.Prelude.{◌⊎◌, Result, Ok, Err, MatchResult}
 use Rattle.std.proofs.lemmas.List.{length-replicate}
 use Rattle.hex.specs.Hex.{decode_of}
@@ -10,8 +10,8 @@ use Rattle.h2_script.specs.declared.fault.LineFault.{LineFault}
 use Rattle.h2_script.specs.declared.fault.LineFault.TheVariants.{Utf8, Client, Word, Path, Number, Payload as NoData, TooLong}
 use Rattle.h2_script.specs.declared.fault.Refusal.{Refusal}
 use Rattle.h2_script.specs.declared.fault.Refusal.TheVariants.{Fault, NoMemory}
-use Rattle.h2_script.specs.Cuts.{colon, IsCut, HasNoColon}
-use Rattle.h2_script.specs.Numbers.{IsDigit, IsNumber, IsNoNumber, IsNoByte}
+use Rattle.h2_script.specs.Cuts.{IsCut, HasNoColon}
+use Rattle.h2_script.specs.Numbers.{IsNumber, IsNoNumber, IsNoByte}
 use Rattle.h2_script.specs.Payloads.{SpellsPlain, SpellsRepeat, SpellsPayload, IsFewBytes, IsFaultOfData}
 use Rattle.h2_script.specs.Refusals.{RefusedBy}
 use Rattle.h2_script.proofs.Cuts.{no_cut, one_cut}

@@ -1,5 +1,5 @@
 -- What one more line makes of the phases.
-use Rattle.std.proofs.Common.{◌≡◌, ◌+◌, ◌≤◌, ◌∙◌, ℕ, List, [], ◌∷◌, ◌++◌, length, refl, sym, ap, subst, arith}
+use Rattle.std.proofs.Common.{◌≡◌, ◌∙◌, ℕ, List, [], ◌∷◌, ◌++◌, length, refl, sym, ap, arith}
 use Rattle.std.specs.List.{onto_first}
 use Rattle.h2_command.specs.declared.command.Command.{Command}
 use Rattle.h2_script.specs.declared.line.Line.{Line}

@@ -1,5 +1,5 @@
 -- A command is taken out of its place.
-use Rattle.std.proofs.Common.{◌≡◌, ◌<◌, ◌∙◌, ℕ, zero, suc, List, [], ◌∷◌, length, map, get_or, set, Vec, Global, refl, sym, ap, subst, arith}
+use Rattle.std.proofs.Common.{◌≡◌, ◌<◌, ◌∙◌, ℕ, zero, suc, List, [], ◌∷◌, length, map, get_or, set, Vec, Global, refl, sym, ap, arith}
 use Rattle.std.proofs.lemmas.List.{get_or-map, length-map}
 use Rattle.h2_command.specs.declared.command.Command.{Command}
 use Rattle.h2_command.specs.declared.command.Command.TheVariants.{PfsList}

@@ -5,7 +5,7 @@ use Rattle.h2_script.specs.declared.line.Line.{Line}
 use Rattle.h2_script.specs.declared.line.Line.TheVariants.{Skipped, PhaseEnd, Call}
 use Rattle.h2_script.specs.declared.counts.Counts.{Counts}
 use Rattle.h2_script.specs.declared.reading.Reading.{Reading}
-use Rattle.h2_script.specs.Scripts.{commands_of, phases_of}
+use Rattle.h2_script.specs.Scripts.{commands_of}
 use Rattle.h2_script.specs.Counts.{AreCounted}
 use Rattle.h2_script.specs.Reading.{IsReadSoFar}
 use Rattle.h2_script.proofs.Phases.{skipped_more, end_more, call_more, commands_more}

@@ -1,15 +1,15 @@
 -- Words that are good up to one of them.
-use Rattle.std.proofs.Common.{◌≡◌, ◌≢◌, ◌<◌, ◌≤◌, ◌^◌, ℕ, List, [], ◌∷◌, length, get_or, map, Bor, subst, refl, inl, inr, arith}
+use Rattle.std.proofs.Common.{◌≡◌, ◌≢◌, ◌^◌, ℕ, List, [], ◌∷◌, length, get_or, map, Bor, subst, refl, inl, inr, arith}
 use Rattle.std.specs.Prelude.{◌⊎◌}
 use Rattle.h2_command.specs.declared.path.Path.{Path}
 use Rattle.h2_script.specs.declared.fault.LineFault.{LineFault}
 use Rattle.h2_script.specs.declared.fault.LineFault.TheVariants.{Utf8, Client, Word, Path as BadPath, Number, Payload as NoData, TooLong}
 use Rattle.h2_script.specs.declared.number.Amount.{Amount}
-use Rattle.h2_script.specs.declared.number.Amount.TheVariants.{Few, Many}
-use Rattle.h2_script.specs.Numbers.{IsNumber, IsNoNumber, IsAmount}
+use Rattle.h2_script.specs.declared.number.Amount.TheVariants.{Many}
+use Rattle.h2_script.specs.Numbers.{IsNoNumber, IsAmount}
 use Rattle.h2_script.specs.Paths.{SpellsEntryPath}
 use Rattle.h2_script.specs.Payloads.{SpellsPayload, IsFaultOfData}
-use Rattle.h2_script.specs.Verbs.{EntryPath, Handle, Place, Length, Datum}
+use Rattle.h2_script.specs.Verbs.{Handle, Place, Length, Datum}
 use Rattle.h2_script.specs.Arguments.{IsNumberBelow, IsFaultOfWords, NameTwoPfss, AsksTooMuch, WritesTooMuch, TwoEntries}
 
 abbrev pub texts : List (Bor (List ℕ)) → List (List ℕ)

@@ -1,5 +1,5 @@
 -- What the words after a command's word spell.
-use Rattle.std.specs.Prelude.{◌≡◌, ◌≢◌, ◌⊎◌, ◌<◌, ◌≤◌, ◌^◌, ℕ, List, [], ◌∷◌, length}
+use Rattle.std.specs.Prelude.{◌≡◌, ◌≢◌, ◌⊎◌, ◌<◌, ◌^◌, ℕ, List, [], ◌∷◌, length}
 use Rattle.h2_command.specs.declared.path.Path.{Path}
 use Rattle.h2_command.specs.Lawful.{IsPfsName}
 use Rattle.h2_contents.specs.declared.payload.Payload.{Payload}

@@ -6,7 +6,7 @@ use Rattle.h2_script.specs.declared.verb.Verb.{Verb}
 use Rattle.h2_script.specs.declared.verb.Verb.TheVariants as verb
 use Rattle.h2_script.specs.declared.fault.LineFault.{LineFault}
 use Rattle.h2_script.specs.declared.fault.LineFault.TheVariants.{Word}
-use Rattle.h2_script.specs.Verbs.{verb_word, IsNoVerb, arguments_of}
+use Rattle.h2_script.specs.Verbs.{verb_word, arguments_of}
 use Rattle.h2_script.specs.Arguments.{OneEntry, TwoEntries, OnePath, OneName, TwoNames, OneHandle, HandleAndSize, HandleAndRange, HandleAndData, IsFaultOfWords, NameTwoPfss, AsksTooMuch, WritesTooMuch}
 
 -- the command's verb and what its arguments spell, one row for each command

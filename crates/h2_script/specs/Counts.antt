@@ -1,5 +1,5 @@
 -- How much of what a script may have was counted.
-use Rattle.std.specs.Prelude.{◌≡◌, ◌≤◌, ℕ, List, ◌∷◌, [], ◌++◌, length, count_by}
+use Rattle.std.specs.Prelude.{◌≡◌, List, length, count_by}
 use Rattle.std.specs.List.{sum_by}
 use Rattle.h2_command.specs.declared.command.Command.{Command}
 use Rattle.h2_script.specs.declared.counts.Counts.{Counts}

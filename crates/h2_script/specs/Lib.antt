@@ -11,3 +11,5 @@ pub mod Lines
 pub mod Scripts
 pub mod Counts
 pub mod Reading
+pub mod ReplyTexts
+pub mod Texts

@@ -3,7 +3,6 @@ use Rattle.std.specs.Prelude.{◌≡◌, ◌≢◌, ◌⊎◌, ◌<◌, ◌+◌,
 use Rattle.std.specs.List.{slice_split}
 use Rattle.std.specs.Str.{IsUtf8}
 use Rattle.std.specs.Str.Lines.{strip_carriage_return}
-use Rattle.h2_command.specs.declared.command.Command.{Command}
 use Rattle.h2_script.specs.declared.line.Line.{Line}
 use Rattle.h2_script.specs.declared.line.Line.TheVariants.{Skipped, PhaseEnd, Call}
 use Rattle.h2_script.specs.declared.fault.LineFault.{LineFault}

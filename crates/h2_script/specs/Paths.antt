@@ -1,6 +1,5 @@
 -- Paths in a script.
-use Rattle.std.specs.Prelude.{◌≡◌, ◌≤◌, ℕ, List, ◌∷◌, ◌++◌, length, All}
-use Rattle.std.specs.List.{join_with_byte}
+use Rattle.std.specs.Prelude.{◌≡◌, ◌≤◌, ℕ, List, ◌∷◌, ◌++◌, length}
 use Rattle.h2_dirkey.specs.Name.{slash}
 use Rattle.h2_command.specs.declared.path.Path.{Path}
 use Rattle.h2_command.specs.Lawful.{IsPfsName}

@@ -1,5 +1,5 @@
 -- Data in a script.
-use Rattle.std.specs.Prelude.{◌≡◌, ◌⊎◌, ◌<◌, ◌≤◌, ℕ, List, ◌∷◌, ◌++◌, length, codes, Result, Ok}
+use Rattle.std.specs.Prelude.{◌≡◌, ◌⊎◌, ◌<◌, ◌≤◌, ℕ, List, ◌∷◌, ◌++◌, length, codes, Ok}
 use Rattle.hex.specs.Hex.{decode_of}
 use Rattle.h2_contents.specs.declared.payload.Payload.{Payload}
 use Rattle.h2_contents.specs.declared.payload.Payload.TheVariants.{Plain, Repeat}

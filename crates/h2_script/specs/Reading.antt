@@ -1,6 +1,5 @@
 -- A script of which some lines were read.
-use Rattle.std.specs.Prelude.{◌≡◌, ℕ, List, [], ◌∷◌, ◌++◌, map, vec_items}
-use Rattle.h2_command.specs.declared.command.Command.{Command}
+use Rattle.std.specs.Prelude.{◌≡◌, List, [], ◌∷◌, ◌++◌, map}
 use Rattle.h2_script.specs.declared.line.Line.{Line}
 use Rattle.h2_script.specs.declared.reading.Reading.{Reading}
 use Rattle.h2_script.specs.Scripts.{commands_of, phases_of}

@@ -16,13 +16,18 @@ mod number;
 mod parsing;
 mod path;
 mod payload;
+mod printing;
 mod reading;
+mod reply_text;
 mod script;
 mod verb;
 
 pub use fault::{LineFault, ParseFault};
 pub use parsing::parse;
+pub use printing::text;
 pub use script::Script;
 
 #[cfg(test)]
 mod tests;
+#[cfg(test)]
+mod text_tests;

@@ -1,6 +1,5 @@
-use Rattle.std.proofs.Common.{arith, inl, inr, map, List, ℕ, [], ◌∷◌, Bor}
+use Rattle.std.proofs.Common.{arith, inl, [], ◌∷◌}
 use Rattle.std.specs.Prelude.{◌⊎◌}
-use Rattle.h2_script.specs.Payloads.{SpellsPayload, IsFaultOfData}
 use Rattle.h2_script.specs.Verbs.{Handle, Place, Datum}
 use Rattle.h2_script.specs.Arguments.{HandleAndData, IsFaultOfWords, WritesTooMuch}
 use Rattle.h2_script.proofs.WordFaults.{texts, no_place_of_write, bad_data}

@@ -1,4 +1,4 @@
-use Rattle.std.proofs.Common.{arith, inl, inr, refl}
+use Rattle.std.proofs.Common.{arith, inr, refl}
 use Rattle.h2_script.proofs.WordFaults.{name_two_pfss, are_two_entries}
 use Rattle.h2_script.proofs.arguments.two_entries.Goals as goal
 

@@ -1,12 +1,5 @@
-use Rattle.std.proofs.Common.{refl, ◌≡◌, ◌∙◌, ap, sym, List, ℕ, map, All, arith, length}
+use Rattle.std.proofs.Common.{◌∙◌, ap, map, arith}
 use Rattle.std.proofs.lemmas.Bool.Decides.{nat_tests}
-use Rattle.std.specs.Prelude.{Result, Ok, Err, MatchResult}
-use Rattle.h2_script.specs.declared.fault.LineFault.{LineFault}
-use Rattle.h2_script.specs.declared.fault.LineFault.TheVariants.{Path}
-use Rattle.h2_script.specs.declared.fault.Refusal.{Refusal}
-use Rattle.h2_script.specs.declared.fault.Refusal.TheVariants.{Fault, NoMemory}
-use Rattle.h2_script.specs.Names.{IsEntryName, SpellsNames, AreNoNames}
-use Rattle.h2_script.specs.Refusals.{RefusedBy}
 use Rattle.h2_script.proofs.Joined.{read_parts}
 use Rattle.h2_script.proofs.names.read_names.Goals as goal
 

@@ -1,6 +1,4 @@
-use Rattle.std.proofs.Common.{refl, subst, ◌≡◌, List, ℕ, Result, Err}
-use Rattle.std.specs.Str.Parse.{ParsesUnsigned}
-use Rattle.h2_script.specs.Numbers.{IsNumeral}
+use Rattle.std.proofs.Common.{refl}
 use Rattle.h2_script.proofs.Numerals.{refused_is_large}
 use Rattle.h2_script.proofs.number.parse_number.Goals as goal
 

@@ -1,4 +1,4 @@
-use Rattle.std.proofs.Common.{◌≡◌, ◌∙◌, refl, subst, sym, List, ℕ}
+use Rattle.std.proofs.Common.{◌≡◌, ◌∙◌, refl, subst, sym}
 use Rattle.h2_command.specs.Lawful.{IsPfsName}
 use Rattle.h2_script.specs.Names.{AreNoNames}
 use Rattle.h2_script.specs.Paths.{SpellsPath, IsNoPath, BeginsWithSlash}

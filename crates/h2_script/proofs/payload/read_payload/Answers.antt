@@ -1,4 +1,4 @@
-use Rattle.h2_script.proofs.Payloads.{uncut_no_data, no_kind_no_data, plain_is_data, repeat_is_data}
+use Rattle.h2_script.proofs.Payloads.{uncut_no_data, no_kind_no_data, repeat_is_data}
 use Rattle.h2_script.proofs.payload.read_payload.Goals as goal
 
 pub returns-in_default : goal.returns-in_default

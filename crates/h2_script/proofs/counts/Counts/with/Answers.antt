@@ -1,4 +1,4 @@
-use Rattle.std.proofs.Common.{refl, ◌+◌, ◌∙◌, ap, cond, true, false}
+use Rattle.std.proofs.Common.{refl, ◌+◌, ◌∙◌, ap, cond}
 use Rattle.h2_script.proofs.Counting.{counted_more, one_too_many}
 use Rattle.h2_script.proofs.counts.Counts.with.Goals as goal
 
