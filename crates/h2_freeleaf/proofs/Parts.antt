@@ -29,6 +29,13 @@ Spelled {X} P xs b i = (k : ℕ) (d : X) → k < i → P (slice_index_or xs k d)
 pub part_laid : {X : Type 0} (P : X → Places → Type 0) → IsLocal P → (x : X) (at : ℕ) (bytes : List ℕ) (old new : Places) → length bytes ≡ 128 → P x (places bytes) → Lays at bytes old new → P x (from_place new at)
 part_laid P local x at bytes old new len h lays = local x (places bytes) (from_place new at) (λ k lt. lays.inside k (omega arith)) h
 
+-- one more of a list has the property
+pub all_more : {X : Type 0} (P : X → Type 0) (xs : List X) (x : X) (i : ℕ) → ((d : X) → slice_index_or xs i d ≡ x) → AllWithin P xs 0 i → P x → AllWithin P xs 0 (i + 1)
+all_more P xs x i is so_far one k d ge below = elim (cases_lt k i) [
+  | inl earlier ↦ so_far k d ge earlier
+  | inr late ↦ let e : k ≡ i = omega arith in rw (e, is d) one
+]
+
 -- one more was put
 pub put_more : {X : Type 0} (P : X → Places → Type 0) → IsLocal P → (xs : List X) (x : X) (i : ℕ) (old new : Places) → ((d : X) → slice_index_or xs i d ≡ x)
     → Spelled P xs old i → P x (from_place new (128 * i)) → SameOutside (128 * i) 128 old new → Spelled P xs new (i + 1)

@@ -14,7 +14,8 @@ use h2_num::{first_nonzero, get32, put_bytes, put32};
 
 /// The part of a segment.
 fn encode_part(segment: &Segment) -> [u8; PART_BYTES]
-    ensures { PartBytes segment.now (places result) }
+    ensures bytes { PartBytes segment.now (places result) }
+    ensures chunks { IsSegment segment.now }
 {
     let mut b = [0; PART_BYTES];
     put_bytes(&mut b, CODES_AT, segment.as_bytes());
@@ -26,6 +27,7 @@ fn encode_part(segment: &Segment) -> [u8; PART_BYTES]
 fn put_part(segment: &Segment, at: usize, out: &mut [u8])
     requires room { at + 128 ≤ length out.old }
     ensures bytes { PartBytes segment.now (from_place (places out.new) at) }
+    ensures chunks { IsSegment segment.now }
     ensures others { SameOutside at 128 (places out.old) (places out.new) }
 {
     put_bytes(out, at, &encode_part(segment));
@@ -33,7 +35,8 @@ fn put_part(segment: &Segment, at: usize, out: &mut [u8])
 
 /// The 1024 bytes of the leaf of a zone, by the codes of its eight segments.
 pub fn encode_leaf(s: &[Segment; LEAF_SEGMENTS]) -> [u8; MAP_BYTES]
-    ensures { LeafBytes s.now (places result) }
+    ensures bytes { LeafBytes s.now (places result) }
+    ensures leaf { IsLeaf s.now }
 {
     let mut out = [0; MAP_BYTES];
     for i in 0..LEAF_SEGMENTS {
