@@ -11,6 +11,7 @@ use Rattle.h2_inode.specs.declared.inode.Body.TheVariants.{Refs, Bytes}
 use Rattle.h2_inode.specs.declared.inode.Inode.{Inode}
 use Rattle.h2_inode.specs.Kind.{kind_byte}
 use Rattle.h2_inode.specs.Head.{IsNameOf}
+use Rattle.h2_inode.specs.InodeLaws.{body_same}
 use Rattle.h2_inode.specs.Inode.{BodyFits, BodyBytes, body_byte, IsStorable, IsInode, InodeBytes}
 
 -- a body that fits has 512 bytes
@@ -20,20 +21,6 @@ storable_by kind size (Bytes bytes) h = h.1
 
 pub storable : (i : Inode) → IsInode i → IsStorable i.body
 storable i h = storable_by i.kind i.size i.body h.body_fits
-
--- the name of an inode has at most 64 bytes
-name_short : (kind : InodeKind) (name : List ℕ) → IsNameOf kind name → length name ≤ 64
-name_short Directory name h = let e : length name ≡ 0 = ap length h in omega arith
-name_short File name h = let e : length name ≡ 0 = ap length h in omega arith
-name_short Pfs name h = h.few
-
-pub name_few : (i : Inode) → IsInode i → length i.name ≤ 64
-name_few i h = name_short i.kind i.name h.name_fits
-
--- the bytes of a body, at another place
-body_same : (body : Body) (a b : Places) → SameBelow 512 a b → BodyBytes body a → BodyBytes body b
-body_same (Refs s) a b same h = SetBytes-same 4 s.refs a b (λ k lt. same k (omega arith)) h
-body_same (Bytes bytes) a b same h = λ k lt. same k lt ∙ h k lt
 
 -- the body, the name and the fields, put in this order over zeros
 pub fields_put : (i : Inode) (bytes : List ℕ) (b0 b1 b2 b3 b4 b5 b6 b7 b8 b9 : Places)

@@ -5,12 +5,7 @@ use Rattle.std.proofs.lemmas.List.{ext_get_or, get_or-take, get_or-drop, length-
 use Rattle.h2_num.specs.Places.{Places, places, number_at}
 use Rattle.h2_dirkey.specs.PfsName.{IsPfsName}
 use Rattle.h2_inode.specs.Head.{HasName}
-
--- one name stands in the bytes
-pub name_one : (m n : List ℕ) (b : Places) → HasName m b → HasName n b → n ≡ m
-name_one m n b p q =
-    let same : length n ≡ length m = sym q.len ∙ p.len in
-    ext_get_or 0 n m same (λ k lt. sym (q.bytes k lt) ∙ p.bytes k (omega arith))
+use Rattle.h2_inode.specs.InodeLaws.{name_one}
 
 -- so many bytes from the name's place on are the name
 pub name_there : (l : List ℕ) (len : ℕ) → len ≡ number_at (places l) 32 2 → 48 + len ≤ length l → HasName (take len (drop 48 l)) (places l)

@@ -18,7 +18,7 @@ use Rattle.h2_inode.specs.Inode.{BodyFits, BodyBytes, body_byte, IsInode, InodeB
 use Rattle.h2_inode.specs.Fault.{IsFaultOf, IsFaultFor, IsRefsFault}
 
 -- a kind is known by its number
-kinds_same : (k l : InodeKind) → kind_byte k ≡ kind_byte l → k ≡ l
+pub kinds_same : (k l : InodeKind) → kind_byte k ≡ kind_byte l → k ≡ l
 kinds_same Directory Directory e = refl
 kinds_same Directory File e = absurd (omega arith)
 kinds_same Directory Pfs e = absurd (omega arith)

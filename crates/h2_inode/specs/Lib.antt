@@ -11,3 +11,5 @@ pub mod FaultLaws
 pub mod Block
 pub mod Cause
 pub mod CauseLaws
+pub mod InodeLaws
+pub mod PassLaws

@@ -1,13 +1,31 @@
-ghost use Rattle.std.specs.Prelude.{◌<◌};
-ghost use Rattle.h2_num.specs.Places.{Places};
+ghost use Rattle.std.specs.Prelude.{◌≡◌, ◌<◌};
+ghost use Rattle.h2_num.specs.Places.{Places, AreBytes, SameBelow};
 ghost use Rattle.h2_ref.specs.declared.faults.Why.{Why};
 ghost use Rattle.h2_ref.specs.declared.reference.Ref.{Ref};
-ghost use Rattle.h2_ref.specs.Ref.{IsValid};
+ghost use Rattle.h2_ref.specs.Ref.{IsValid, size_of};
 ghost use Rattle.h2_inode.specs.declared.fault.InodeFault.{InodeFault};
-ghost use Rattle.h2_inode.specs.Inode.{NoInode};
+ghost use Rattle.h2_inode.specs.declared.inode.Inode.{Inode};
+ghost use Rattle.h2_inode.specs.Inode.{IsInode, InodeBytes, NoInode};
 ghost use Rattle.h2_inode.specs.Fault.{IsFaultOf};
 ghost use Rattle.h2_inode.specs.Block.{Passes};
 ghost use Rattle.h2_inode.specs.Cause.{IsCauseOf};
+
+/// A law: an inode has one spelling, bytes spell one inode at most, and which one is seen by their first 1024
+/// alone.
+pub fn inode_law()
+    ensures one_spelling { (i : Inode) (a b : Places) → AreBytes a → AreBytes b
+        → InodeBytes i a → InodeBytes i b → SameBelow 1024 a b }
+    ensures one_value { (i j : Inode) (b : Places) → IsInode i → IsInode j
+        → InodeBytes i b → InodeBytes j b → j ≡ i }
+    ensures local { (i : Inode) (a b : Places) → IsInode i → SameBelow 1024 a b
+        → InodeBytes i a → InodeBytes i b }
+{}
+
+/// A law: whether a block passes the reference that names it is seen by the bytes of the block alone.
+pub fn passing_law()
+    ensures { (r : Ref) (a b : Places) → IsValid r → 0 < r.radix → SameBelow (size_of r) a b
+        → Passes r a → Passes r b }
+{}
 
 /// A law: bytes that meet a refusal spell no inode. So a refusal comes exactly where there is none.
 pub fn refusal_law()

@@ -1,7 +1,8 @@
 use Rattle.std.proofs.Common.{replicate}
 use Rattle.h2_num.specs.Places.{places}
 use Rattle.h2_ref.specs.Spelled.{zeros_at}
-use Rattle.h2_inode.proofs.FieldLemmas.{storable, name_few, fields_put}
+use Rattle.h2_inode.specs.InodeLaws.{name_few}
+use Rattle.h2_inode.proofs.FieldLemmas.{storable, fields_put}
 use Rattle.h2_inode.proofs.encoding.encode_inode.Goals as goal
 
 pub body_bytes-requires : goal.body_bytes-requires
