@@ -4,7 +4,7 @@ use Rattle.std.specs.Prelude.{All, nat_lt, nat_le, true, false, if◌then◌else
 use Rattle.std.proofs.lemmas.Bool.{lt-ltb, le-ltb, le-leb, cond-true}
 use Rattle.h2_num.specs.Places.{Places}
 use Rattle.h2_check.specs.XxhLaws.{xxh64_of-lt}
-use Rattle.h2_ref.specs.Ref.{IsValid, empty_ref}
+use Rattle.h2_ref.specs.Ref.{IsValid}
 use Rattle.h2_ref.specs.Set.{IsSet}
 use Rattle.h2_header.specs.declared.header.Header.{Header}
 use Rattle.h2_header.specs.Map.{IsMapEntry, IsMapSlot, IsMap, top_level, zones_under}

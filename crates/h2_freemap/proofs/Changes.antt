@@ -7,7 +7,7 @@ use Rattle.std.proofs.lemmas.List.{length-set, get_or-set_same, get_or-set_other
 use Rattle.std.proofs.lemmas.List.Elements.{All-set, All-get_or}
 use Rattle.h2_geom.specs.Geometry.{segments_of, segment_of, in_segment}
 use Rattle.h2_codes.specs.declared.code.Code.{Code}
-use Rattle.h2_codes.specs.declared.code.Code.TheVariants.{Free, Reserved, Staged, Used}
+use Rattle.h2_codes.specs.declared.code.Code.TheVariants.{Free, Used}
 use Rattle.h2_codes.specs.Codes.{IsSegment, tally, count_of}
 use Rattle.h2_freemap.specs.declared.size.Size.{Size}
 use Rattle.h2_freemap.specs.declared.size.Size.TheVariants.{Small, Middle, Whole}

@@ -10,7 +10,7 @@ use Rattle.h2_freemap.specs.declared.cursor.Cursor.{Cursor}
 use Rattle.h2_freemap.specs.Space.{Space, code_of}
 use Rattle.h2_freemap.specs.Free.{free_of}
 use Rattle.h2_freemap.specs.Taking.{HasNoRoom, GoesTo, at_cursor, at_lowest, Takes}
-use Rattle.h2_freemap.specs.Need.{blocks_left, small_chunks, middle_chunks, need_of, need_of_one, need_of_all, small_of, middle_of, whole_of, NeedIsUsed, NeedIsEnough, NeedGrows, NeedIsAtMost, TakesOnlyUse, TakesAll, NeedSplits}
+use Rattle.h2_freemap.specs.Need.{blocks_left, small_chunks, middle_chunks, need_of, need_of_one, need_of_all, small_of, middle_of, whole_of, NeedIsUsed, NeedIsEnough, NeedGrows, NeedIsAtMost, TakesOnlyUse, NeedSplits}
 use Rattle.h2_freemap.proofs.Taken.{cost, taken_free, taken_in_use}
 
 -- a block at the cursor is one less that has room

@@ -1,6 +1,6 @@
 -- Proofs of the laws of the freemap and the ledger.
-use Rattle.std.proofs.Common.{ℕ, zero, suc, true, false, Option, Some, None, List, [], ◌∷◌, ◌++◌, ◌≡◌, ◌≢◌, ◌⊎◌, ◌+◌, ◌-◌, ◌/◌, ◌^◌, ◌<◌, ◌≤◌, refl, sym, ap, ◌∙◌, subst, inl, inr, arith, pow_pos}
-use Rattle.std.proofs.lemmas.Bool.{cases_eq, cases_Bool}
+use Rattle.std.proofs.Common.{ℕ, zero, suc, true, false, Option, Some, None, List, ◌∷◌, ◌++◌, ◌≡◌, ◌≢◌, ◌⊎◌, ◌+◌, ◌-◌, ◌/◌, ◌^◌, ◌<◌, ◌≤◌, refl, sym, ap, ◌∙◌, subst, inl, inr, arith, pow_pos}
+use Rattle.std.proofs.lemmas.Bool.{cases_Bool}
 use Rattle.h2_num.specs.declared.block.Block.{Block}
 use Rattle.h2_geom.specs.Geometry.{chunk_bytes, segment_of, in_segment, chunks_of, chunk_place}
 use Rattle.h2_codes.specs.declared.code.Code.{Code}
@@ -16,7 +16,7 @@ use Rattle.h2_freemap.specs.Free as counting
 use Rattle.h2_freemap.specs.Free.{free_of, IsLowestFree}
 use Rattle.h2_freemap.specs.Taking as taking
 use Rattle.h2_freemap.specs.Taking.{bytes_of, HasRoom, HasNoRoom, GoesTo, at_cursor, at_lowest, cursor_behind, Takes}
-use Rattle.h2_freemap.specs.Need.{blocks_left, need_of, need_of_one, need_of_all, small_of, middle_of, whole_of, NeedSplits}
+use Rattle.h2_freemap.specs.Need.{blocks_left, need_of_one, need_of_all, NeedSplits}
 use Rattle.h2_freemap.specs.Pins.{is_in_use}
 use Rattle.h2_freemap.specs.Sweeping.{unless_free, kept_cursor}
 use Rattle.h2_ledger.specs.declared.cursor.SharedSize.{SharedSize}
