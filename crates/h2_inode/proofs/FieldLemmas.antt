@@ -1,16 +1,13 @@
 -- The fields of an inode, put over zeros and read back.
 use Rattle.std.specs.Prelude.{◌≡◌, ◌≤◌, ℕ, ◌+◌, List, length, refl}
-use Rattle.std.proofs.Common.{ap, ◌∙◌, arith}
-use Rattle.h2_num.specs.Places.{Places, places, from_place, SameOutside, SameBelow, Puts, Lays}
+use Rattle.std.proofs.Common.{◌∙◌, arith}
+use Rattle.h2_num.specs.Places.{Places, places, from_place, SameOutside, Puts, Lays}
 use Rattle.h2_num.specs.PlaceLaws.{number_stays, byte_stays, outside_both}
-use Rattle.h2_inode.specs.SetBytesLaws.{SetBytes-same}
 use Rattle.h2_inode.specs.declared.kind.InodeKind.{InodeKind}
-use Rattle.h2_inode.specs.declared.kind.InodeKind.TheVariants.{Directory, File, Pfs}
 use Rattle.h2_inode.specs.declared.inode.Body.{Body}
 use Rattle.h2_inode.specs.declared.inode.Body.TheVariants.{Refs, Bytes}
 use Rattle.h2_inode.specs.declared.inode.Inode.{Inode}
 use Rattle.h2_inode.specs.Kind.{kind_byte}
-use Rattle.h2_inode.specs.Head.{IsNameOf}
 use Rattle.h2_inode.specs.InodeLaws.{body_same}
 use Rattle.h2_inode.specs.Inode.{BodyFits, BodyBytes, body_byte, IsStorable, IsInode, InodeBytes}
 

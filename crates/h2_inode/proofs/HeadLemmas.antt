@@ -1,7 +1,7 @@
 -- Names and zeros in the bytes of an inode.
 use Rattle.std.specs.Prelude.{◌≡◌, ◌<◌, ◌≤◌, ℕ, ◌+◌, List, length, take, drop, Option, Some, None, MatchOption}
 use Rattle.std.proofs.Common.{sym, ◌∙◌, arith, subst}
-use Rattle.std.proofs.lemmas.List.{ext_get_or, get_or-take, get_or-drop, length-take-le, length-drop}
+use Rattle.std.proofs.lemmas.List.{get_or-take, get_or-drop, length-take-le, length-drop}
 use Rattle.h2_num.specs.Places.{Places, places, number_at}
 use Rattle.h2_dirkey.specs.PfsName.{IsPfsName}
 use Rattle.h2_inode.specs.Head.{HasName}

@@ -67,7 +67,7 @@ no_inode_there number b why i rules bytes is (no_inode fault h) = fault_refuses 
 no_inode_there number b why i rules bytes is (other_number other h there isnt) = isnt (sym there.number_at_8 ∙ bytes.number_at_8 ∙ is)
 
 -- where a set stands there is no fault of one
-no_set_fault : (n : ℕ) (refs : List Ref) (b : Places) (fault : SetFault) → IsSetAt n refs b → IsSetFaultOf n b fault → ⊥
+pub no_set_fault : (n : ℕ) (refs : List Ref) (b : Places) (fault : SetFault) → IsSetAt n refs b → IsSetFaultOf n b fault → ⊥
 no_set_fault n refs b (Set_ref at fault) set (j, lt, refused, decoded) = none-some fault (sym (set_decoded n refs b set.held set.bytes j lt) ∙ refused.1)
 no_set_fault n refs b Set_shape set (decoded, nothing) = nothing refs set
 

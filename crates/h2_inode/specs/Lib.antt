@@ -13,3 +13,4 @@ pub mod Cause
 pub mod CauseLaws
 pub mod InodeLaws
 pub mod PassLaws
+pub mod OneCause

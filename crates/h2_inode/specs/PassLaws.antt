@@ -1,5 +1,5 @@
 -- Whether a block passes is seen by its own bytes alone.
-use Rattle.std.specs.Prelude.{◌≡◌, ◌<◌, ℕ, List}
+use Rattle.std.specs.Prelude.{◌<◌, ℕ, List}
 use Rattle.std.proofs.Common.{ap, sym, ◌∙◌, subst}
 use Rattle.h2_num.specs.Places.{Places, SameBelow}
 use Rattle.h2_check.specs.XxhLaws.{xxh64_of-same}
@@ -12,7 +12,7 @@ use Rattle.h2_dirkey.specs.BlockLaws.{NameBytes-same}
 use Rattle.h2_inode.specs.declared.inode.Inode.{Inode}
 use Rattle.h2_inode.specs.SetBytesLaws.{SetBytes-same}
 use Rattle.h2_inode.specs.InodeLaws.{InodeBytes-same}
-use Rattle.h2_inode.specs.Block.{HasCheck, IsNameOf, IsInodeBlock, IsSetBlock, IsContentBlock, IsNameBlock, PassesAs, Passes}
+use Rattle.h2_inode.specs.Block.{HasCheck, IsInodeBlock, IsSetBlock, IsNameBlock, PassesAs, Passes}
 use Rattle.h2_inode.specs.CauseLaws.{block_bytes, valid_size}
 
 check_same : (r : Ref) (n : ℕ) (a b : Places) → SameBelow n a b → HasCheck r n a → HasCheck r n b

@@ -32,8 +32,9 @@ pub fn refusal_law()
     ensures { (b : Places) (fault : InodeFault) → IsFaultOf b fault → NoInode b }
 {}
 
-/// A law: a block with a cause doesn't pass the reference that names it. So `judge` gives one exactly where the
-/// block doesn't pass.
+/// A law: a block with a cause doesn't pass the reference that names it, and has one cause at most. So what
+/// `judge` answers follows from the reference and the bytes.
 pub fn cause_law()
-    ensures { (r : Ref) (b : Places) (why : Why) → IsValid r → 0 < r.radix → IsCauseOf r b why → Passes r b → ⊥ }
+    ensures refuses { (r : Ref) (b : Places) (why : Why) → IsValid r → 0 < r.radix → IsCauseOf r b why → Passes r b → ⊥ }
+    ensures one { (r : Ref) (b : Places) (why other : Why) → IsCauseOf r b why → IsCauseOf r b other → other ≡ why }
 {}
