@@ -1,7 +1,0 @@
-mod commands;
-mod histories;
-mod judging;
-mod limits;
-mod replies;
-mod rows;
-mod running;
