@@ -1,3 +1,4 @@
 pub mod Parts
 pub mod Leaves
 pub mod Nodes
+pub mod Blocks

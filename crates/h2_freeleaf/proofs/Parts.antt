@@ -66,3 +66,10 @@ read_more IsX P b xs x i lt h valid bytes =
         | inr late ↦ let e : k ≡ i = omega arith in rw (e, get_or-set_same) bytes
       ];
     }
+
+-- one more place of an array is filled
+pub fill_more : {X : Type 0} (Q : ℕ → X → Type 0) (xs : List X) (x : X) (i : ℕ) → i < length xs → ((k : ℕ) (d : X) → k < i → Q k (slice_index_or xs k d)) → Q i x → (k : ℕ) (d : X) → k < i + 1 → Q k (slice_index_or (slice_set xs i x) k d)
+fill_more Q xs x i inside so_far new k d below = elim (cases_lt k i) [
+  | inl early ↦ let ne : k ≢ i = omega arith in rw get_or-set_other (so_far k d early)
+  | inr late ↦ let e : k ≡ i = omega arith in rw (e, get_or-set_same) new
+]

@@ -4,3 +4,5 @@ pub mod Fault
 pub mod LeafLaws
 pub mod NodeLaws
 pub mod FaultLaws
+pub mod InImage
+pub mod Plan

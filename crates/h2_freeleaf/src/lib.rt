@@ -12,12 +12,15 @@ mod layout;
 mod leaf;
 mod node;
 mod part;
+mod places;
+mod planning;
 
 pub use fault::MapFault;
 pub use laws::{leaf_law, node_law, refusal_law};
 pub use layout::{LEAF_SEGMENTS, MAP_BYTES, NODE_REFS};
 pub use leaf::{decode_leaf, encode_leaf};
 pub use node::{decode_node, encode_node};
+pub use planning::{MapPlan, plan};
 
 #[cfg(test)]
 mod tests;
