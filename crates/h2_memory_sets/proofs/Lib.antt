@@ -1,0 +1,5 @@
+pub mod Lists
+pub mod Settled
+pub mod Storing
+pub mod Nodes
+pub mod Making

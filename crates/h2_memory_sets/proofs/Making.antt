@@ -1,0 +1,273 @@
+-- A node that takes over a part of another.
+use Rattle.std.proofs.Common.{◌≡◌, ℕ, ◌+◌, ◌<◌, ◌≤◌, ◌^◌, ◌%◌, Bool, true, false, arith, refl, cond, sym, ◌∙◌, ap, List, [], ◌∷◌, length, Option, Some, None, subst, ◌⊎◌, inl, inr, slice_get, suc, zero}
+use Rattle.std.specs.Prelude.{filter, not, count_by}
+use Rattle.std.proofs.lemmas.Bool.{cases_lt}
+use Rattle.std.proofs.lemmas.Nat.{pow_pos}
+use Rattle.std.proofs.lemmas.List.Sums.{length-filter, sum_by-cons}
+use Rattle.std.proofs.lemmas.Option.{none-some}
+use Rattle.h2_ref.specs.declared.reference.Ref.{Ref}
+use Rattle.h2_set.specs.declared.set.Split.{Split}
+use Rattle.h2_set.specs.Ranges.{Rising, limit, put, lies, is_indirect, IsApart, Apart, Sides, IsAligned}
+use Rattle.h2_set.specs.RefSet.{RefSet, IsRefSet, with_rest}
+use Rattle.h2_set.specs.Forest.{Forest, refs, Link, loaded, untold, IsSound, IsSoundNode, IsChild, NamesBelow, Fits, MadeFrom, Makes, Keeps}
+use Rattle.h2_set.specs.ChangeLaws.{same_or_not}
+use Rattle.h2_set.specs.LeafLaws.{Rising-low, Rising-le, place_above}
+use Rattle.h2_set.specs.EditLaws.{Rising-put, length-put}
+use Rattle.h2_set.specs.PutLaws.{Rising-filter, put_from, put_keeps}
+use Rattle.h2_set.specs.SplitLaws.{lies_in, in_lies, below_high}
+use Rattle.h2_set.specs.MadeLaws.{put_rising, put_fits, PartsNode, parts_node}
+use Rattle.h2_memory_sets.proofs.Lists.{filter_from, filter_keeps, put_there, Rising-within, same_key}
+use Rattle.h2_memory_sets.proofs.Settled.{Settled, Contents, fits_in, child_in, placed, same_node, same_keeps}
+
+-- Two forests of which the second has one node more, with what lay in the range of a split below node at.
+pub record DiffersByMake (f g : Forest) (at c : ℕ) (set : RefSet) (s : Split) (ref : Ref) : Type 0 where
+  pub settled : Settled f g
+  pub fresh : f.stands c ≡ false
+  pub new : g.stands c ≡ true
+  pub stands : (m : ℕ) → (m ≡ c → ⊥) → g.stands m ≡ true → f.stands m ≡ true
+  pub root : g.root c ≡ f.root at
+  pub low : g.low c ≡ s.key
+  pub bits : g.bits c ≡ s.keybits
+  pub moved : g.set c ≡ s.moved
+  pub indirect : is_indirect ref ≡ true
+  pub key : ref.key ≡ s.key
+  pub keybits : ref.keybits ≡ s.keybits
+  pub now : g.set at ≡ record { refs = put ref (with_rest s.rest set.refs); capacity = set.capacity }
+  pub there : (m : ℕ) → f.stands m ≡ true → (m ≡ at → ⊥) → g.set m ≡ f.set m
+  pub link : (m k : ℕ) → f.stands m ≡ true → (m ≡ at → ⊥) → g.link m k ≡ f.link m k
+  pub child : g.link at s.key ≡ loaded c
+  pub kept : (k : ℕ) → (k < s.key) ⊎ (s.key + 2 ^ s.keybits ≤ k) → g.link at k ≡ f.link at k
+  pub below : (k : ℕ) → s.key ≤ k → k < s.key + 2 ^ s.keybits → g.link c k ≡ f.link at k
+  -- nothing else is loaded below the two
+  pub only : (k d : ℕ) → (k ≡ s.key → ⊥) → s.key ≤ k → k < s.key + 2 ^ s.keybits → g.link at k ≡ loaded d → ⊥
+  pub only_below : (k d : ℕ) → (k < s.key) ⊎ (s.key + 2 ^ s.keybits ≤ k) → g.link c k ≡ loaded d → ⊥
+  pub spare : g.spare + 1 ≡ f.spare
+  pub room : g.room + 1 ≡ f.room
+  pub failed : g.failed ≡ f.failed
+  pub bad : g.bad ≡ f.bad
+
+-- where a key lies to a range
+data Lies (key bits k : ℕ) : Type 0 where
+  at_start : k ≡ key → Lies key bits k
+  in_range : (k ≡ key → ⊥) → key ≤ k → k < key + 2 ^ bits → Lies key bits k
+  outside : (k < key) ⊎ (key + 2 ^ bits ≤ k) → Lies key bits k
+
+where_lies : (key bits k : ℕ) → Lies key bits k
+where_lies key bits k = elim (cases_lt k key) as (λ _. Lies key bits k) [
+  | inl lt ↦ outside (inl lt)
+  | inr ge ↦ elim (cases_lt k (key + 2 ^ bits)) as (λ _. Lies key bits k) [
+    | inr past ↦ outside (inr past)
+    | inl within ↦ elim (same_or_not k key) as (λ _. Lies key bits k) [
+      | inl e ↦ at_start e
+      | inr ne ↦ in_range ne ge within
+    ]
+  ]
+]
+
+-- a count of the others
+count_not : (p : Ref → Bool) (rs : List Ref) → count_by p rs + count_by (λ q. not (p q)) rs ≡ length rs
+count_not p [] = refl
+count_not p (r ∷ rs) = rw (sum_by-cons, sum_by-cons) (head (p r) (count_not p rs))
+  where
+    head : (b : Bool) → count_by p rs + count_by (λ q. not (p q)) rs ≡ length rs → (cond b 1 0 + count_by p rs) + (cond (not b) 1 0 + count_by (λ q. not (p q)) rs) ≡ suc (length rs)
+    head true e = omega (arith, e)
+    head false e = omega (arith, e)
+
+not_false : (b : Bool) → not b ≡ true → b ≡ false
+not_false true e = absurd (cc)
+not_false false e = refl
+
+-- a reference that doesn't lie in the range is apart from it
+off_range : (key bits : ℕ) (q : Ref) → Sides key bits q → lies key bits q ≡ false → (limit q ≤ key) ⊎ (key + 2 ^ bits ≤ q.key)
+off_range key bits q (inl e) no = absurd (cc)
+off_range key bits q (inr out) no = out
+
+-- one whose key is in the range lies in it
+on_range : (key bits : ℕ) (q : Ref) → Sides key bits q → key ≤ q.key → q.key < key + 2 ^ bits → lies key bits q ≡ true
+on_range key bits q (inl e) lo hi = e
+on_range key bits q (inr (inl before)) lo hi = let pos = pow_pos q.keybits in absurd (omega (arith, before, lo, pos))
+on_range key bits q (inr (inr after)) lo hi = absurd (omega (arith, after, hi))
+
+-- a key before or behind the range, of a reference that is apart from it
+off_key : (key bits : ℕ) (q : Ref) → (limit q ≤ key) ⊎ (key + 2 ^ bits ≤ q.key) → (q.key < key) ⊎ (key + 2 ^ bits ≤ q.key)
+off_key key bits q (inl before) = let pos = pow_pos q.keybits in inl (omega (arith, before, pos))
+off_key key bits q (inr after) = inr after
+
+off_lies : (key bits : ℕ) (q : Ref) → (q.key < key) ⊎ (key + 2 ^ bits ≤ q.key) → (b : Bool) → lies key bits q ≡ b → b ≡ false
+off_lies key bits q out false e = refl
+off_lies key bits q (inl before) true e = let it = lies_in key bits q e in absurd (omega (arith, before, it.0))
+off_lies key bits q (inr after) true e = let it = lies_in key bits q e in let pos = pow_pos q.keybits in absurd (omega (arith, after, it.1, pos))
+
+Rising-wide : (low high high' : ℕ) (rs : List Ref) → high ≤ high' → Rising low high rs → Rising low high' rs
+Rising-wide low high high' [] le h = omega (arith, le, h)
+Rising-wide low high high' (r ∷ rs) le h = (h.0, Rising-wide (limit r) high high' rs le h.1)
+
+module _ (f g : Forest) (at c : ℕ) (set : RefSet) (s : Split) (ref leaf : Ref) (d : DiffersByMake f g at c set s ref) (sound : IsSound f) (stands : f.stands at ≡ true) (made : MadeFrom f at leaf set s) where
+  node : IsSoundNode f at
+  node = sound.node at stands
+
+  all : List Ref
+  all = put leaf (refs f at)
+
+  pub parts : PartsNode f at leaf s.key s.keybits
+  parts = parts_node f at leaf set s node made
+
+  all_rising : Rising (f.low at) (f.low at + 2 ^ f.bits at) (put leaf (refs f at))
+  all_rising = put_rising f at leaf node made.apart made.fits made.low made.high
+
+  all_fits : (i : ℕ) (q : Ref) → slice_get (put leaf (refs f at)) i ≡ Some q → Fits f at q
+  all_fits = put_fits f at leaf node made.apart made.fits made.low made.high
+
+  other : at ≡ c → ⊥
+  other e = let clash : true ≡ false = sym stands ∙ ap f.stands e ∙ d.fresh in cc
+
+  place : g.low at ≡ f.low at
+  place = (d.settled.place at stands).low
+
+  -- what stays at the node, and what moved
+  outer : List Ref
+  outer = filter (λ q. not (lies s.key s.keybits q)) (put leaf (refs f at))
+
+  inner : List Ref
+  inner = filter (lies s.key s.keybits) (put leaf (refs f at))
+
+  refs_here : refs g at ≡ put ref (filter (λ q. not (lies s.key s.keybits q)) (put leaf (refs f at)))
+  refs_here = ap (λ (t : RefSet). t.refs) d.now ∙ ap (put ref) made.kept
+
+  refs_new : refs g c ≡ filter (lies s.key s.keybits) (put leaf (refs f at))
+  refs_new = ap (λ (t : RefSet). t.refs) d.moved ∙ ap (λ (t : RefSet). t.refs) made.moved
+
+  outer_rising : Rising (f.low at) (f.low at + 2 ^ f.bits at) (filter (λ q. not (lies s.key s.keybits q)) (put leaf (refs f at)))
+  outer_rising = Rising-filter (λ q. not (lies s.key s.keybits q)) _ _ (put leaf (refs f at)) all_rising
+
+  -- a reference that stays is apart from the range
+  record Stayed (q : Ref) : Type 0 where
+    place : ℕ
+    read : slice_get (put leaf (refs f at)) place ≡ Some q
+    off : (limit q ≤ s.key) ⊎ (s.key + 2 ^ s.keybits ≤ q.key)
+
+  stayed : (i : ℕ) (q : Ref) → slice_get (filter (λ q. not (lies s.key s.keybits q)) (put leaf (refs f at))) i ≡ Some q → Stayed q
+  stayed i q read =
+      let it = filter_from (λ q. not (lies s.key s.keybits q)) (put leaf (refs f at)) i q read in
+      record { place = it.place; read = it.read; off = off_range s.key s.keybits q (parts.sides it.place q it.read) (not_false _ it.passes) }
+
+  pub ref_apart : IsApart ref (filter (λ q. not (lies s.key s.keybits q)) (put leaf (refs f at)))
+  ref_apart i q read = elim (stayed i q read).off as (λ _. Apart ref q) [
+    | inl before ↦ inr (rw d.key before)
+    | inr after ↦ inl (rw (d.key, d.keybits) after)
+  ]
+
+  counts : count_by (lies s.key s.keybits) (put leaf (refs f at)) + length (filter (λ q. not (lies s.key s.keybits q)) (put leaf (refs f at))) ≡ suc (length (refs f at))
+  counts =
+      let a = count_not (lies s.key s.keybits) (put leaf (refs f at)) in
+      let b = length-filter (λ q. not (lies s.key s.keybits q)) (put leaf (refs f at)) in
+      let n = length-put leaf (refs f at) made.apart in
+      omega (arith, a, b, n)
+
+  -- a reference of the whole that leads on stood there before
+  record Stood (q : Ref) : Type 0 where
+    place : ℕ
+    read : slice_get (refs f at) place ≡ Some q
+
+  stood : (i : ℕ) (q : Ref) → slice_get (put leaf (refs f at)) i ≡ Some q → is_indirect q ≡ true → Stood q
+  stood i q read ind = elim (put_from leaf (refs f at) made.apart i q read) as (λ _. Stood q) [
+    | inl e ↦ let clash : true ≡ false = sym ind ∙ ap (λ (z : Ref). is_indirect z) e ∙ made.leaf in absurd (cc)
+    | inr old ↦ record { place = old.0; read = old.1 }
+  ]
+
+  -- the reference to the new node fits
+  ref_fits : Fits g at ref
+  ref_fits = fits_in f g d.settled at ref stands (record {
+    aligned = rw (d.key, d.keybits) made.split.half.aligned;
+    leaf = λ no. let clash : true ≡ false = sym d.indirect ∙ no in absurd (cc);
+    allowed = λ no. let clash : true ≡ false = sym d.indirect ∙ no in absurd (cc);
+    wide = λ _. let w = parts.wide in rw d.keybits (omega (arith, w));
+    some_bits = λ _. let w = parts.wide in rw d.keybits (omega (arith, w));
+    falls = λ _. rw d.keybits parts.fewer;
+  })
+
+  here_child : (k e : ℕ) → g.link at k ≡ loaded e → IsChild g at k e
+  here_child k e l = elim (where_lies s.key s.keybits k) as (λ _. IsChild g at k e) [
+    | in_range ne lo hi ↦ absurd (d.only k e ne lo hi l)
+    | outside out ↦ child_in f g d.settled at k e stands (node.child k e (sym (d.kept k out) ∙ l))
+    | at_start start ↦ let same : loaded c ≡ loaded e = sym d.child ∙ ap (g.link at) (sym start) ∙ l in let it : c ≡ e = (cc) in subst (IsChild g at k) it (fresh_child k start)
+  ]
+    where
+      fresh_child : (k : ℕ) → k ≡ s.key → IsChild g at k c
+      fresh_child k start =
+          let p = d.settled.place at stands in
+          record {
+            stands = d.new;
+            root = d.root ∙ sym p.root;
+            low = d.low ∙ sym start;
+            above = rw (p.low, d.low) parts.range_low;
+            within = rw (p.low, d.low, p.bits, d.bits) parts.range_high;
+            fewer = rw (p.bits, d.bits) parts.fewer;
+            copies = rw (d.settled.copies c, d.settled.copies at, d.settled.writable c, d.settled.uncopied c, d.settled.uncopied at, d.settled.all_writable c) refl;
+          }
+
+  here_named : (k e : ℕ) → g.link at k ≡ loaded e → NamesBelow (put ref (filter (λ q. not (lies s.key s.keybits q)) (put leaf (refs f at)))) k
+  here_named k e l = elim (where_lies s.key s.keybits k) as (λ _. NamesBelow (put ref (filter (λ q. not (lies s.key s.keybits q)) (put leaf (refs f at)))) k) [
+    | in_range ne lo hi ↦ absurd (d.only k e ne lo hi l)
+    | at_start start ↦ let it = put_there ref (filter (λ q. not (lies s.key s.keybits q)) (put leaf (refs f at))) ref_apart in record { place = it.0; ref = ref; read = it.1; indirect = d.indirect; key = d.key ∙ sym start }
+    | outside out ↦
+        let old = node.named k e (sym (d.kept k out) ∙ l) in
+        let one = put_keeps leaf (refs f at) made.apart old.place old.ref old.read in
+        let no : lies s.key s.keybits old.ref ≡ false = off_lies s.key s.keybits old.ref (rw old.key out) _ refl in
+        let two = filter_keeps (λ q. not (lies s.key s.keybits q)) (put leaf (refs f at)) one.0 old.ref one.1 (ap not no) in
+        let three = put_keeps ref (filter (λ q. not (lies s.key s.keybits q)) (put leaf (refs f at))) ref_apart two.0 old.ref two.1 in
+        record { place = three.0; ref = old.ref; read = three.1; indirect = old.indirect; key = old.key }
+  ]
+
+  here_bits : (i e : ℕ) (q : Ref) → slice_get (put ref (filter (λ q. not (lies s.key s.keybits q)) (put leaf (refs f at)))) i ≡ Some q → is_indirect q ≡ true → g.link at q.key ≡ loaded e → g.bits e ≡ q.keybits
+  here_bits i e q read ind l = elim (put_from ref (filter (λ q. not (lies s.key s.keybits q)) (put leaf (refs f at))) ref_apart i q read) as (λ _. g.bits e ≡ q.keybits) [
+    | inl same ↦
+        let at_key : q.key ≡ s.key = ap (λ (z : Ref). z.key) same ∙ d.key in
+        let both : loaded c ≡ loaded e = sym d.child ∙ ap (g.link at) (sym at_key) ∙ l in
+        let it : c ≡ e = (cc) in
+        ap g.bits (sym it) ∙ d.bits ∙ sym d.keybits ∙ ap (λ (z : Ref). z.keybits) (sym same)
+    | inr old ↦
+        let st = stayed old.0 q old.1 in
+        let was = stood st.place q st.read ind in
+        let l' : f.link at q.key ≡ loaded e = sym (d.kept q.key (off_key s.key s.keybits q st.off)) ∙ l in
+        let kid = node.child q.key e l' in
+        (d.settled.place e kid.stands).bits ∙ node.bits was.place e q was.read ind l'
+  ]
+
+  here_fits : (i : ℕ) (q : Ref) → slice_get (put ref (filter (λ q. not (lies s.key s.keybits q)) (put leaf (refs f at)))) i ≡ Some q → Fits g at q
+  here_fits i q read = elim (put_from ref (filter (λ q. not (lies s.key s.keybits q)) (put leaf (refs f at))) ref_apart i q read) as (λ _. Fits g at q) [
+    | inl same ↦ subst (Fits g at) (sym same) ref_fits
+    | inr old ↦ let st = stayed old.0 q old.1 in fits_in f g d.settled at q stands (all_fits st.place q st.read)
+  ]
+
+  here_rising : Rising (f.low at) (f.low at + 2 ^ f.bits at) (put ref (filter (λ q. not (lies s.key s.keybits q)) (put leaf (refs f at))))
+  here_rising = Rising-put _ _ _ ref outer_rising ref_apart (rw d.key parts.range_low) (rw (d.key, d.keybits) parts.range_high)
+
+  here_length : length (put ref (filter (λ q. not (lies s.key s.keybits q)) (put leaf (refs f at)))) ≡ suc (length (filter (λ q. not (lies s.key s.keybits q)) (put leaf (refs f at))))
+  here_length = length-put ref _ ref_apart
+
+  here_set : IsRefSet (record { refs = put ref (filter (λ q. not (lies s.key s.keybits q)) (put leaf (refs f at))); capacity = set.capacity })
+  here_set =
+      let full = made.full in
+      let same = made.capacity in
+      let n = here_length in
+      let k = counts in
+      let two = parts.two in
+      record {
+        rising = Rising-wide 0 _ (2 ^ 64) _ node.ends (Rising-low (f.low at) 0 _ _ (omega arith) here_rising);
+        fits = omega (arith, full, same, n, k, two);
+        known = rw same node.set.known;
+      }
+
+  pub here_node : IsSoundNode g at
+  here_node =
+      let p = d.settled.place at stands in
+      placed f g d.settled at stands node (record {
+        set = rw (d.now, made.kept) here_set;
+        inside = rw (refs_here, p.low, p.bits) here_rising;
+        fits = λ i q read. here_fits i q (rw refs_here at read);
+        some = λ top. rw (refs_here, here_length) (omega arith);
+        child = here_child;
+        named = λ k e l. rw refs_here (here_named k e l);
+        bits = λ i e q read ind l. here_bits i e q (rw refs_here at read) ind l;
+      })

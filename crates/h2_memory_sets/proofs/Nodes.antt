@@ -1,0 +1,105 @@
+-- Lists of nodes in which some have changed.
+use Rattle.std.proofs.Common.{◌≡◌, ℕ, ◌+◌, ◌-◌, ◌<◌, ◌≤◌, ◌^◌, Bool, true, false, ◌&&◌, arith, refl, cond, sym, ◌∙◌, ap, List, [], ◌∷◌, ◌++◌, length, Option, Some, None, subst, ◌⊎◌, inl, inr, slice_get, slice_set, suc, zero, nat_lt, nat_eq}
+use Rattle.std.specs.Prelude.{not, map}
+use Rattle.std.specs.List.{position, position_or_len}
+use Rattle.std.proofs.lemmas.Option.{none-some, slice_get_within, slice_get_read}
+use Rattle.std.proofs.Math.ListN.{length-set}
+use Rattle.h2_set.specs.RefSet.{RefSet}
+use Rattle.h2_set.specs.Forest.{Link, loaded, untold, Forest, InPlace, Fixed, IsSound}
+use Rattle.h2_set.specs.ChangeLaws.{same_or_not}
+use Rattle.h2_memory_sets.specs.declared.node.Node.{Node}
+use Rattle.h2_memory_sets.specs.declared.memory.MemorySets.{MemorySets}
+use Rattle.h2_memory_sets.specs.View.{stands_of, set_of, root_of, low_of, bits_of, leaf_bits_of, is_up, is_child, names, link_to, link_of, spare_of, forest_of}
+use Rattle.h2_memory_sets.proofs.Settled.{Settled}
+use Rattle.h2_memory_sets.proofs.Storing.{DiffersByStore}
+
+-- a test that passes at the same places of two lists
+first_same : {X : Type 0} (p q : X → Bool) (xs ys : List X) → length xs ≡ length ys → ((i : ℕ) (x y : X) → slice_get xs i ≡ Some x → slice_get ys i ≡ Some y → p x ≡ q y) → position_or_len p xs ≡ position_or_len q ys
+first_same p q [] [] len same = refl
+first_same p q [] (y ∷ ys) len same = absurd (omega (arith, len))
+first_same p q (x ∷ xs) [] len same = absurd (omega (arith, len))
+first_same p q (x ∷ xs) (y ∷ ys) len same = rw (same 0 x y refl refl) (ap (λ n. cond (not (q y)) (1 + n) 0) (first_same p q xs ys (omega (arith, len)) (λ i a b ra rb. same (suc i) a b ra rb)))
+
+pub position_same : {X : Type 0} (p q : X → Bool) (xs ys : List X) → length xs ≡ length ys → ((i : ℕ) (x y : X) → slice_get xs i ≡ Some x → slice_get ys i ≡ Some y → p x ≡ q y) → position p xs ≡ position q ys
+position_same p q xs ys len same = rw (first_same p q xs ys len same, len) refl
+
+pub get_set : {X : Type 0} (xs : List X) (at : ℕ) (y : X) → at < length xs → slice_get (slice_set xs at y) at ≡ Some y
+get_set [] at y lt = absurd (omega (arith, lt))
+get_set (z ∷ zs) zero y lt = refl
+get_set (z ∷ zs) (suc at) y lt = get_set zs at y (omega arith)
+
+pub get_set_other : {X : Type 0} (xs : List X) (at m : ℕ) (y : X) → (m ≡ at → ⊥) → slice_get (slice_set xs at y) m ≡ slice_get xs m
+get_set_other [] at m y ne = refl
+get_set_other (z ∷ zs) zero zero y ne = absurd (ne refl)
+get_set_other (z ∷ zs) zero (suc m) y ne = refl
+get_set_other (z ∷ zs) (suc at) zero y ne = refl
+get_set_other (z ∷ zs) (suc at) (suc m) y ne = get_set_other zs at m y (λ e. ne (ap suc e))
+
+-- what reads the same of one node reads the same of all
+pub field_stays : {X Y : Type 0} (F : Option Y → X) (xs : List Y) (at : ℕ) (x y : Y) → slice_get xs at ≡ Some x → F (Some y) ≡ F (Some x) → (m : ℕ) → F (slice_get (slice_set xs at y) m) ≡ F (slice_get xs m)
+field_stays F xs at x y read same m = elim (same_or_not m at) as (λ _. F (slice_get (slice_set xs at y) m) ≡ F (slice_get xs m)) [
+  | inl e ↦ subst (λ z. F (slice_get (slice_set xs at y) z) ≡ F (slice_get xs z)) (sym e) (ap F (get_set xs at y (slice_get_within xs at x read)) ∙ same ∙ ap F (sym read))
+  | inr ne ↦ ap F (get_set_other xs at m y ne)
+]
+
+-- a node that stands is there
+pub is_there : (xs : List Node) (at : ℕ) → stands_of (slice_get xs at) ≡ true → at < length xs
+is_there [] at h = absurd (cc)
+is_there (x ∷ xs) zero h = omega arith
+is_there (x ∷ xs) (suc at) h = let it = is_there xs at h in omega arith
+
+-- what every change of a forest in memory leaves as it is
+pub settled_of : (p q : MemorySets) → ((m : ℕ) → leaf_bits_of (slice_get q.nodes.items m) ≡ leaf_bits_of (slice_get p.nodes.items m)) → q.epoch ≡ p.epoch → p.failed ≤ q.failed → p.bad ≤ q.bad → ((m : ℕ) → stands_of (slice_get p.nodes.items m) ≡ true → (stands_of (slice_get q.nodes.items m) ≡ true) × (root_of (slice_get q.nodes.items m) ≡ root_of (slice_get p.nodes.items m)) × (low_of (slice_get q.nodes.items m) ≡ low_of (slice_get p.nodes.items m)) × (bits_of (slice_get q.nodes.items m) ≡ bits_of (slice_get p.nodes.items m))) → Settled (forest_of p) (forest_of q)
+settled_of p q leaf epoch failed bad place = record {
+  fixed = record { leaf_bits = leaf; allows = λ m r. refl; held = λ m. refl; name = λ r. refl; epoch = epoch; failed = failed; bad = bad };
+  place = λ m st. let it = place m st in record { stands = it.0; root = it.1; low = it.2; bits = it.3; belongs = λ t k. refl; writable = λ e. refl };
+  copies = λ m. refl;
+  writable = λ m. refl;
+  uncopied = λ m. refl;
+  all_writable = λ m. refl;
+  all_allowed = λ m r. refl;
+  none_held = λ m. refl;
+}
+
+-- a node with another set
+abbrev pub with_set : Node → RefSet → Node
+with_set x s = record { set = s; loaded = x.loaded; up = x.up; root = x.root; low = x.low; bits = x.bits; leaf_bits = x.leaf_bits }
+
+-- a node that was read by its place
+pub node_at : (p : MemorySets) (at : ℕ) (x : Node) → stands_of (slice_get p.nodes.items at) ≡ true → slice_get p.nodes.items at ≡ Some x → set_of (slice_get p.nodes.items at) ≡ x.set
+node_at p at x st read = ap set_of read
+
+pub differs_by_store : (p q : MemorySets) (at : ℕ) (x : Node) (s : RefSet) → slice_get p.nodes.items at ≡ Some x → q.nodes.items ≡ slice_set p.nodes.items at (with_set x s) → q.epoch ≡ p.epoch → q.room ≡ p.room → q.failed ≡ p.failed → q.bad ≡ p.bad → q.nodes.cap ≡ p.nodes.cap → q.nodes.len ≡ p.nodes.len → DiffersByStore (forest_of p) (forest_of q) at s
+differs_by_store p q at x s read items epoch room failed bad cap_is len_is =
+    let y = with_set x s in
+    let xs = p.nodes.items in
+    let field : (X : Type 0) (F : Option Node → X) → F (Some y) ≡ F (Some x) → (m : ℕ) → F (slice_get q.nodes.items m) ≡ F (slice_get xs m) = λ X F same m. ap (λ (l : List Node). F (slice_get l m)) items ∙ field_stays F xs at x y read same m in
+    let here : set_of (slice_get q.nodes.items at) ≡ s = ap (λ (l : List Node). set_of (slice_get l at)) items ∙ ap set_of (get_set xs at y (slice_get_within xs at x read)) in
+    let there : (m : ℕ) → (m ≡ at → ⊥) → set_of (slice_get q.nodes.items m) ≡ set_of (slice_get xs m) = λ m ne. ap (λ (l : List Node). set_of (slice_get l m)) items ∙ ap set_of (get_set_other xs at m y ne) in
+    let first : (m k : ℕ) → position (is_child m k) q.nodes.items ≡ position (is_child m k) xs = λ m k. ap (position (is_child m k)) items ∙ sym (position_same (is_child m k) (is_child m k) xs (slice_set xs at y) (sym (length-set xs at y)) (same_children xs at x y read m k refl refl refl)) in
+    record {
+      settled = settled_of p q (field _ leaf_bits_of refl) epoch (rw failed (omega arith)) (rw bad (omega arith)) (λ m st. (field _ stands_of refl m ∙ st, field _ root_of refl m, field _ low_of refl m, field _ bits_of refl m));
+      stands = field _ stands_of refl;
+      here = here;
+      there = there;
+      link = λ m k ne. rw (there m ne, first m k) refl;
+      below = λ k. link_to (position (is_child at k) xs);
+      before = λ k. refl;
+      after = λ k. rw (here, first at k) refl;
+      spare = rw (cap_is, len_is) refl;
+      room = room;
+      failed = failed;
+      bad = bad;
+    }
+  where
+    same_children : (xs : List Node) (at : ℕ) (x y : Node) → slice_get xs at ≡ Some x → (m k : ℕ) → y.loaded ≡ x.loaded → y.up ≡ x.up → y.low ≡ x.low → (i : ℕ) (a b : Node) → slice_get xs i ≡ Some a → slice_get (slice_set xs at y) i ≡ Some b → is_child m k a ≡ is_child m k b
+    same_children xs at x y read m k l u w i a b ra rb = elim (same_or_not i at) as (λ _. is_child m k a ≡ is_child m k b) [
+      | inl e ↦
+          let a_is : x ≡ a = some_one x a (sym read ∙ subst (λ z. slice_get xs z ≡ Some a) e ra) in
+          let b_is : y ≡ b = some_one y b (sym (get_set xs at y (slice_get_within xs at x read)) ∙ subst (λ z. slice_get (slice_set xs at y) z ≡ Some b) e rb) in
+          rw (← a_is, ← b_is, l, u, w) refl
+      | inr ne ↦ let b_is : a ≡ b = some_one a b (sym ra ∙ sym (get_set_other xs at i y ne) ∙ rb) in ap (is_child m k) b_is
+    ]
+      where
+        some_one : {X : Type 0} (a b : X) → Some a ≡ Some b → a ≡ b
+        some_one a b e = cc

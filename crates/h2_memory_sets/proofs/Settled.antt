@@ -1,0 +1,109 @@
+-- Nodes that stay where they are while something else of the forest changes.
+use Rattle.std.proofs.Common.{◌≡◌, ℕ, ◌+◌, ◌<◌, ◌≤◌, ◌^◌, ◌%◌, Bool, true, false, arith, refl, cond, sym, ◌∙◌, ap, List, [], ◌∷◌, length, Option, Some, None, subst, ◌⊎◌, inl, inr, slice_get, suc, zero}
+use Rattle.h2_ref.specs.declared.reference.Ref.{Ref}
+use Rattle.h2_set.specs.Ranges.{Rising, limit, is_indirect}
+use Rattle.h2_set.specs.RefSet.{RefSet, IsRefSet}
+use Rattle.h2_set.specs.Forest.{Forest, refs, Link, loaded, IsChild, IsSoundNode, IsSound, Fits, NamesBelow, Fixed, InPlace, Keeps, Same, Alike}
+use Rattle.h2_set.specs.StayLaws.{Alike-refl}
+
+-- every node that stands stays in its place, and none is copied
+pub record Settled (f g : Forest) : Type 0 where
+  pub fixed : Fixed f g
+  pub place : (m : ℕ) → f.stands m ≡ true → InPlace f g m
+  pub copies : (m : ℕ) → g.copies m ≡ f.copies m
+  pub writable : (m : ℕ) → g.writable m ≡ f.writable m
+  pub uncopied : (m : ℕ) → f.copies m ≡ 0
+  pub all_writable : (m : ℕ) → f.writable m ≡ true
+  pub all_allowed : (m : ℕ) (r : Ref) → f.allows m r ≡ true
+  pub none_held : (m : ℕ) → f.held m ≡ false
+
+-- what is sound of a node but for its range
+pub record Contents (f g : Forest) (m : ℕ) : Type 0 where
+  pub set : IsRefSet (g.set m)
+  pub inside : Rising (g.low m) (g.low m + 2 ^ g.bits m) (refs g m)
+  pub fits : (i : ℕ) (r : Ref) → slice_get (refs g m) i ≡ Some r → Fits g m r
+  pub some : (g.root m ≡ m → ⊥) → 0 < length (refs g m)
+  pub child : (k c : ℕ) → g.link m k ≡ loaded c → IsChild g m k c
+  pub named : (k c : ℕ) → g.link m k ≡ loaded c → NamesBelow (refs g m) k
+  pub bits : (i c : ℕ) (r : Ref) → slice_get (refs g m) i ≡ Some r → is_indirect r ≡ true → g.link m r.key ≡ loaded c → g.bits c ≡ r.keybits
+
+module _ (f g : Forest) (s : Settled f g) where
+  pub fits_in : (m : ℕ) (r : Ref) → f.stands m ≡ true → Fits f m r → Fits g m r
+  fits_in m r st h =
+      let p = s.place m st in
+      let grain : g.leaf_bits (g.root m) ≡ f.leaf_bits (f.root m) = ap g.leaf_bits p.root ∙ s.fixed.leaf_bits (f.root m) in
+      record {
+        aligned = h.aligned;
+        leaf = λ k. h.leaf k ∙ sym grain;
+        allowed = λ k. s.fixed.allows (g.root m) r ∙ s.all_allowed (g.root m) r;
+        wide = λ k. rw grain (h.wide k);
+        some_bits = h.some_bits;
+        falls = λ k. rw p.bits (h.falls k);
+      }
+
+  pub child_in : (m k c : ℕ) → f.stands m ≡ true → IsChild f m k c → IsChild g m k c
+  child_in m k c st h =
+      let p = s.place m st in
+      let q = s.place c h.stands in
+      record {
+        stands = q.stands;
+        root = q.root ∙ h.root ∙ sym p.root;
+        low = q.low ∙ h.low;
+        above = rw (p.low, q.low) h.above;
+        within = rw (p.low, q.low, p.bits, q.bits) h.within;
+        fewer = rw (p.bits, q.bits) h.fewer;
+        copies = rw (s.copies c, s.copies m, s.writable c) h.copies;
+      }
+
+  -- a node in its place with sound contents is sound
+  pub placed : (m : ℕ) → f.stands m ≡ true → IsSoundNode f m → Contents f g m → IsSoundNode g m
+  placed m st node h =
+      let p = s.place m st in
+      record {
+        set = h.set;
+        inside = h.inside;
+        aligned = rw (p.low, p.bits) node.aligned;
+        ends = rw (p.low, p.bits) node.ends;
+        class = rw (p.low, p.bits) node.class;
+        fits = h.fits;
+        some = h.some;
+        child = h.child;
+        named = h.named;
+        bits = h.bits;
+        top = λ top. s.copies m ∙ s.uncopied m;
+        slope = rw (s.copies m, p.bits) node.slope;
+      }
+
+  -- a node of which nothing has changed is sound still
+  pub same_node : (m : ℕ) → f.stands m ≡ true → IsSoundNode f m → g.set m ≡ f.set m → ((k : ℕ) → g.link m k ≡ f.link m k) → IsSoundNode g m
+  same_node m st node set link =
+      let p = s.place m st in
+      let refs_is : refs g m ≡ refs f m = ap (λ (t : RefSet). t.refs) set in
+      placed m st node (record {
+        set = rw set node.set;
+        inside = rw (refs_is, p.low, p.bits) node.inside;
+        fits = λ i r read. fits_in m r st (node.fits i r (rw refs_is at read));
+        some = λ top. rw refs_is (node.some (λ e. top (p.root ∙ e)));
+        child = λ k c at_k. child_in m k c st (node.child k c (sym (link k) ∙ at_k));
+        named = λ k c at_k. rw refs_is (node.named k c (sym (link k) ∙ at_k));
+        bits = λ i c r read ind at_k.
+            let old : f.link m r.key ≡ loaded c = sym (link r.key) ∙ at_k in
+            let kid = node.child r.key c old in
+            (s.place c kid.stands).bits ∙ node.bits i c r (rw refs_is at read) ind old;
+      })
+
+  pub same_keeps : (m : ℕ) → f.stands m ≡ true → g.set m ≡ f.set m → ((k : ℕ) → g.link m k ≡ f.link m k) → Keeps f g m
+  same_keeps m st set link = record {
+    place = s.place m st;
+    alike = subst (λ (t : RefSet). Alike (refs f m) t.refs) (sym set) (Alike-refl (refs f m));
+    link = link;
+  }
+
+  pub same_all : (m : ℕ) → f.stands m ≡ true → g.set m ≡ f.set m → ((k : ℕ) → g.link m k ≡ f.link m k) → Same f g m
+  same_all m st set link = record {
+    place = s.place m st;
+    set = set;
+    link = link;
+    writable = s.writable m;
+    copies = s.copies m;
+  }

@@ -1,0 +1,117 @@
+-- The forest that a vector of nodes is.
+use Rattle.std.specs.Prelude.{◌≡◌, ℕ, ◌+◌, ◌-◌, ◌^◌, ◌≤◌, ◌<◌, min, not, Bool, true, false, ◌&&◌, ◌||◌, ◌==◌, if◌then◌else◌, List, [], ◌∷◌, length, Option, Some, None, slice_get, map}
+use Rattle.std.specs.List.{position}
+use Rattle.h2_ref.specs.declared.reference.Ref.{Ref}
+use Rattle.h2_set.specs.Ranges.{limit, holds, is_indirect, IsAligned}
+use Rattle.h2_set.specs.RefSet.{RefSet}
+use Rattle.h2_set.specs.Forest.{Link, loaded, told, untold, Forest}
+use Rattle.h2_memory_sets.specs.declared.node.Node.{Node}
+use Rattle.h2_memory_sets.specs.declared.memory.MemorySets.{MemorySets}
+
+-- the fields of a node, or what stands for them where there is none
+abbrev pub stands_of : Option Node → Bool
+stands_of None = false
+stands_of (Some x) = x.loaded
+
+abbrev pub set_of : Option Node → RefSet
+set_of None = record { refs = []; capacity = 4 }
+set_of (Some x) = x.set
+
+abbrev pub root_of : Option Node → ℕ
+root_of None = 0
+root_of (Some x) = x.root
+
+abbrev pub low_of : Option Node → ℕ
+low_of None = 0
+low_of (Some x) = x.low
+
+abbrev pub bits_of : Option Node → ℕ
+bits_of None = 0
+bits_of (Some x) = x.bits
+
+abbrev pub leaf_bits_of : Option Node → ℕ
+leaf_bits_of None = 0
+leaf_bits_of (Some x) = x.leaf_bits
+
+-- whether the node above is m
+abbrev pub is_up : ℕ → Option ℕ → Bool
+is_up m None = false
+is_up m (Some u) = u == m
+
+-- whether a node is loaded and right below node m
+abbrev pub is_below : ℕ → Node → Bool
+is_below m x = x.loaded && is_up m x.up
+
+-- whether a node is loaded, right below node m and at key k
+abbrev pub is_child : ℕ → ℕ → Node → Bool
+is_child m k x = x.loaded && (is_up m x.up && x.low == k)
+
+-- whether a node isn't loaded, right below node m and at key k
+abbrev pub is_away : ℕ → ℕ → Node → Bool
+is_away m k x = not x.loaded && (is_up m x.up && x.low == k)
+
+-- whether an indirect reference has the key
+abbrev pub names : List Ref → ℕ → Bool
+names [] k = false
+names (r ∷ rs) k = if is_indirect r && r.key == k then true else names rs k
+
+abbrev pub link_to : Option ℕ → Link
+link_to None = untold
+link_to (Some c) = loaded c
+
+-- what is below node m at key k
+abbrev pub link_of : List Node → ℕ → ℕ → Link
+link_of xs m k = let s = set_of (slice_get xs m) in if names s.refs k then link_to (position (is_child m k) xs) else untold
+
+-- how many nodes can be added without taking memory; their numbers have 32 bits
+abbrev pub spare_of : ℕ → ℕ → ℕ
+spare_of capacity n = min capacity 4294967295 - n
+
+abbrev pub forest_of : MemorySets → Forest
+forest_of p = record {
+  stands = λ m. stands_of (slice_get p.nodes.items m);
+  set = λ m. set_of (slice_get p.nodes.items m);
+  link = λ m k. link_of p.nodes.items m k;
+  root = λ m. root_of (slice_get p.nodes.items m);
+  low = λ m. low_of (slice_get p.nodes.items m);
+  bits = λ m. bits_of (slice_get p.nodes.items m);
+  leaf_bits = λ m. leaf_bits_of (slice_get p.nodes.items m);
+  allows = λ m r. true;
+  belongs = λ m top k. false;
+  held = λ m. false;
+  copies = λ m. 0;
+  writable = λ m. true;
+  name = λ r. None;
+  epoch = p.epoch;
+  spare = spare_of p.nodes.cap p.nodes.len;
+  room = p.room;
+  failed = p.failed;
+  bad = p.bad;
+}
+
+-- what is above a node at key low, once node c has what lay in the range of r below node at
+abbrev pub moved_up : ℕ → ℕ → Ref → ℕ → Option ℕ → Option ℕ
+moved_up at c r low None = None
+moved_up at c r low (Some u) = if u == c then None else (if u == at then (if holds low r then Some c else Some u) else Some u)
+
+-- a node, once node c has what lay in the range of r below node at
+abbrev pub moved : ℕ → ℕ → Ref → Node → Node
+moved at c r x = record { set = x.set; loaded = x.loaded; up = moved_up at c r x.low x.up; root = x.root; low = x.low; bits = x.bits; leaf_bits = x.leaf_bits }
+
+abbrev pub moved_all : ℕ → ℕ → Ref → List Node → List Node
+moved_all at c r xs = map (moved at c r) xs
+
+-- a reference that may stand in the node that top names, in a tree with leaves of these keybits
+pub record FitsBelow (top : Ref) (leaf_bits : ℕ) (r : Ref) : Type 0 where
+  pub low : top.key ≤ r.key
+  pub high : limit r ≤ limit top
+  pub aligned : IsAligned r
+  pub fewer : r.keybits < top.keybits
+  pub leaf : is_indirect r ≡ false → r.keybits ≡ leaf_bits
+  pub wide : is_indirect r ≡ true → leaf_bits ≤ r.keybits
+  pub some_bits : is_indirect r ≡ true → 0 < r.keybits
+
+-- a set that may be that of the node that top names
+pub record AllFitBelow (top : Ref) (leaf_bits : ℕ) (s : RefSet) : Type 0 where
+  pub some : 0 < length s.refs
+  pub each : (i : ℕ) (r : Ref) → slice_get s.refs i ≡ Some r → FitsBelow top leaf_bits r

@@ -1,0 +1,226 @@
+ghost use Rattle.std.specs.Prelude.{◌≡◌, ◌<◌, ◌≤◌, ◌^◌, ◌⊎◌, ◌+◌, ◌%◌, length, IfOk, OnOk, OnErr, true, [], ℕ};
+ghost use Rattle.h2_ref.specs.declared.reference.Ref.{Ref};
+
+use crate::judging::all_fit;
+use crate::moving::move_below;
+use crate::node::Node;
+use crate::searching::{find_away, find_below, find_child};
+use h2_num::{Bytes, NoMemory};
+use h2_ref::{Check, Kind, Ref, Trouble, Why};
+use h2_set::{NodeId, PutAnswer, Set, Sets, Split};
+use std::alloc::Global;
+
+/// A forest of sets in one vector of nodes.
+#[derive(Drop)]
+pub struct MemorySets {
+    pub(crate) nodes: Vec<Node>,
+    pub(crate) epoch: u64,
+    /// How many blocks can be taken.
+    pub(crate) room: u64,
+    /// Which load from now on fails: 1 for the next. None fails where it is 0.
+    pub(crate) fault: u64,
+    /// Faults of the disk, and bad blocks that were met.
+    pub(crate) failed: u64,
+    pub(crate) bad: u64,
+    ghost small: { length nodes.items < 2 ^ 32 },
+}
+
+impl MemorySets {
+    ghost use Rattle.h2_set.specs.Forest.{IsSound};
+    ghost use Rattle.h2_memory_sets.specs.View.{forest_of};
+
+    /// A forest with no node, in which this number of blocks can be taken.
+    pub fn new(alloc: Global, epoch: u64, room: u64) -> MemorySets
+        ensures sound { IsSound (forest_of result) }
+        ensures room { let f = forest_of result in f.room ≡ room }
+    {
+        MemorySets {
+            nodes: Vec::new(alloc),
+            epoch,
+            room,
+            fault: 0,
+            failed: 0,
+            bad: 0,
+        }
+    }
+
+    /// How many blocks can be taken.
+    pub fn room(&self) -> u64
+        ensures { let f = forest_of self.now in result ≡ f.room }
+    {
+        self.room
+    }
+
+    /// Lets this load from now on fail: 1 for the next. None fails where it is 0.
+    pub fn fail_load(&mut self, which: u64)
+        ensures { forest_of self.new ≡ forest_of self.old }
+    {
+        self.fault = which;
+    }
+
+    // Whether the load that is due is the one that fails.
+    fn load_fails(&mut self) -> bool
+        ensures { forest_of self.new ≡ forest_of self.old }
+    {
+        let fails = self.fault == 1;
+        self.fault = self.fault.saturating_sub(1);
+        fails
+    }
+
+    // A bad block was met.
+    fn meets_bad(&mut self, place: u64) -> Trouble {
+        self.bad = self.bad.saturating_add(1);
+        Trouble::Bad {
+            place,
+            why: Why::Shape,
+        }
+    }
+}
+
+// The reference that leads to a new node.
+fn new_reference(key: u64, keybits: u8, epoch: u64) -> Ref {
+    Ref {
+        kind: Kind::Indirect,
+        key,
+        keybits,
+        place: 0x40_000c,
+        radix: 12,
+        id: epoch,
+        check: Check::Nothing,
+        dirent: None,
+    }
+}
+
+// A set with one more reference, or with it in place of the one with its key.
+fn with_one(set: Set, r: Ref) -> Set {
+    let mut all = set;
+    if let Some(i) = all.find(r.key) {
+        all.cut(i);
+    }
+    match all.put(r) {
+        PutAnswer::Placed => all,
+        PutAnswer::Full => all,
+    }
+}
+
+impl Sets for MemorySets {
+    ghost use Rattle.std.specs.Prelude.{ℕ};
+    ghost use Rattle.h2_memory_sets.specs.View.{forest_of};
+
+    type Beside = ();
+
+    ghost forest = { forest_of };
+
+    ghost beside = { λ p m. tt };
+
+    ghost later = { λ p q. Unit {0} };
+
+    ghost same_later = { λ p. tt };
+
+    ghost later_later = { λ p q r a b. tt };
+
+    fn get(&self, at: NodeId) -> &Set {
+        &self.nodes[at.0 as usize].set
+    }
+
+    fn epoch(&self) -> u64 {
+        self.epoch
+    }
+
+    fn child(&mut self, at: NodeId, i: usize) -> Result<NodeId, Trouble> {
+        let r = *self.nodes[at.0 as usize].set.at(i);
+        if let Some(c) = find_child(&self.nodes, at.0, r.key) {
+            return Ok(NodeId(c as u32));
+        }
+        if self.load_fails() {
+            self.failed = self.failed.saturating_add(1);
+            return Err(Trouble::Failed);
+        }
+        match self.load(at.0, &r) {
+            Some(c) => Ok(c),
+            None => Err(self.meets_bad(r.place)),
+        }
+    }
+
+    fn ready(&mut self, n: u32) -> Result<(), NoMemory> {
+        let len = self.nodes.len();
+        if n as usize > 4294967295 - len {
+            return Err(NoMemory);
+        }
+        match self.nodes.reserve(n as usize) {
+            Ok(()) => Ok(()),
+            Err(_) => Err(NoMemory),
+        }
+    }
+
+    fn alter(&mut self, at: NodeId) {
+        let _ = at;
+    }
+
+    fn store(&mut self, at: NodeId, set: Set) {
+        self.nodes[at.0 as usize].set = set;
+    }
+
+    fn make(&mut self, at: NodeId, set: Set, split: Split) -> NodeId {
+        let c = self.nodes.len() as u32;
+        let r = new_reference(split.key, split.keybits, self.epoch);
+        let kept = match split.rest {
+            Some(rest) => with_one(set, rest),
+            None => set,
+        };
+        let root = self.nodes[at.0 as usize].root;
+        self.nodes[at.0 as usize].set = with_one(kept, r);
+        move_below(&mut self.nodes, at.0, c, &r);
+        let node = Node {
+            set: split.moved,
+            loaded: true,
+            up: Some(at.0),
+            root,
+            low: split.key,
+            bits: split.keybits,
+            leaf_bits: 0,
+        };
+        match self.nodes.push(node) {
+            Ok(()) => {}
+            Err(_) => {}
+        }
+        self.room = self.room - 1;
+        NodeId(c)
+    }
+
+    fn name(&mut self, alloc: Global, r: &Ref) -> Result<Bytes, Trouble> {
+        let Some(entry) = r.dirent else {
+            return Err(self.meets_bad(r.place));
+        };
+        if entry.len > 64 {
+            return Err(self.meets_bad(r.place));
+        }
+        let (name, _) = entry.name.as_slice().split_at(entry.len as usize);
+        match Bytes::from_slice(alloc, name) {
+            Ok(bytes) => Ok(bytes),
+            Err(NoMemory) => Err(Trouble::NoMemory),
+        }
+    }
+}
+
+impl MemorySets {
+    // Loads the node that a reference in the set of another leads to; None where it isn't one of its tree.
+    fn load(&mut self, at: u32, r: &Ref) -> Option<NodeId> {
+        let c = find_away(&self.nodes, at, r.key)?;
+        let root = self.nodes[at as usize].root;
+        if root as usize >= self.nodes.len() {
+            return None;
+        }
+        let leaf_bits = self.nodes[root as usize].leaf_bits;
+        if !all_fit(&self.nodes[c].set, r, leaf_bits) {
+            return None;
+        }
+        if find_below(&self.nodes, c as u32).is_some() {
+            return None;
+        }
+        self.nodes[c].loaded = true;
+        self.nodes[c].root = root;
+        self.nodes[c].bits = r.keybits;
+        Some(NodeId(c as u32))
+    }
+}
