@@ -79,8 +79,8 @@ not_false false e = refl
 
 -- a reference that doesn't lie in the range is apart from it
 off_range : (key bits : ℕ) (q : Ref) → Sides key bits q → lies key bits q ≡ false → (limit q ≤ key) ⊎ (key + 2 ^ bits ≤ q.key)
-off_range key bits q (inl e) no = absurd (cc)
-off_range key bits q (inr out) no = out
+off_range key bits q (inl e) miss = let e2 : lies key bits q ≡ true = e in let e3 : lies key bits q ≡ false = miss in absurd (cc)
+off_range key bits q (inr out) miss = out
 
 -- one whose key is in the range lies in it
 on_range : (key bits : ℕ) (q : Ref) → Sides key bits q → key ≤ q.key → q.key < key + 2 ^ bits → lies key bits q ≡ true
@@ -179,8 +179,8 @@ module _ (f g : Forest) (at c : ℕ) (set : RefSet) (s : Split) (ref leaf : Ref)
   ref_fits : Fits g at ref
   ref_fits = fits_in f g d.settled at ref stands (record {
     aligned = rw (d.key, d.keybits) made.split.half.aligned;
-    leaf = λ no. let clash : true ≡ false = sym d.indirect ∙ no in absurd (cc);
-    allowed = λ no. let clash : true ≡ false = sym d.indirect ∙ no in absurd (cc);
+    leaf = λ miss. let clash : true ≡ false = sym d.indirect ∙ miss in absurd (cc);
+    allowed = λ miss. let clash : true ≡ false = sym d.indirect ∙ miss in absurd (cc);
     wide = λ _. let w = parts.wide in rw d.keybits (omega (arith, w));
     some_bits = λ _. let w = parts.wide in rw d.keybits (omega (arith, w));
     falls = λ _. rw d.keybits parts.fewer;
@@ -213,8 +213,8 @@ module _ (f g : Forest) (at c : ℕ) (set : RefSet) (s : Split) (ref leaf : Ref)
     | outside out ↦
         let old = node.named k e (sym (d.kept k out) ∙ l) in
         let one = put_keeps leaf (refs f at) made.apart old.place old.ref old.read in
-        let no : lies s.key s.keybits old.ref ≡ false = off_lies s.key s.keybits old.ref (rw old.key out) _ refl in
-        let two = filter_keeps (λ q. not (lies s.key s.keybits q)) (put leaf (refs f at)) one.0 old.ref one.1 (ap not no) in
+        let miss : lies s.key s.keybits old.ref ≡ false = off_lies s.key s.keybits old.ref (rw old.key out) _ refl in
+        let two = filter_keeps (λ q. not (lies s.key s.keybits q)) (put leaf (refs f at)) one.0 old.ref one.1 (ap not miss) in
         let three = put_keeps ref (filter (λ q. not (lies s.key s.keybits q)) (put leaf (refs f at))) ref_apart two.0 old.ref two.1 in
         record { place = three.0; ref = old.ref; read = three.1; indirect = old.indirect; key = old.key }
   ]
@@ -271,3 +271,168 @@ module _ (f g : Forest) (at c : ℕ) (set : RefSet) (s : Split) (ref leaf : Ref)
         named = λ k e l. rw refs_here (here_named k e l);
         bits = λ i e q read ind l. here_bits i e q (rw refs_here at read) ind l;
       })
+
+  -- what moved stands in the new node
+  came : (i : ℕ) (q : Ref) → slice_get (filter (lies s.key s.keybits) (put leaf (refs f at))) i ≡ Some q → (lies s.key s.keybits q ≡ true) × (j : ℕ) × (slice_get (put leaf (refs f at)) j ≡ Some q)
+  came i q read = let it = filter_from (lies s.key s.keybits) (put leaf (refs f at)) i q read in (it.passes, it.place, it.read)
+
+  inner_rising : Rising s.key (s.key + 2 ^ s.keybits) (filter (lies s.key s.keybits) (put leaf (refs f at)))
+  inner_rising = Rising-within s.key s.keybits _ _ (filter (lies s.key s.keybits) (put leaf (refs f at))) (Rising-filter (lies s.key s.keybits) _ _ (put leaf (refs f at)) all_rising) (λ i q read. (came i q read).0)
+
+  inner_length : length (filter (lies s.key s.keybits) (put leaf (refs f at))) ≡ count_by (lies s.key s.keybits) (put leaf (refs f at))
+  inner_length = length-filter (lies s.key s.keybits) (put leaf (refs f at))
+
+  new_set : IsRefSet (record { refs = filter (lies s.key s.keybits) (put leaf (refs f at)); capacity = 32 })
+  new_set = record {
+    rising = Rising-wide 0 _ (2 ^ 64) _ top (Rising-low s.key 0 _ _ (omega arith) inner_rising);
+    fits = few node.set.known refl;
+    known = inr refl;
+  }
+    where
+      top : s.key + 2 ^ s.keybits ≤ 2 ^ 64
+      top = let a = parts.range_high in let b = node.ends in omega (arith, a, b)
+
+      few : {n : ℕ} → (n ≡ 4) ⊎ (n ≡ 32) → n ≡ (let t = f.set at in t.capacity) → length (filter (lies s.key s.keybits) (put leaf (refs f at))) ≤ 32
+      few (inl e) same = let a = parts.few in let n = inner_length in let full = made.full in omega (arith, e, same, a, n, full)
+      few (inr e) same = let a = parts.few in let n = inner_length in let full = made.full in omega (arith, e, same, a, n, full)
+
+  new_fits : (i : ℕ) (q : Ref) → slice_get (filter (lies s.key s.keybits) (put leaf (refs f at))) i ≡ Some q → Fits g c q
+  new_fits i q read =
+      let it = came i q read in
+      let h = all_fits it.1 q it.2 in
+      let grain : g.leaf_bits (g.root c) ≡ f.leaf_bits (f.root at) = ap g.leaf_bits d.root ∙ d.settled.fixed.leaf_bits (f.root at) in
+      record {
+        aligned = h.aligned;
+        leaf = λ k. h.leaf k ∙ sym grain;
+        allowed = λ k. d.settled.fixed.allows (g.root c) q ∙ d.settled.all_allowed (g.root c) q;
+        wide = λ k. rw grain (h.wide k);
+        some_bits = h.some_bits;
+        falls = λ k. rw d.bits (parts.shorter it.1 q it.2 it.0);
+      }
+
+  -- a node below the new one was below the old one, at a reference that moved
+  record WasBelow (k e : ℕ) : Type 0 where
+    link : f.link at k ≡ loaded e
+    named : NamesBelow (refs f at) k
+    lo : s.key ≤ k
+    hi : k < s.key + 2 ^ s.keybits
+
+  was_below : (k e : ℕ) → g.link c k ≡ loaded e → WasBelow k e
+  was_below k e l = elim (where_lies s.key s.keybits k) as (λ _. WasBelow k e) [
+    | outside out ↦ absurd (d.only_below k e out l)
+    | at_start start ↦ let pos = pow_pos s.keybits in from (omega (arith, start)) (omega (arith, start, pos))
+    | in_range ne lo hi ↦ from lo hi
+  ]
+    where
+      from : s.key ≤ k → k < s.key + 2 ^ s.keybits → WasBelow k e
+      from lo hi = let l' = sym (d.below k lo hi) ∙ l in record { link = l'; named = node.named k e l'; lo = lo; hi = hi }
+
+  -- the reference that leads there moved
+  record Moved (q : Ref) : Type 0 where
+    lies_there : lies s.key s.keybits q ≡ true
+    all_place : ℕ
+    all_read : slice_get (put leaf (refs f at)) all_place ≡ Some q
+    place : ℕ
+    read : slice_get (filter (lies s.key s.keybits) (put leaf (refs f at))) place ≡ Some q
+
+  moved_there : (k : ℕ) → s.key ≤ k → k < s.key + 2 ^ s.keybits → (n : NamesBelow (refs f at) k) → Moved n.ref
+  moved_there k lo hi n =
+      let one = put_keeps leaf (refs f at) made.apart n.place n.ref n.read in
+      let key_is : n.ref.key ≡ k = n.key in
+      let in_it = on_range s.key s.keybits n.ref (parts.sides one.0 n.ref one.1) (rw key_is lo) (rw key_is hi) in
+      let two = filter_keeps (lies s.key s.keybits) (put leaf (refs f at)) one.0 n.ref one.1 in_it in
+      record { lies_there = in_it; all_place = one.0; all_read = one.1; place = two.0; read = two.1 }
+
+  new_child : (k e : ℕ) → g.link c k ≡ loaded e → IsChild g c k e
+  new_child k e l =
+      let was = was_below k e l in
+      let kid = node.child k e was.link in
+      let p = d.settled.place e kid.stands in
+      let n = was.named in
+      let m = moved_there k was.lo was.hi n in
+      let bits_is : f.bits e ≡ n.ref.keybits = node.bits n.place e n.ref n.read n.indirect (rw n.key was.link) in
+      let in_it = lies_in s.key s.keybits n.ref m.lies_there in
+      let end : n.ref.key + 2 ^ n.ref.keybits ≤ s.key + 2 ^ s.keybits = in_it.1 in
+      let key_is : n.ref.key ≡ k = n.key in
+      let size : 2 ^ f.bits e ≡ 2 ^ n.ref.keybits = ap (λ z. 2 ^ z) bits_is in
+      let end' : k + 2 ^ f.bits e ≤ s.key + 2 ^ s.keybits = omega (arith, end, size, key_is) in
+      let low_is : f.low e ≡ k = kid.low in
+      record {
+        stands = p.stands;
+        root = p.root ∙ kid.root ∙ sym d.root;
+        low = p.low ∙ kid.low;
+        above = rw (d.low, p.low, low_is) was.lo;
+        within = rw (d.low, d.bits, p.low, p.bits, low_is) end';
+        fewer = rw (d.bits, p.bits, bits_is) (parts.shorter m.all_place n.ref m.all_read m.lies_there);
+        copies = rw (d.settled.copies c, d.settled.copies e, d.settled.writable e, d.settled.uncopied c, d.settled.uncopied e, d.settled.all_writable e) refl;
+      }
+
+  new_named : (k e : ℕ) → g.link c k ≡ loaded e → NamesBelow (filter (lies s.key s.keybits) (put leaf (refs f at))) k
+  new_named k e l =
+      let was = was_below k e l in
+      let m = moved_there k was.lo was.hi was.named in
+      record { place = m.place; ref = was.named.ref; read = m.read; indirect = was.named.indirect; key = was.named.key }
+
+  new_bits : (i e : ℕ) (q : Ref) → slice_get (filter (lies s.key s.keybits) (put leaf (refs f at))) i ≡ Some q → is_indirect q ≡ true → g.link c q.key ≡ loaded e → g.bits e ≡ q.keybits
+  new_bits i e q read ind l =
+      let it = came i q read in
+      let st = stood it.1 q it.2 ind in
+      let was = was_below q.key e l in
+      let kid = node.child q.key e was.link in
+      (d.settled.place e kid.stands).bits ∙ node.bits st.place e q st.read ind was.link
+
+  new_node : IsSoundNode g c
+  new_node =
+      let low = parts.range_low in
+      let high = parts.range_high in
+      let fewer = parts.fewer in
+      let slope = node.slope in
+      record {
+        set = rw (d.moved, made.moved) new_set;
+        inside = rw (refs_new, d.low, d.bits) inner_rising;
+        aligned = rw (d.low, d.bits) made.split.half.aligned;
+        ends = rw (d.low, d.bits) (let e = node.ends in omega (arith, high, e));
+        class = rw (d.low, d.bits) (elim node.class as (λ _. (s.key + 2 ^ s.keybits ≤ 2 ^ 62) ⊎ (2 ^ 63 ≤ s.key)) [
+          | inl small ↦ inl (omega (arith, small, high))
+          | inr large ↦ inr (omega (arith, large, low))
+        ]);
+        fits = λ i q read. new_fits i q (rw refs_new at read);
+        some = λ top. rw (refs_new, inner_length) (let two = parts.two in omega (arith, two));
+        child = new_child;
+        named = λ k e l. rw refs_new (new_named k e l);
+        bits = λ i e q read ind l. new_bits i e q (rw refs_new at read) ind l;
+        top = λ _. d.settled.copies c ∙ d.settled.uncopied c;
+        slope = rw (d.settled.copies c, d.settled.uncopied c, d.bits) (omega (arith, fewer, slope));
+      }
+
+  pub makes : Makes f g at c set s
+  makes = record {
+    sound = record {
+      node = λ m st. elim (same_or_not m c) as (λ _. IsSoundNode g m) [
+        | inl e ↦ subst (IsSoundNode g) (sym e) new_node
+        | inr ne ↦ elim (same_or_not m at) as (λ _. IsSoundNode g m) [
+          | inl e ↦ subst (IsSoundNode g) (sym e) here_node
+          | inr off ↦ let old = d.stands m ne st in same_node f g d.settled m old (sound.node m old) (d.there m old off) (λ k. d.link m k old off)
+        ]
+      ];
+      held = λ m held. let miss : g.held m ≡ false = d.settled.fixed.held m ∙ d.settled.none_held m in let clash : true ≡ false = sym held ∙ miss in absurd (cc);
+    };
+    fixed = d.settled.fixed;
+    fresh = d.fresh;
+    child = d.child;
+    moved = d.moved;
+    new_writable = d.settled.writable c ∙ d.settled.all_writable c;
+    ref = ref;
+    indirect = d.indirect;
+    key = d.key;
+    keybits = d.keybits;
+    now = d.now;
+    place = d.settled.place at stands;
+    below_moved = d.below;
+    below_kept = d.kept;
+    others = λ m st off. same_keeps f g d.settled m st (d.there m st off) (λ k. d.link m k st off);
+    spare = d.spare;
+    room = d.room;
+    failed = d.failed;
+    bad = d.bad;
+  }
