@@ -1,5 +1,5 @@
 use Rattle.std.proofs.Common.{refl, rules, arith, slice_get, Some, ◌≡◌, ap, ◌-◌, ◌<◌, ◌^◌, length}
-use Rattle.h2_memory_sets.proofs.Making.{here_node}
+use Rattle.h2_memory_sets.proofs.Making.{makes}
 use Rattle.std.specs.Vec.{with_item}
 use Rattle.std.proofs.lemmas.Option.{slice_get_read}
 use Rattle.std.proofs.Math.ListN.{length-set}
