@@ -3,3 +3,4 @@ pub mod Settled
 pub mod Storing
 pub mod Nodes
 pub mod Making
+pub mod Putting

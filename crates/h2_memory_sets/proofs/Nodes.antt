@@ -5,12 +5,11 @@ use Rattle.std.specs.List.{position, position_or_len}
 use Rattle.std.proofs.lemmas.Option.{none-some, slice_get_within, slice_get_read}
 use Rattle.std.proofs.Math.ListN.{length-set}
 use Rattle.h2_set.specs.RefSet.{RefSet}
-use Rattle.h2_set.specs.Forest.{Link, loaded, untold, Forest, InPlace, Fixed, IsSound}
+use Rattle.h2_set.specs.Forest.{Link, loaded, untold, Forest, InPlace, Fixed, IsSound, ReadiesOnly}
 use Rattle.h2_set.specs.ChangeLaws.{same_or_not}
 use Rattle.h2_memory_sets.specs.declared.node.Node.{Node}
-use Rattle.h2_memory_sets.specs.declared.memory.MemorySets.{MemorySets}
-use Rattle.h2_memory_sets.specs.View.{stands_of, set_of, root_of, low_of, bits_of, leaf_bits_of, is_up, is_child, names, link_to, link_of, spare_of, forest_of}
-use Rattle.h2_memory_sets.proofs.Settled.{Settled}
+use Rattle.h2_memory_sets.specs.View.{stands_of, set_of, root_of, low_of, bits_of, leaf_bits_of, is_up, is_child, names, link_to, link_of, with_set, forest_with}
+use Rattle.h2_memory_sets.proofs.Settled.{Settled, readies}
 use Rattle.h2_memory_sets.proofs.Storing.{DiffersByStore}
 
 -- a test that passes at the same places of two lists
@@ -49,9 +48,9 @@ is_there (x ∷ xs) zero h = omega arith
 is_there (x ∷ xs) (suc at) h = let it = is_there xs at h in omega arith
 
 -- what every change of a forest in memory leaves as it is
-pub settled_of : (p q : MemorySets) → ((m : ℕ) → leaf_bits_of (slice_get q.nodes.items m) ≡ leaf_bits_of (slice_get p.nodes.items m)) → q.epoch ≡ p.epoch → p.failed ≤ q.failed → p.bad ≤ q.bad → ((m : ℕ) → stands_of (slice_get p.nodes.items m) ≡ true → (stands_of (slice_get q.nodes.items m) ≡ true) × (root_of (slice_get q.nodes.items m) ≡ root_of (slice_get p.nodes.items m)) × (low_of (slice_get q.nodes.items m) ≡ low_of (slice_get p.nodes.items m)) × (bits_of (slice_get q.nodes.items m) ≡ bits_of (slice_get p.nodes.items m))) → Settled (forest_of p) (forest_of q)
-settled_of p q leaf epoch failed bad place = record {
-  fixed = record { leaf_bits = leaf; allows = λ m r. refl; held = λ m. refl; name = λ r. refl; epoch = epoch; failed = failed; bad = bad };
+pub settled_of : (xs ys : List Node) (spare spare' epoch room room' failed failed' bad bad' : ℕ) → ((m : ℕ) → leaf_bits_of (slice_get ys m) ≡ leaf_bits_of (slice_get xs m)) → failed ≤ failed' → bad ≤ bad' → ((m : ℕ) → stands_of (slice_get xs m) ≡ true → (stands_of (slice_get ys m) ≡ true) × (root_of (slice_get ys m) ≡ root_of (slice_get xs m)) × (low_of (slice_get ys m) ≡ low_of (slice_get xs m)) × (bits_of (slice_get ys m) ≡ bits_of (slice_get xs m))) → Settled (forest_with xs spare epoch room failed bad) (forest_with ys spare' epoch room' failed' bad')
+settled_of xs ys spare spare' epoch room room' failed failed' bad bad' leaf more_failed more_bad place = record {
+  fixed = record { leaf_bits = leaf; allows = λ m r. refl; held = λ m. refl; name = λ r. refl; epoch = refl; failed = more_failed; bad = more_bad };
   place = λ m st. let it = place m st in record { stands = it.0; root = it.1; low = it.2; bits = it.3; belongs = λ t k. refl; writable = λ e. refl };
   copies = λ m. refl;
   writable = λ m. refl;
@@ -61,24 +60,23 @@ settled_of p q leaf epoch failed bad place = record {
   none_held = λ m. refl;
 }
 
--- a node with another set
-abbrev pub with_set : Node → RefSet → Node
-with_set x s = record { set = s; loaded = x.loaded; up = x.up; root = x.root; low = x.low; bits = x.bits; leaf_bits = x.leaf_bits }
+-- where the nodes are the same and there are more spare ones
+pub readies_nodes : (xs ys : List Node) (spare more epoch room failed bad : ℕ) → ys ≡ xs → spare ≤ more → IsSound (forest_with xs spare epoch room failed bad) → ReadiesOnly (forest_with xs spare epoch room failed bad) (forest_with ys more epoch room failed bad)
+readies_nodes xs ys spare more epoch room failed bad items le sound =
+    let field : (X : Type 0) (F : Option Node → X) (m : ℕ) → F (slice_get ys m) ≡ F (slice_get xs m) = λ X F m. ap (λ (l : List Node). F (slice_get l m)) items in
+    readies _ _ (settled_of xs ys spare more epoch room room failed failed bad bad (field _ leaf_bits_of) (omega arith) (omega arith) (λ m st. (field _ stands_of m ∙ st, field _ root_of m, field _ low_of m, field _ bits_of m))) (field _ stands_of) (field _ set_of) (λ m k. ap (λ (l : List Node). link_of l m k) items) le refl refl refl sound
 
--- a node that was read by its place
-pub node_at : (p : MemorySets) (at : ℕ) (x : Node) → stands_of (slice_get p.nodes.items at) ≡ true → slice_get p.nodes.items at ≡ Some x → set_of (slice_get p.nodes.items at) ≡ x.set
-node_at p at x st read = ap set_of read
-
-pub differs_by_store : (p q : MemorySets) (at : ℕ) (x : Node) (s : RefSet) → slice_get p.nodes.items at ≡ Some x → q.nodes.items ≡ slice_set p.nodes.items at (with_set x s) → q.epoch ≡ p.epoch → q.room ≡ p.room → q.failed ≡ p.failed → q.bad ≡ p.bad → q.nodes.cap ≡ p.nodes.cap → q.nodes.len ≡ p.nodes.len → DiffersByStore (forest_of p) (forest_of q) at s
-differs_by_store p q at x s read items epoch room failed bad cap_is len_is =
+-- where the set of one node is another
+pub differs_by_store : (xs : List Node) (spare epoch room failed bad : ℕ) (at : ℕ) (x : Node) (s : RefSet) → slice_get xs at ≡ Some x → DiffersByStore (forest_with xs spare epoch room failed bad) (forest_with (slice_set xs at (with_set x s)) spare epoch room failed bad) at s
+differs_by_store xs spare epoch room failed bad at x s read =
     let y = with_set x s in
-    let xs = p.nodes.items in
-    let field : (X : Type 0) (F : Option Node → X) → F (Some y) ≡ F (Some x) → (m : ℕ) → F (slice_get q.nodes.items m) ≡ F (slice_get xs m) = λ X F same m. ap (λ (l : List Node). F (slice_get l m)) items ∙ field_stays F xs at x y read same m in
-    let here : set_of (slice_get q.nodes.items at) ≡ s = ap (λ (l : List Node). set_of (slice_get l at)) items ∙ ap set_of (get_set xs at y (slice_get_within xs at x read)) in
-    let there : (m : ℕ) → (m ≡ at → ⊥) → set_of (slice_get q.nodes.items m) ≡ set_of (slice_get xs m) = λ m ne. ap (λ (l : List Node). set_of (slice_get l m)) items ∙ ap set_of (get_set_other xs at m y ne) in
-    let first : (m k : ℕ) → position (is_child m k) q.nodes.items ≡ position (is_child m k) xs = λ m k. ap (position (is_child m k)) items ∙ sym (position_same (is_child m k) (is_child m k) xs (slice_set xs at y) (sym (length-set xs at y)) (same_children xs at x y read m k refl refl refl)) in
+    let ys = slice_set xs at y in
+    let field : (X : Type 0) (F : Option Node → X) → F (Some y) ≡ F (Some x) → (m : ℕ) → F (slice_get ys m) ≡ F (slice_get xs m) = λ X F same. field_stays F xs at x y read same in
+    let here : set_of (slice_get ys at) ≡ s = ap set_of (get_set xs at y (slice_get_within xs at x read)) in
+    let there : (m : ℕ) → (m ≡ at → ⊥) → set_of (slice_get ys m) ≡ set_of (slice_get xs m) = λ m ne. ap set_of (get_set_other xs at m y ne) in
+    let first : (m k : ℕ) → position (is_child m k) ys ≡ position (is_child m k) xs = λ m k. sym (position_same (is_child m k) (is_child m k) xs ys (sym (length-set xs at y)) (same_children xs at x y read m k refl refl refl)) in
     record {
-      settled = settled_of p q (field _ leaf_bits_of refl) epoch (rw failed (omega arith)) (rw bad (omega arith)) (λ m st. (field _ stands_of refl m ∙ st, field _ root_of refl m, field _ low_of refl m, field _ bits_of refl m));
+      settled = settled_of xs ys spare spare epoch room room failed failed bad bad (field _ leaf_bits_of refl) (omega arith) (omega arith) (λ m st. (field _ stands_of refl m ∙ st, field _ root_of refl m, field _ low_of refl m, field _ bits_of refl m));
       stands = field _ stands_of refl;
       here = here;
       there = there;
@@ -86,10 +84,10 @@ differs_by_store p q at x s read items epoch room failed bad cap_is len_is =
       below = λ k. link_to (position (is_child at k) xs);
       before = λ k. refl;
       after = λ k. rw (here, first at k) refl;
-      spare = rw (cap_is, len_is) refl;
-      room = room;
-      failed = failed;
-      bad = bad;
+      spare = refl;
+      room = refl;
+      failed = refl;
+      bad = refl;
     }
   where
     same_children : (xs : List Node) (at : ℕ) (x y : Node) → slice_get xs at ≡ Some x → (m k : ℕ) → y.loaded ≡ x.loaded → y.up ≡ x.up → y.low ≡ x.low → (i : ℕ) (a b : Node) → slice_get xs i ≡ Some a → slice_get (slice_set xs at y) i ≡ Some b → is_child m k a ≡ is_child m k b

@@ -3,8 +3,10 @@ use Rattle.std.proofs.Common.{◌≡◌, ℕ, ◌+◌, ◌<◌, ◌≤◌, ◌^�
 use Rattle.h2_ref.specs.declared.reference.Ref.{Ref}
 use Rattle.h2_set.specs.Ranges.{Rising, limit, is_indirect}
 use Rattle.h2_set.specs.RefSet.{RefSet, IsRefSet}
-use Rattle.h2_set.specs.Forest.{Forest, refs, Link, loaded, IsChild, IsSoundNode, IsSound, Fits, NamesBelow, Fixed, InPlace, Keeps, Same, Alike}
-use Rattle.h2_set.specs.StayLaws.{Alike-refl}
+use Rattle.h2_set.specs.Forest.{Forest, refs, Link, loaded, IsChild, IsSoundNode, IsSound, Fits, NamesBelow, Fixed, InPlace, Keeps, Same, Alike, Alters, ReadiesOnly}
+use Rattle.h2_set.specs.StayLaws.{Alike-refl, Fixed-refl}
+use Rattle.h2_set.specs.ChangeLaws.{Keeps-refl}
+use Rattle.h2_set.specs.RenewLaws.{Keeps-Renews}
 
 -- every node that stands stays in its place, and none is copied
 pub record Settled (f g : Forest) : Type 0 where
@@ -107,3 +109,36 @@ module _ (f g : Forest) (s : Settled f g) where
     writable = s.writable m;
     copies = s.copies m;
   }
+
+-- where all is writable, nothing has to be done
+pub alters_nothing : (f : Forest) (at : ℕ) → IsSound f → f.stands at ≡ true → f.writable at ≡ true → ((m : ℕ) → f.copies m ≡ 0) → Alters f f at
+alters_nothing f at sound stands writable copies = record {
+  sound = sound;
+  fixed = Fixed-refl f;
+  writable = writable;
+  copies = copies at;
+  room = omega (arith, copies at);
+  tree = λ m st root. Keeps-refl f m st;
+  above = λ m st root. Keeps-Renews f f m (Keeps-refl f m st);
+  capacity = λ m st. refl;
+  none_new = λ m st. st;
+  spare = refl;
+  failed = refl;
+  bad = refl;
+}
+
+-- where nothing but spare has changed
+pub readies : (f g : Forest) → Settled f g → ((m : ℕ) → g.stands m ≡ f.stands m) → ((m : ℕ) → g.set m ≡ f.set m) → ((m k : ℕ) → g.link m k ≡ f.link m k) → f.spare ≤ g.spare → g.room ≡ f.room → g.failed ≡ f.failed → g.bad ≡ f.bad → IsSound f → ReadiesOnly f g
+readies f g s stands set link spare room failed bad sound = record {
+  sound = record {
+    node = λ m st. let old = sym (stands m) ∙ st in same_node f g s m old (sound.node m old) (set m) (link m);
+    held = λ m held. let miss : g.held m ≡ false = s.fixed.held m ∙ s.none_held m in let clash : true ≡ false = sym held ∙ miss in absurd (cc);
+  };
+  fixed = s.fixed;
+  same = λ m st. same_all f g s m st (set m) (link m);
+  none_new = λ m st. sym (stands m) ∙ st;
+  spare = spare;
+  room = room;
+  failed = failed;
+  bad = bad;
+}

@@ -1,5 +1,5 @@
 -- The forest that a vector of nodes is.
-use Rattle.std.specs.Prelude.{◌≡◌, ℕ, ◌+◌, ◌-◌, ◌^◌, ◌≤◌, ◌<◌, min, not, Bool, true, false, ◌&&◌, ◌||◌, ◌==◌, if◌then◌else◌, List, [], ◌∷◌, length, Option, Some, None, slice_get, map}
+use Rattle.std.specs.Prelude.{◌≡◌, ℕ, ◌+◌, ◌-◌, ◌^◌, ◌≤◌, ◌<◌, min, not, Bool, true, false, ◌&&◌, ◌||◌, ◌==◌, if◌then◌else◌, List, [], ◌∷◌, ◌++◌, length, Option, Some, None, slice_get, slice_set, map}
 use Rattle.std.specs.List.{position}
 use Rattle.h2_ref.specs.declared.reference.Ref.{Ref}
 use Rattle.h2_set.specs.Ranges.{limit, holds, is_indirect, IsAligned}
@@ -63,31 +63,32 @@ link_to (Some c) = loaded c
 abbrev pub link_of : List Node → ℕ → ℕ → Link
 link_of xs m k = let s = set_of (slice_get xs m) in if names s.refs k then link_to (position (is_child m k) xs) else untold
 
--- how many nodes can be added without taking memory; their numbers have 32 bits
-abbrev pub spare_of : ℕ → ℕ → ℕ
-spare_of capacity n = min capacity 4294967295 - n
-
-abbrev pub forest_of : MemorySets → Forest
-forest_of p = record {
-  stands = λ m. stands_of (slice_get p.nodes.items m);
-  set = λ m. set_of (slice_get p.nodes.items m);
-  link = λ m k. link_of p.nodes.items m k;
-  root = λ m. root_of (slice_get p.nodes.items m);
-  low = λ m. low_of (slice_get p.nodes.items m);
-  bits = λ m. bits_of (slice_get p.nodes.items m);
-  leaf_bits = λ m. leaf_bits_of (slice_get p.nodes.items m);
+-- the forest of these nodes, with these numbers
+abbrev pub forest_with : List Node → ℕ → ℕ → ℕ → ℕ → ℕ → Forest
+forest_with xs spare epoch room failed bad = record {
+  stands = λ m. stands_of (slice_get xs m);
+  set = λ m. set_of (slice_get xs m);
+  link = λ m k. link_of xs m k;
+  root = λ m. root_of (slice_get xs m);
+  low = λ m. low_of (slice_get xs m);
+  bits = λ m. bits_of (slice_get xs m);
+  leaf_bits = λ m. leaf_bits_of (slice_get xs m);
   allows = λ m r. true;
   belongs = λ m top k. false;
   held = λ m. false;
   copies = λ m. 0;
   writable = λ m. true;
   name = λ r. None;
-  epoch = p.epoch;
-  spare = spare_of p.nodes.cap p.nodes.len;
-  room = p.room;
-  failed = p.failed;
-  bad = p.bad;
+  epoch = epoch;
+  spare = spare;
+  room = room;
+  failed = failed;
+  bad = bad;
 }
+
+-- the forest that the value is seen as
+abbrev pub forest_of : MemorySets → Forest
+forest_of p = forest_with p.nodes.items p.spare p.epoch p.room p.failed p.bad
 
 -- what is above a node at key low, once node c has what lay in the range of r below node at
 abbrev pub moved_up : ℕ → ℕ → Ref → ℕ → Option ℕ → Option ℕ
@@ -100,6 +101,18 @@ moved at c r x = record { set = x.set; loaded = x.loaded; up = moved_up at c r x
 
 abbrev pub moved_all : ℕ → ℕ → Ref → List Node → List Node
 moved_all at c r xs = map (moved at c r) xs
+
+-- a node with another set
+abbrev pub with_set : Node → RefSet → Node
+with_set x s = record { set = s; loaded = x.loaded; up = x.up; root = x.root; low = x.low; bits = x.bits; leaf_bits = x.leaf_bits }
+
+-- a new node right below node at, to which r leads
+abbrev pub new_node : ℕ → Node → RefSet → Ref → Node
+new_node at x part r = record { set = part; loaded = true; up = Some at; root = x.root; low = r.key; bits = r.keybits; leaf_bits = 0 }
+
+-- nodes of which x, at place at, has the set kept, and a new one the set part with what lay in the range of r
+abbrev pub parted : List Node → ℕ → Node → RefSet → RefSet → Ref → List Node
+parted xs at x kept part r = moved_all at (length xs) r (slice_set xs at (with_set x kept)) ++ new_node at x part r ∷ []
 
 -- a reference that may stand in the node that top names, in a tree with leaves of these keybits
 pub record FitsBelow (top : Ref) (leaf_bits : ℕ) (r : Ref) : Type 0 where

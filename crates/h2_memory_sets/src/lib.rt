@@ -5,6 +5,7 @@
 //! value means is told by `specs/View`.
 #![tactic(auto)]
 
+mod adding;
 mod judging;
 mod memory;
 mod moving;

@@ -1,19 +1,21 @@
 ghost use Rattle.std.specs.Prelude.{◌≡◌, ◌<◌, ◌≤◌, ◌^◌, ◌⊎◌, ◌+◌, ◌%◌, length, IfOk, OnOk, OnErr, true, [], ℕ};
-ghost use Rattle.h2_ref.specs.declared.reference.Ref.{Ref};
+ghost use Rattle.std.specs.Vec.{vec_len, vec_capacity};
 
+use crate::adding::{add_node, new_reference, with_left, with_one};
 use crate::judging::all_fit;
-use crate::moving::move_below;
 use crate::node::Node;
 use crate::searching::{find_away, find_below, find_child};
 use h2_num::{Bytes, NoMemory};
-use h2_ref::{Check, Kind, Ref, Trouble, Why};
-use h2_set::{NodeId, PutAnswer, Set, Sets, Split};
+use h2_ref::{Ref, Trouble, Why};
+use h2_set::{NodeId, Set, Sets, Split};
 use std::alloc::Global;
 
 /// A forest of sets in one vector of nodes.
 #[derive(Drop)]
 pub struct MemorySets {
     pub(crate) nodes: Vec<Node>,
+    /// How many nodes can be made without taking memory.
+    pub(crate) spare: u32,
     pub(crate) epoch: u64,
     /// How many blocks can be taken.
     pub(crate) room: u64,
@@ -22,7 +24,8 @@ pub struct MemorySets {
     /// Faults of the disk, and bad blocks that were met.
     pub(crate) failed: u64,
     pub(crate) bad: u64,
-    ghost small: { length nodes.items < 2 ^ 32 },
+    ghost small: { length nodes.items + spare < 2 ^ 32 },
+    ghost roomy: { vec_len nodes + spare ≤ vec_capacity nodes },
 }
 
 impl MemorySets {
@@ -36,6 +39,7 @@ impl MemorySets {
     {
         MemorySets {
             nodes: Vec::new(alloc),
+            spare: 0,
             epoch,
             room,
             fault: 0,
@@ -74,32 +78,6 @@ impl MemorySets {
             place,
             why: Why::Shape,
         }
-    }
-}
-
-// The reference that leads to a new node.
-fn new_reference(key: u64, keybits: u8, epoch: u64) -> Ref {
-    Ref {
-        kind: Kind::Indirect,
-        key,
-        keybits,
-        place: 0x40_000c,
-        radix: 12,
-        id: epoch,
-        check: Check::Nothing,
-        dirent: None,
-    }
-}
-
-// A set with one more reference, or with it in place of the one with its key.
-fn with_one(set: Set, r: Ref) -> Set {
-    let mut all = set;
-    if let Some(i) = all.find(r.key) {
-        all.cut(i);
-    }
-    match all.put(r) {
-        PutAnswer::Placed => all,
-        PutAnswer::Full => all,
     }
 }
 
@@ -143,12 +121,17 @@ impl Sets for MemorySets {
     }
 
     fn ready(&mut self, n: u32) -> Result<(), NoMemory> {
-        let len = self.nodes.len();
-        if n as usize > 4294967295 - len {
+        if n <= self.spare {
+            return Ok(());
+        }
+        if self.nodes.len() > (u32::MAX - n) as usize {
             return Err(NoMemory);
         }
         match self.nodes.reserve(n as usize) {
-            Ok(()) => Ok(()),
+            Ok(()) => {
+                self.spare = n;
+                Ok(())
+            }
             Err(_) => Err(NoMemory),
         }
     }
@@ -164,27 +147,10 @@ impl Sets for MemorySets {
     fn make(&mut self, at: NodeId, set: Set, split: Split) -> NodeId {
         let c = self.nodes.len() as u32;
         let r = new_reference(split.key, split.keybits, self.epoch);
-        let kept = match split.rest {
-            Some(rest) => with_one(set, rest),
-            None => set,
-        };
-        let root = self.nodes[at.0 as usize].root;
-        self.nodes[at.0 as usize].set = with_one(kept, r);
-        move_below(&mut self.nodes, at.0, c, &r);
-        let node = Node {
-            set: split.moved,
-            loaded: true,
-            up: Some(at.0),
-            root,
-            low: split.key,
-            bits: split.keybits,
-            leaf_bits: 0,
-        };
-        match self.nodes.push(node) {
-            Ok(()) => {}
-            Err(_) => {}
-        }
-        self.room = self.room - 1;
+        let kept = with_one(with_left(set, split.rest), r);
+        add_node(&mut self.nodes, at.0, kept, split.moved, &r);
+        self.spare -= 1;
+        self.room -= 1;
         NodeId(c)
     }
 
