@@ -4,3 +4,4 @@ pub mod Storing
 pub mod Nodes
 pub mod Making
 pub mod Putting
+pub mod Parting

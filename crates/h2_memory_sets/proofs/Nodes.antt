@@ -4,16 +4,17 @@ use Rattle.std.specs.Prelude.{not, map}
 use Rattle.std.specs.List.{position, position_or_len}
 use Rattle.std.proofs.lemmas.Option.{none-some, slice_get_within, slice_get_read}
 use Rattle.std.proofs.Math.ListN.{length-set}
+use Rattle.h2_ref.specs.declared.reference.Ref.{Ref}
 use Rattle.h2_set.specs.RefSet.{RefSet}
 use Rattle.h2_set.specs.Forest.{Link, loaded, untold, Forest, InPlace, Fixed, IsSound, ReadiesOnly}
 use Rattle.h2_set.specs.ChangeLaws.{same_or_not}
 use Rattle.h2_memory_sets.specs.declared.node.Node.{Node}
-use Rattle.h2_memory_sets.specs.View.{stands_of, set_of, root_of, low_of, bits_of, leaf_bits_of, is_up, is_child, names, link_to, link_of, with_set, forest_with}
+use Rattle.h2_memory_sets.specs.View.{stands_of, set_of, root_of, low_of, bits_of, leaf_bits_of, is_up, is_child, names, link_to, link_of, with_set, new_node, moved_all, parted, forest_with}
 use Rattle.h2_memory_sets.proofs.Settled.{Settled, readies}
 use Rattle.h2_memory_sets.proofs.Storing.{DiffersByStore}
 
 -- a test that passes at the same places of two lists
-first_same : {X : Type 0} (p q : X → Bool) (xs ys : List X) → length xs ≡ length ys → ((i : ℕ) (x y : X) → slice_get xs i ≡ Some x → slice_get ys i ≡ Some y → p x ≡ q y) → position_or_len p xs ≡ position_or_len q ys
+pub first_same : {X : Type 0} (p q : X → Bool) (xs ys : List X) → length xs ≡ length ys → ((i : ℕ) (x y : X) → slice_get xs i ≡ Some x → slice_get ys i ≡ Some y → p x ≡ q y) → position_or_len p xs ≡ position_or_len q ys
 first_same p q [] [] len same = refl
 first_same p q [] (y ∷ ys) len same = absurd (omega (arith, len))
 first_same p q (x ∷ xs) [] len same = absurd (omega (arith, len))
@@ -101,3 +102,10 @@ differs_by_store xs spare epoch room failed bad at x s read =
       where
         some_one : {X : Type 0} (a b : X) → Some a ≡ Some b → a ≡ b
         some_one a b e = cc
+
+-- the nodes that a change of the set, a move of what is below, and one more node make
+pub parted_is : (xs zs items : List Node) (at n : ℕ) (x a b : Node) (kept part : RefSet) (r : Ref) → n ≡ length xs → slice_get xs at ≡ Some x → slice_get xs at ≡ Some a → slice_get xs at ≡ Some b → zs ≡ moved_all at n r (slice_set xs at (with_set b kept)) → items ≡ zs ++ new_node at a part r ∷ [] → items ≡ parted xs at x kept part r
+parted_is xs zs items at n x a b kept part r n_is at_x at_a at_b zs_is items_is =
+    let a_is : a ≡ x = (cc) in
+    let b_is : b ≡ x = (cc) in
+    items_is ∙ ap (λ (l : List Node). l ++ new_node at a part r ∷ []) zs_is ∙ ap (λ (y : Node). moved_all at n r (slice_set xs at (with_set b kept)) ++ new_node at y part r ∷ []) a_is ∙ ap (λ (y : Node). moved_all at n r (slice_set xs at (with_set y kept)) ++ new_node at x part r ∷ []) b_is ∙ ap (λ k. moved_all at k r (slice_set xs at (with_set x kept)) ++ new_node at x part r ∷ []) n_is
