@@ -5,3 +5,4 @@ pub mod Nodes
 pub mod Making
 pub mod Putting
 pub mod Parting
+pub mod Differing

@@ -22,7 +22,7 @@ use Rattle.h2_memory_sets.proofs.Settled.{Settled}
 use Rattle.h2_memory_sets.proofs.Making.{DiffersByMake}
 use Rattle.h2_memory_sets.proofs.Nodes.{position_same, first_same, get_set, get_set_other, settled_of}
 
-unlike : (a b : ℕ) → (a ≡ b → ⊥) → nat_eq a b ≡ false
+pub unlike : (a b : ℕ) → (a ≡ b → ⊥) → nat_eq a b ≡ false
 unlike a b ne = elim (cases_lt a b) as (λ _. nat_eq a b ≡ false) [
   | inl lt ↦ grind (arith, nat_tests)
   | inr ge ↦ elim (cases_lt b a) as (λ _. nat_eq a b ≡ false) [
@@ -31,13 +31,13 @@ unlike a b ne = elim (cases_lt a b) as (λ _. nat_eq a b ≡ false) [
   ]
 ]
 
-alike : (a b : ℕ) → nat_eq a b ≡ true → a ≡ b
+pub alike : (a b : ℕ) → nat_eq a b ≡ true → a ≡ b
 alike a b e = grind (arith, nat_tests)
 
 -- what is above a node, once node c has what lay in a range below node at
 module _ (at c : ℕ) (r : Ref) (low : ℕ) (other : at ≡ c → ⊥) where
   -- for any other node nothing has changed
-  up_other : (m : ℕ) → (m ≡ at → ⊥) → (m ≡ c → ⊥) → (u : Option ℕ) → is_up m (moved_up at c r low u) ≡ is_up m u
+  pub up_other : (m : ℕ) → (m ≡ at → ⊥) → (m ≡ c → ⊥) → (u : Option ℕ) → is_up m (moved_up at c r low u) ≡ is_up m u
   up_other m off_at off_c None = refl
   up_other m off_at off_c (Some u) = go (nat_eq u c) refl (nat_eq u at) refl (holds low r)
     where
@@ -48,7 +48,7 @@ module _ (at c : ℕ) (r : Ref) (low : ℕ) (other : at ≡ c → ⊥) where
       go false ea true eb true = let k = alike u at eb in unlike c m (λ e. off_c (sym e)) ∙ sym (unlike u m (λ e. off_at (sym e ∙ k)))
 
   -- outside the range nothing has changed for the node either, and nothing is below the new one
-  up_at_out : holds low r ≡ false → (u : Option ℕ) → is_up at (moved_up at c r low u) ≡ is_up at u
+  pub up_at_out : holds low r ≡ false → (u : Option ℕ) → is_up at (moved_up at c r low u) ≡ is_up at u
   up_at_out out None = refl
   up_at_out out (Some u) = rw out (go (nat_eq u c) refl (nat_eq u at) refl)
     where
@@ -57,7 +57,7 @@ module _ (at c : ℕ) (r : Ref) (low : ℕ) (other : at ≡ c → ⊥) where
       go false ea true eb = refl
       go false ea false eb = refl
 
-  up_c_out : holds low r ≡ false → (u : Option ℕ) → is_up c (moved_up at c r low u) ≡ false
+  pub up_c_out : holds low r ≡ false → (u : Option ℕ) → is_up c (moved_up at c r low u) ≡ false
   up_c_out out None = refl
   up_c_out out (Some u) = rw out (go (nat_eq u c) refl (nat_eq u at) refl)
     where
@@ -67,7 +67,7 @@ module _ (at c : ℕ) (r : Ref) (low : ℕ) (other : at ≡ c → ⊥) where
       go false ea false eb = ea
 
   -- in the range nothing is below the node, and below the new one what was below it
-  up_at_in : holds low r ≡ true → (u : Option ℕ) → is_up at (moved_up at c r low u) ≡ false
+  pub up_at_in : holds low r ≡ true → (u : Option ℕ) → is_up at (moved_up at c r low u) ≡ false
   up_at_in in_it None = refl
   up_at_in in_it (Some u) = rw in_it (go (nat_eq u c) refl (nat_eq u at) refl)
     where
@@ -76,7 +76,7 @@ module _ (at c : ℕ) (r : Ref) (low : ℕ) (other : at ≡ c → ⊥) where
       go false ea true eb = unlike c at (λ e. other (sym e))
       go false ea false eb = eb
 
-  up_c_in : holds low r ≡ true → (u : Option ℕ) → is_up c (moved_up at c r low u) ≡ is_up at u
+  pub up_c_in : holds low r ≡ true → (u : Option ℕ) → is_up c (moved_up at c r low u) ≡ is_up at u
   up_c_in in_it None = refl
   up_c_in in_it (Some u) = rw in_it (go (nat_eq u c) refl (nat_eq u at) refl)
     where
@@ -89,14 +89,14 @@ module _ (at c : ℕ) (r : Ref) (low : ℕ) (other : at ≡ c → ⊥) where
       go false ea false eb = ea ∙ sym eb
 
 -- a test of a node by what is above it and by its key
-tests : (l a b e : Bool) → (e ≡ true → a ≡ b) → (l && (a && e)) ≡ (l && (b && e))
+pub tests : (l a b e : Bool) → (e ≡ true → a ≡ b) → (l && (a && e)) ≡ (l && (b && e))
 tests l a b true h = ap (λ z. l && (z && true)) (h refl)
 tests l true true false h = refl
 tests l true false false h = refl
 tests l false true false h = refl
 tests l false false false h = refl
 
-fails : (l a e : Bool) → (e ≡ true → a ≡ false) → (l && (a && e)) ≡ false
+pub fails : (l a e : Bool) → (e ≡ true → a ≡ false) → (l && (a && e)) ≡ false
 fails true true true h = absurd (let e = h refl in cc)
 fails true true false h = refl
 fails true false e h = refl
@@ -175,6 +175,11 @@ get_map f [] i x read = absurd (none-some x read)
 get_map f (y ∷ ys) zero x read = let e : y ≡ x = (cc) in ap (λ z. Some (f z)) e
 get_map f (y ∷ ys) (suc i) x read = get_map f ys i x read
 
+pub item_at : {X : Type 0} (zs : List X) (m : ℕ) → m < length zs → (y : X) × (slice_get zs m ≡ Some y)
+item_at [] m lt = absurd (omega (arith, lt))
+item_at (z ∷ zs) zero lt = (z, refl)
+item_at (z ∷ zs) (suc m) lt = item_at zs m (omega arith)
+
 one_of : {X : Type 0} (a b : X) → Some a ≡ Some b → a ≡ b
 one_of a b e = cc
 
@@ -189,7 +194,7 @@ module _ (xs : List Node) (at : ℕ) (x : Node) (kept part : RefSet) (r : Ref) (
   within : at < length xs
   within = slice_get_within xs at x read
 
-  front_length : length (moved_all at (length xs) r (slice_set xs at (with_set x kept))) ≡ length xs
+  pub front_length : length (moved_all at (length xs) r (slice_set xs at (with_set x kept))) ≡ length xs
   front_length = length-map _ _ ∙ length-set xs at (with_set x kept)
 
   pub at_new : slice_get (parted xs at x kept part r) (length xs) ≡ Some (new_node at x part r)
@@ -216,14 +221,9 @@ module _ (xs : List Node) (at : ℕ) (x : Node) (kept part : RefSet) (r : Ref) (
     | inr ge ↦ ap F (past m ne ge) ∙ ap F (sym (slice_get_past xs m ge))
     | inl lt ↦ elim (same_or_not m at) as (λ _. F (slice_get (parted xs at x kept part r) m) ≡ F (slice_get xs m)) [
       | inl e ↦ subst (λ z. F (slice_get (parted xs at x kept part r) z) ≡ F (slice_get xs z)) (sym e) (ap F at_here ∙ same (with_set x kept) ∙ same_set ∙ ap F (sym read))
-      | inr off ↦ let y = there xs m lt in ap F (at_other m y.0 off y.1) ∙ same y.0 ∙ ap F (sym y.1)
+      | inr off ↦ let y = item_at xs m lt in ap F (at_other m y.0 off y.1) ∙ same y.0 ∙ ap F (sym y.1)
     ]
   ]
-    where
-      there : (zs : List Node) (m : ℕ) → m < length zs → (y : Node) × (slice_get zs m ≡ Some y)
-      there [] m lt = absurd (omega (arith, lt))
-      there (z ∷ zs) zero lt = (z, refl)
-      there (z ∷ zs) (suc m) lt = there zs m (omega arith)
 
   -- the first place at which a node of the front passes that does what it did before the move
   pub front_same : (p q : Node → Bool) → ((y : Node) → q (moved at (length xs) r y) ≡ p y) → p (with_set x kept) ≡ p x → position q (moved_all at (length xs) r (slice_set xs at (with_set x kept))) ≡ position p xs
