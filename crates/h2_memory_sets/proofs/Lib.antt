@@ -6,3 +6,4 @@ pub mod Making
 pub mod Putting
 pub mod Parting
 pub mod Differing
+pub mod Loading

@@ -128,3 +128,16 @@ pub record FitsBelow (top : Ref) (leaf_bits : ℕ) (r : Ref) : Type 0 where
 pub record AllFitBelow (top : Ref) (leaf_bits : ℕ) (s : RefSet) : Type 0 where
   pub some : 0 < length s.refs
   pub each : (i : ℕ) (r : Ref) → slice_get s.refs i ≡ Some r → FitsBelow top leaf_bits r
+
+-- node c isn't loaded, a reference r in the set of node at leads to it, it may be a node of its tree, and nothing
+-- below it is loaded
+pub record IsLoadable (xs : List Node) (at : ℕ) (r : Ref) (c : ℕ) : Type 0 where
+  pub node : Node
+  pub read : slice_get xs c ≡ Some node
+  pub away : is_away at r.key node ≡ true
+  pub fits : AllFitBelow r (leaf_bits_of (slice_get xs (root_of (slice_get xs at)))) node.set
+  pub bare : position (is_below c) xs ≡ None
+
+-- a node that was loaded, below one with this root and by a reference with these keybits
+abbrev pub brought : ℕ → ℕ → Node → Node
+brought root bits x = record { set = x.set; loaded = true; up = x.up; root = root; low = x.low; bits = bits; leaf_bits = x.leaf_bits }

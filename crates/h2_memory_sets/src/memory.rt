@@ -2,9 +2,9 @@ ghost use Rattle.std.specs.Prelude.{◌≡◌, ◌<◌, ◌≤◌, ◌^◌, ◌�
 ghost use Rattle.std.specs.Vec.{vec_len, vec_capacity};
 
 use crate::adding::{add_node, new_reference, with_left, with_one};
-use crate::judging::all_fit;
+use crate::judging::{bring_in, find_loadable};
 use crate::node::Node;
-use crate::searching::{find_away, find_below, find_child};
+use crate::searching::find_child;
 use h2_num::{Bytes, NoMemory};
 use h2_ref::{Ref, Trouble, Why};
 use h2_set::{NodeId, Set, Sets, Split};
@@ -61,24 +61,13 @@ impl MemorySets {
     {
         self.fault = which;
     }
+}
 
-    // Whether the load that is due is the one that fails.
-    fn load_fails(&mut self) -> bool
-        ensures { forest_of self.new ≡ forest_of self.old }
-    {
-        let fails = self.fault == 1;
-        self.fault = self.fault.saturating_sub(1);
-        fails
-    }
-
-    // A bad block was met.
-    fn meets_bad(&mut self, place: u64) -> Trouble {
-        self.bad = self.bad.saturating_add(1);
-        Trouble::Bad {
-            place,
-            why: Why::Shape,
-        }
-    }
+// Whether the load that is due is the one that fails.
+fn is_due(fault: &mut u64) -> bool {
+    let due = *fault == 1;
+    *fault = fault.saturating_sub(1);
+    due
 }
 
 impl Sets for MemorySets {
@@ -110,14 +99,20 @@ impl Sets for MemorySets {
         if let Some(c) = find_child(&self.nodes, at.0, r.key) {
             return Ok(NodeId(c as u32));
         }
-        if self.load_fails() {
+        if is_due(&mut self.fault) {
             self.failed = self.failed.saturating_add(1);
             return Err(Trouble::Failed);
         }
-        match self.load(at.0, &r) {
-            Some(c) => Ok(c),
-            None => Err(self.meets_bad(r.place)),
-        }
+        let Some(c) = find_loadable(&self.nodes, at.0, &r) else {
+            self.bad = self.bad.saturating_add(1);
+            return Err(Trouble::Bad {
+                place: r.place,
+                why: Why::Shape,
+            });
+        };
+        let root = self.nodes[at.0 as usize].root;
+        bring_in(&mut self.nodes[c], root, r.keybits);
+        Ok(NodeId(c as u32))
     }
 
     fn ready(&mut self, n: u32) -> Result<(), NoMemory> {
@@ -156,37 +151,20 @@ impl Sets for MemorySets {
 
     fn name(&mut self, alloc: Global, r: &Ref) -> Result<Bytes, Trouble> {
         let Some(entry) = r.dirent else {
-            return Err(self.meets_bad(r.place));
+            return Err(Trouble::NoMemory);
         };
-        if entry.len > 64 {
-            return Err(self.meets_bad(r.place));
+        let all = entry.name.as_slice();
+        if entry.len as usize > all.len() {
+            self.bad = self.bad.saturating_add(1);
+            return Err(Trouble::Bad {
+                place: r.place,
+                why: Why::Name,
+            });
         }
-        let (name, _) = entry.name.as_slice().split_at(entry.len as usize);
+        let (name, _) = all.split_at(entry.len as usize);
         match Bytes::from_slice(alloc, name) {
             Ok(bytes) => Ok(bytes),
             Err(NoMemory) => Err(Trouble::NoMemory),
         }
-    }
-}
-
-impl MemorySets {
-    // Loads the node that a reference in the set of another leads to; None where it isn't one of its tree.
-    fn load(&mut self, at: u32, r: &Ref) -> Option<NodeId> {
-        let c = find_away(&self.nodes, at, r.key)?;
-        let root = self.nodes[at as usize].root;
-        if root as usize >= self.nodes.len() {
-            return None;
-        }
-        let leaf_bits = self.nodes[root as usize].leaf_bits;
-        if !all_fit(&self.nodes[c].set, r, leaf_bits) {
-            return None;
-        }
-        if find_below(&self.nodes, c as u32).is_some() {
-            return None;
-        }
-        self.nodes[c].loaded = true;
-        self.nodes[c].root = root;
-        self.nodes[c].bits = r.keybits;
-        Some(NodeId(c as u32))
     }
 }
