@@ -7,3 +7,4 @@ pub mod Putting
 pub mod Parting
 pub mod Differing
 pub mod Loading
+pub mod Fitting

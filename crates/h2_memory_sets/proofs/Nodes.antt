@@ -6,11 +6,11 @@ use Rattle.std.proofs.lemmas.Option.{none-some, slice_get_within, slice_get_read
 use Rattle.std.proofs.Math.ListN.{length-set}
 use Rattle.h2_ref.specs.declared.reference.Ref.{Ref}
 use Rattle.h2_set.specs.RefSet.{RefSet}
-use Rattle.h2_set.specs.Forest.{Link, loaded, untold, Forest, InPlace, Fixed, IsSound, ReadiesOnly}
+use Rattle.h2_set.specs.Forest.{Link, loaded, untold, Forest, InPlace, Fixed, IsSound, ReadiesOnly, Walks}
 use Rattle.h2_set.specs.ChangeLaws.{same_or_not}
 use Rattle.h2_memory_sets.specs.declared.node.Node.{Node}
 use Rattle.h2_memory_sets.specs.View.{stands_of, set_of, root_of, low_of, bits_of, leaf_bits_of, is_up, is_child, names, link_to, link_of, with_set, new_node, moved_all, parted, forest_with}
-use Rattle.h2_memory_sets.proofs.Settled.{Settled, readies}
+use Rattle.h2_memory_sets.proofs.Settled.{Settled, readies, counts_walk}
 use Rattle.h2_memory_sets.proofs.Storing.{DiffersByStore}
 
 -- a test that passes at the same places of two lists
@@ -109,3 +109,7 @@ parted_is xs zs items at n x a b kept part r n_is at_x at_a at_b zs_is items_is 
     let a_is : a ≡ x = (cc) in
     let b_is : b ≡ x = (cc) in
     items_is ∙ ap (λ (l : List Node). l ++ new_node at a part r ∷ []) zs_is ∙ ap (λ (y : Node). moved_all at n r (slice_set xs at (with_set b kept)) ++ new_node at y part r ∷ []) a_is ∙ ap (λ (y : Node). moved_all at n r (slice_set xs at (with_set y kept)) ++ new_node at x part r ∷ []) b_is ∙ ap (λ k. moved_all at k r (slice_set xs at (with_set x kept)) ++ new_node at x part r ∷ []) n_is
+
+-- where faults or bad blocks were met, and nothing else
+pub counts_walk_nodes : (xs : List Node) (spare epoch room failed failed' bad bad' : ℕ) → failed ≤ failed' → bad ≤ bad' → IsSound (forest_with xs spare epoch room failed bad) → Walks (forest_with xs spare epoch room failed bad) (forest_with xs spare epoch room failed' bad')
+counts_walk_nodes xs spare epoch room failed failed' bad bad' more_failed more_bad sound = counts_walk _ _ (settled_of xs xs spare spare epoch room room failed failed' bad bad' (λ m. refl) more_failed more_bad (λ m st. (st, refl, refl, refl))) (λ m. refl) (λ m. refl) (λ m k. refl) refl refl sound

@@ -3,9 +3,9 @@ use Rattle.std.proofs.Common.{◌≡◌, ℕ, ◌+◌, ◌<◌, ◌≤◌, ◌^�
 use Rattle.h2_ref.specs.declared.reference.Ref.{Ref}
 use Rattle.h2_set.specs.Ranges.{Rising, limit, is_indirect}
 use Rattle.h2_set.specs.RefSet.{RefSet, IsRefSet}
-use Rattle.h2_set.specs.Forest.{Forest, refs, Link, loaded, IsChild, IsSoundNode, IsSound, Fits, NamesBelow, Fixed, InPlace, Keeps, Same, Alike, Alters, ReadiesOnly}
+use Rattle.h2_set.specs.Forest.{Forest, refs, Link, loaded, IsChild, IsSoundNode, IsSound, Fits, NamesBelow, Fixed, InPlace, Keeps, Same, Alike, Alters, ReadiesOnly, Walks}
 use Rattle.h2_set.specs.StayLaws.{Alike-refl, Fixed-refl}
-use Rattle.h2_set.specs.ChangeLaws.{Keeps-refl}
+use Rattle.h2_set.specs.ChangeLaws.{Keeps-refl, Keeps-Stays}
 use Rattle.h2_set.specs.RenewLaws.{Keeps-Renews}
 
 -- every node that stands stays in its place, and none is copied
@@ -141,4 +141,20 @@ readies f g s stands set link spare room failed bad sound = record {
   room = room;
   failed = failed;
   bad = bad;
+}
+
+-- where nothing but the two counts has risen
+pub counts_walk : (f g : Forest) → Settled f g → ((m : ℕ) → g.stands m ≡ f.stands m) → ((m : ℕ) → g.set m ≡ f.set m) → ((m k : ℕ) → g.link m k ≡ f.link m k) → g.spare ≡ f.spare → g.room ≡ f.room → IsSound f → Walks f g
+counts_walk f g s stands set link spare room sound = record {
+  sound = record {
+    node = λ m st. let old = sym (stands m) ∙ st in same_node f g s m old (sound.node m old) (set m) (link m);
+    held = λ m held. let miss : g.held m ≡ false = s.fixed.held m ∙ s.none_held m in let clash : true ≡ false = sym held ∙ miss in absurd (cc);
+  };
+  fixed = s.fixed;
+  stays = λ m st. Keeps-Stays f g m (same_keeps f g s m st (set m) (link m));
+  sets = λ m st. set m;
+  writable = λ m st. s.writable m;
+  copies = λ m st. s.copies m;
+  spare = (let e = spare in omega (arith, e));
+  room = room;
 }

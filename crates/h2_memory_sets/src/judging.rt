@@ -7,6 +7,14 @@ use crate::searching::{find_away, find_below};
 use h2_ref::Ref;
 use h2_set::{Set, is_indirect};
 
+// How many keys a range has.
+fn range_length(keybits: u8) -> u64
+    requires { keybits < 64 }
+    ensures { result ≡ 2 ^ keybits }
+{
+    1u64 << keybits
+}
+
 // Whether the range of a reference lies in that of `top`, and is shorter.
 fn lies_below(r: &Ref, top: &Ref) -> bool
     ensures low { IsTrue result → top.now.key ≤ r.now.key }
@@ -22,7 +30,12 @@ fn lies_below(r: &Ref, top: &Ref) -> bool
     if r.key < top.key {
         return false;
     }
-    r.key - top.key <= (1u64 << top.keybits) - (1u64 << r.keybits)
+    let whole = range_length(top.keybits);
+    let part = range_length(r.keybits);
+    if part > whole {
+        return false;
+    }
+    r.key - top.key <= whole - part
 }
 
 // Whether the key of a reference is a multiple of the length of its range.
@@ -32,7 +45,7 @@ fn is_aligned(r: &Ref) -> bool
     if r.keybits >= 64 {
         return false;
     }
-    r.key % (1u64 << r.keybits) == 0
+    r.key % range_length(r.keybits) == 0
 }
 
 // Whether a reference has keybits that it may have in a tree with leaves of these keybits.

@@ -1,4 +1,5 @@
-ghost use Rattle.std.specs.Prelude.{◌≡◌, ◌<◌, ◌≤◌, ◌^◌, ◌⊎◌, ◌+◌, ◌%◌, length, IfOk, OnOk, OnErr, true, [], ℕ};
+ghost use Rattle.std.specs.Prelude.{◌≡◌, ◌<◌, ◌≤◌, ◌^◌, ◌⊎◌, ◌+◌, ◌%◌, length, take, IfOk, IfSome};
+ghost use Rattle.h2_num.specs.Causes.{Rose};
 ghost use Rattle.std.specs.Vec.{vec_len, vec_capacity};
 
 use crate::adding::{add_node, new_reference, with_left, with_one};
@@ -6,7 +7,7 @@ use crate::judging::{bring_in, find_loadable};
 use crate::node::Node;
 use crate::searching::find_child;
 use h2_num::{Bytes, NoMemory};
-use h2_ref::{Ref, Trouble, Why};
+use h2_ref::{Dirent, Ref, Trouble, Why};
 use h2_set::{NodeId, Set, Sets, Split};
 use std::alloc::Global;
 
@@ -70,6 +71,27 @@ fn is_due(fault: &mut u64) -> bool {
     due
 }
 
+// A count of one more, which stands still at its last value.
+fn one_more(count: u64) -> u64
+    ensures rose { Rose count result }
+    ensures more { count ≤ result }
+{
+    count.saturating_add(1)
+}
+
+// The name that an entry of a directory has in itself; None where there is none.
+fn inline_name(alloc: Global, entry: Dirent) -> Result<Option<Bytes>, NoMemory>
+    ensures { IfOk result (λ o. IfSome o (λ b. b ≡ take entry.len entry.name)) }
+{
+    let all = entry.name.as_slice();
+    if entry.len as usize > all.len() {
+        return Ok(None);
+    }
+    let (name, _) = all.split_at(entry.len as usize);
+    let bytes = Bytes::from_slice(alloc, name)?;
+    Ok(Some(bytes))
+}
+
 impl Sets for MemorySets {
     ghost use Rattle.std.specs.Prelude.{ℕ};
     ghost use Rattle.h2_memory_sets.specs.View.{forest_of};
@@ -100,11 +122,11 @@ impl Sets for MemorySets {
             return Ok(NodeId(c as u32));
         }
         if is_due(&mut self.fault) {
-            self.failed = self.failed.saturating_add(1);
+            self.failed = one_more(self.failed);
             return Err(Trouble::Failed);
         }
         let Some(c) = find_loadable(&self.nodes, at.0, &r) else {
-            self.bad = self.bad.saturating_add(1);
+            self.bad = one_more(self.bad);
             return Err(Trouble::Bad {
                 place: r.place,
                 why: Why::Shape,
@@ -153,17 +175,15 @@ impl Sets for MemorySets {
         let Some(entry) = r.dirent else {
             return Err(Trouble::NoMemory);
         };
-        let all = entry.name.as_slice();
-        if entry.len as usize > all.len() {
-            self.bad = self.bad.saturating_add(1);
-            return Err(Trouble::Bad {
-                place: r.place,
-                why: Why::Name,
-            });
-        }
-        let (name, _) = all.split_at(entry.len as usize);
-        match Bytes::from_slice(alloc, name) {
-            Ok(bytes) => Ok(bytes),
+        match inline_name(alloc, entry) {
+            Ok(Some(name)) => Ok(name),
+            Ok(None) => {
+                self.bad = one_more(self.bad);
+                Err(Trouble::Bad {
+                    place: r.place,
+                    why: Why::Name,
+                })
+            }
             Err(NoMemory) => Err(Trouble::NoMemory),
         }
     }
