@@ -8,3 +8,4 @@ pub mod Parting
 pub mod Differing
 pub mod Loading
 pub mod Fitting
+pub mod Bringing

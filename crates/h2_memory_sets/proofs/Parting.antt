@@ -155,6 +155,31 @@ none_passes p xs none = position_first p xs ∙ go xs none
     go [] none = refl
     go (y ∷ ys) none = rw (none 0 y refl) (ap after_one (go ys (λ i x read. none (suc i) x read)))
 
+-- what a search that found nothing, or found the one place, says
+rest_none : (o : Option ℕ) → after_one o ≡ None → o ≡ None
+rest_none None e = refl
+rest_none (Some n) e = absurd (none-some (suc n) (sym e))
+
+first_false : {X : Type 0} (p : X → Bool) (xs : List X) → first_of p xs ≡ None → (i : ℕ) (x : X) → slice_get xs i ≡ Some x → p x ≡ false
+first_false p [] e i x read = absurd (none-some x read)
+first_false p (y ∷ ys) e i x read = head (p y) refl e i read (first_false p ys)
+  where
+    head : (b : Bool) → p y ≡ b → cond b (Some 0) (after_one (first_of p ys)) ≡ None → (i : ℕ) → slice_get (y ∷ ys) i ≡ Some x → (first_of p ys ≡ None → (i : ℕ) (x : _) → slice_get ys i ≡ Some x → p x ≡ false) → p x ≡ false
+    head true e' n i read ih = absurd (none-some 0 (sym n))
+    head false e' n zero read ih = let same : y ≡ x = (cc) in subst (λ z. p z ≡ false) same e'
+    head false e' n (suc i) read ih = ih (rest_none (first_of p ys) n) i x read
+
+pub none_false : {X : Type 0} (p : X → Bool) (xs : List X) → position p xs ≡ None → (i : ℕ) (x : X) → slice_get xs i ≡ Some x → p x ≡ false
+none_false p xs e = first_false p xs (sym (position_first p xs) ∙ e)
+
+pub position_one : {X : Type 0} (p : X → Bool) (xs : List X) (c : ℕ) (y : X) → slice_get xs c ≡ Some y → p y ≡ true → ((i : ℕ) (x : X) → (i ≡ c → ⊥) → slice_get xs i ≡ Some x → p x ≡ false) → position p xs ≡ Some c
+position_one p xs c y read yes' others = position_first p xs ∙ go xs c read others
+  where
+    go : (zs : List _) (c : ℕ) → slice_get zs c ≡ Some y → ((i : ℕ) (x : _) → (i ≡ c → ⊥) → slice_get zs i ≡ Some x → p x ≡ false) → first_of p zs ≡ Some c
+    go [] c read others = absurd (none-some y read)
+    go (z ∷ zs) zero read others = let same : z ≡ y = (cc) in rw (same, yes') refl
+    go (z ∷ zs) (suc c) read others = rw (others 0 z (λ e. omega (arith, e)) refl) (ap after_one (go zs c read (λ i x ne got. others (suc i) x (λ e. ne (omega (arith, e))) got)))
+
 get_append : {X : Type 0} (xs : List X) (z : X) (i : ℕ) → i < length xs → slice_get (xs ++ z ∷ []) i ≡ slice_get xs i
 get_append [] z i lt = absurd (omega (arith, lt))
 get_append (x ∷ xs) z zero lt = refl
@@ -180,7 +205,7 @@ item_at [] m lt = absurd (omega (arith, lt))
 item_at (z ∷ zs) zero lt = (z, refl)
 item_at (z ∷ zs) (suc m) lt = item_at zs m (omega arith)
 
-one_of : {X : Type 0} (a b : X) → Some a ≡ Some b → a ≡ b
+pub one_of : {X : Type 0} (a b : X) → Some a ≡ Some b → a ≡ b
 one_of a b e = cc
 
 -- what is read of such nodes

@@ -3,7 +3,7 @@ use Rattle.std.specs.Prelude.{◌≡◌, ℕ, ◌+◌, ◌-◌, ◌^◌, ◌≤�
 use Rattle.std.specs.List.{position}
 use Rattle.h2_ref.specs.declared.reference.Ref.{Ref}
 use Rattle.h2_set.specs.Ranges.{limit, holds, is_indirect, IsAligned}
-use Rattle.h2_set.specs.RefSet.{RefSet}
+use Rattle.h2_set.specs.RefSet.{RefSet, IsRefSet}
 use Rattle.h2_set.specs.Forest.{Link, loaded, told, untold, Forest}
 use Rattle.h2_memory_sets.specs.declared.node.Node.{Node}
 use Rattle.h2_memory_sets.specs.declared.memory.MemorySets.{MemorySets}
@@ -126,6 +126,7 @@ pub record FitsBelow (top : Ref) (leaf_bits : ℕ) (r : Ref) : Type 0 where
 
 -- a set that may be that of the node that top names
 pub record AllFitBelow (top : Ref) (leaf_bits : ℕ) (s : RefSet) : Type 0 where
+  pub set : IsRefSet s
   pub some : 0 < length s.refs
   pub each : (i : ℕ) (r : Ref) → slice_get s.refs i ≡ Some r → FitsBelow top leaf_bits r
 
