@@ -7,13 +7,13 @@ use Rattle.std.proofs.lemmas.Option.{slice_get_within}
 use Rattle.h2_ref.specs.declared.reference.Ref.{Ref}
 use Rattle.h2_set.specs.Ranges.{is_indirect}
 use Rattle.h2_set.specs.RefSet.{RefSet}
-use Rattle.h2_set.specs.Forest.{Link, loaded, untold, Forest, refs, Loads}
+use Rattle.h2_set.specs.Forest.{Link, loaded, untold, Forest, refs, Loads, Walks, IsSound}
 use Rattle.h2_set.specs.ChangeLaws.{same_or_not, Keeps-refl}
 use Rattle.h2_set.specs.StayLaws.{Alike-refl}
 use Rattle.h2_memory_sets.specs.declared.node.Node.{Node}
 use Rattle.h2_memory_sets.specs.View.{stands_of, set_of, root_of, low_of, bits_of, leaf_bits_of, is_up, is_below, is_child, is_away, names, link_to, link_of, forest_with, brought, IsLoadable}
 use Rattle.h2_memory_sets.proofs.Lists.{below_names}
-use Rattle.h2_memory_sets.proofs.Loading.{DiffersByLoad}
+use Rattle.h2_memory_sets.proofs.Loading.{DiffersByLoad, walks, loads}
 use Rattle.h2_memory_sets.proofs.Nodes.{settled_of, position_same, get_set, get_set_other, field_stays}
 use Rattle.h2_memory_sets.proofs.Parting.{unlike, alike, fails, none_passes, none_false, position_one, one_of}
 
@@ -148,3 +148,34 @@ not_loaded xs at k d none e = let it : untold ≡ loaded d = sym (rw none (cond_
 -- where one was found, it is
 pub is_loaded : (xs : List Node) (at i c : ℕ) (r : Ref) → position (is_child at r.key) xs ≡ Some c → slice_get (let s = set_of (slice_get xs at) in s.refs) i ≡ Some r → is_indirect r ≡ true → link_of xs at r.key ≡ loaded c
 is_loaded xs at i c r found read ind = let named = below_names _ r.key i r read ind refl in rw (found, named) refl
+
+pub loadable_in : (ys xs : List Node) (at c : ℕ) (r : Ref) → ys ≡ xs → IsLoadable ys at r c → IsLoadable xs at r c
+loadable_in _ xs at c r e l = subst (λ (zs : List Node). IsLoadable zs at r c) e l
+
+pub loadable_within : (xs : List Node) (at c : ℕ) (r : Ref) → IsLoadable xs at r c → c < length xs
+loadable_within xs at c r l = slice_get_within xs c l.node l.read
+
+-- the node that was written is the one that was loaded
+pub brought_is : (xs : List Node) (at c : ℕ) (r : Ref) (x y z : Node) (l : IsLoadable xs at r c) → slice_get xs at ≡ Some x → slice_get xs c ≡ Some y → z ≡ brought x.root r.keybits y → slice_set xs c (brought (root_of (slice_get xs at)) r.keybits l.node) ≡ slice_set xs c z
+brought_is xs at c r x y z l at_x at_y z_is =
+    let same : l.node ≡ y = one_of l.node y (sym l.read ∙ at_y) in
+    let root : root_of (slice_get xs at) ≡ x.root = ap root_of at_x in
+    ap (λ (n : ℕ). slice_set xs c (brought n r.keybits l.node)) root ∙ ap (λ (n : Node). slice_set xs c (brought x.root r.keybits n)) same ∙ ap (slice_set xs c) (sym z_is)
+
+-- what loading a node does
+pub record Brings (f g : Forest) (at c : ℕ) (q : Ref) : Type 0 where
+  pub walked : Walks f g
+  pub link : g.link at q.key ≡ loaded c
+  pub loaded_there : Loads f g at q.key
+
+brings_new : (xs : List Node) (spare epoch room failed bad at i c : ℕ) (q : Ref) → IsSound (forest_with xs spare epoch room failed bad) → stands_of (slice_get xs at) ≡ true → (l : IsLoadable xs at q c) → position (is_child at q.key) xs ≡ None → slice_get (let s = set_of (slice_get xs at) in s.refs) i ≡ Some q → is_indirect q ≡ true → Brings (forest_with xs spare epoch room failed bad) (forest_with (slice_set xs c (brought (root_of (slice_get xs at)) q.keybits l.node)) spare epoch room failed bad) at c q
+brings_new xs spare epoch room failed bad at i c q sound stands l none read ind =
+    let d = differs_by_load xs at c q stands l none spare epoch room failed bad i read ind in
+    record {
+      walked = walks _ _ at c i q d sound stands read ind;
+      link = d.child;
+      loaded_there = loads _ _ at c i q d sound stands read ind;
+    }
+
+pub brings : (xs : List Node) (spare epoch room failed bad at i c : ℕ) (q : Ref) (x y z : Node) → IsSound (forest_with xs spare epoch room failed bad) → stands_of (slice_get xs at) ≡ true → IsLoadable xs at q c → position (is_child at q.key) xs ≡ None → slice_get (let s = set_of (slice_get xs at) in s.refs) i ≡ Some q → is_indirect q ≡ true → slice_get xs at ≡ Some x → slice_get xs c ≡ Some y → z ≡ brought x.root q.keybits y → Brings (forest_with xs spare epoch room failed bad) (forest_with (slice_set xs c z) spare epoch room failed bad) at c q
+brings xs spare epoch room failed bad at i c q x y z sound stands l none read ind at_x at_y z_is = subst (λ (zs : List Node). Brings (forest_with xs spare epoch room failed bad) (forest_with zs spare epoch room failed bad) at c q) (brought_is xs at c q x y z l at_x at_y z_is) (brings_new xs spare epoch room failed bad at i c q sound stands l none read ind)
