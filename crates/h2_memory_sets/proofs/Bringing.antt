@@ -1,17 +1,16 @@
 -- Forests in memory that differ by a node that was loaded.
-use Rattle.std.proofs.Common.{◌≡◌, ℕ, ◌+◌, ◌<◌, ◌≤◌, ◌^◌, Bool, true, false, ◌&&◌, arith, refl, cond, sym, ◌∙◌, ap, List, [], ◌∷◌, length, Option, Some, None, subst, ◌⊎◌, inl, inr, slice_get, slice_set, nat_eq}
+use Rattle.std.proofs.Common.{◌≡◌, ℕ, ◌<◌, Bool, true, false, ◌&&◌, arith, refl, cond, sym, ◌∙◌, ap, List, length, Option, Some, None, subst, ◌⊎◌, inl, inr, slice_get, slice_set, nat_eq}
 use Rattle.std.specs.Prelude.{not}
 use Rattle.std.specs.List.{position}
 use Rattle.std.proofs.Math.ListN.{length-set}
 use Rattle.std.proofs.lemmas.Option.{slice_get_within}
 use Rattle.h2_ref.specs.declared.reference.Ref.{Ref}
 use Rattle.h2_set.specs.Ranges.{is_indirect}
-use Rattle.h2_set.specs.RefSet.{RefSet}
-use Rattle.h2_set.specs.Forest.{Link, loaded, untold, Forest, refs, Loads, Walks, IsSound}
-use Rattle.h2_set.specs.ChangeLaws.{same_or_not, Keeps-refl}
+use Rattle.h2_set.specs.Forest.{Link, loaded, untold, Forest, Loads, Walks, IsSound}
+use Rattle.h2_set.specs.ChangeLaws.{same_or_not}
 use Rattle.h2_set.specs.StayLaws.{Alike-refl}
 use Rattle.h2_memory_sets.specs.declared.node.Node.{Node}
-use Rattle.h2_memory_sets.specs.View.{stands_of, set_of, root_of, low_of, bits_of, leaf_bits_of, is_up, is_below, is_child, is_away, names, link_to, link_of, forest_with, brought, IsLoadable}
+use Rattle.h2_memory_sets.specs.View.{stands_of, set_of, root_of, low_of, bits_of, leaf_bits_of, is_up, is_below, is_child, link_of, forest_with, brought, IsLoadable}
 use Rattle.h2_memory_sets.proofs.Lists.{below_names}
 use Rattle.h2_memory_sets.proofs.Loading.{DiffersByLoad, walks, loads}
 use Rattle.h2_memory_sets.proofs.Nodes.{settled_of, position_same, get_set, get_set_other, field_stays}
@@ -94,7 +93,7 @@ module _ (xs : List Node) (at c : ℕ) (r : Ref) (stands : stands_of (slice_get 
       go : (i : ℕ) (y : Node) → slice_get ys i ≡ Some y → is_child c k y ≡ false
       go i y got = elim (same_or_not i c) as (λ _. is_child c k y ≡ false) [
         | inr off ↦ below_fails y.loaded (is_up c y.up) (nat_eq y.low k) (none_false (is_below c) xs l.bare i y (sym (off_c i off) ∙ got))
-        | inl e ↦ sym (ap (is_child c k) (one_of new y (sym at_c ∙ subst (λ z. slice_get ys z ≡ Some y) e got)) ) ∙ new_child c k (λ q _. not_fresh at stands (sym q))
+        | inl e ↦ sym (ap (is_child c k) (one_of new y (sym at_c ∙ subst (λ z. slice_get ys z ≡ Some y) e got))) ∙ new_child c k (λ q _. not_fresh at stands (sym q))
       ]
 
   leaf : (m : ℕ) → leaf_bits_of (slice_get ys m) ≡ leaf_bits_of (slice_get xs m)

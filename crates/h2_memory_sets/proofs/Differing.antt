@@ -1,5 +1,5 @@
 -- Forests in memory that differ by a node that took over a part of another.
-use Rattle.std.proofs.Common.{◌≡◌, ℕ, ◌+◌, ◌-◌, ◌<◌, ◌≤◌, ◌^◌, Bool, true, false, ◌&&◌, arith, refl, cond, sym, ◌∙◌, ap, List, [], ◌∷◌, ◌++◌, length, Option, Some, None, subst, ◌⊎◌, inl, inr, slice_get, slice_set, suc, zero, nat_eq}
+use Rattle.std.proofs.Common.{◌≡◌, ℕ, ◌+◌, ◌<◌, ◌≤◌, ◌^◌, Bool, true, false, arith, refl, cond, sym, ◌∙◌, ap, List, length, Option, Some, None, subst, ◌⊎◌, inl, inr, slice_get, slice_set, nat_eq}
 use Rattle.std.specs.List.{position}
 use Rattle.std.proofs.lemmas.Bool.Decides.{nat_tests}
 use Rattle.std.proofs.lemmas.Nat.{pow_pos}
@@ -8,11 +8,11 @@ use Rattle.h2_ref.specs.declared.reference.Ref.{Ref}
 use Rattle.h2_set.specs.declared.set.Split.{Split}
 use Rattle.h2_set.specs.Ranges.{holds, limit, put}
 use Rattle.h2_set.specs.RefSet.{RefSet, with_rest}
-use Rattle.h2_set.specs.Forest.{Link, loaded, untold}
+use Rattle.h2_set.specs.Forest.{loaded, untold}
 use Rattle.h2_set.specs.LeafLaws.{outside_holds}
 use Rattle.h2_set.specs.ChangeLaws.{same_or_not}
 use Rattle.h2_memory_sets.specs.declared.node.Node.{Node}
-use Rattle.h2_memory_sets.specs.View.{stands_of, set_of, root_of, low_of, bits_of, leaf_bits_of, is_child, names, link_to, link_of, moved, moved_all, with_set, new_node, parted, forest_with}
+use Rattle.h2_memory_sets.specs.View.{stands_of, set_of, root_of, low_of, bits_of, leaf_bits_of, is_child, link_to, moved, moved_all, with_set, new_node, parted, forest_with}
 use Rattle.h2_memory_sets.proofs.Making.{DiffersByMake}
 use Rattle.h2_memory_sets.proofs.Nodes.{settled_of, is_there}
 use Rattle.h2_memory_sets.proofs.Parting.{unlike, alike, up_other, up_at_out, up_c_out, up_at_in, up_c_in, tests, fails, first_push, first_none, none_passes, item_at, front_length, at_new, at_here, at_other, field, front_same, front_none}

@@ -1,5 +1,5 @@
 -- Sets that are judged reference by reference.
-use Rattle.std.proofs.Common.{◌≡◌, ℕ, ◌+◌, ◌<◌, ◌≤◌, arith, refl, sym, ◌∙◌, List, Some, subst, ◌⊎◌, inl, inr, slice_get}
+use Rattle.std.proofs.Common.{◌≡◌, ℕ, ◌+◌, ◌<◌, arith, sym, ◌∙◌, List, Some, subst, inl, inr, slice_get}
 use Rattle.std.proofs.lemmas.Bool.{cases_lt}
 use Rattle.h2_ref.specs.declared.reference.Ref.{Ref}
 use Rattle.h2_set.specs.ChangeLaws.{same_or_not}

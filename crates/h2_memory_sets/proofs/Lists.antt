@@ -1,16 +1,14 @@
 -- Places in lists, and references that name what is below.
-use Rattle.std.proofs.Common.{◌≡◌, ℕ, ◌+◌, ◌<◌, ◌≤◌, ◌^◌, Bool, true, false, ◌&&◌, arith, refl, cond, sym, ◌∙◌, ap, List, [], ◌∷◌, ◌++◌, length, Option, Some, None, subst, ◌⊎◌, inl, inr, slice_get, slice_set, suc, zero, nat_lt, nat_eq}
-use Rattle.std.specs.Prelude.{filter, not, map, count_by}
-use Rattle.std.specs.List.{position, position_or_len}
-use Rattle.std.proofs.Math.Numerals.{one-add}
+use Rattle.std.proofs.Common.{◌≡◌, ℕ, ◌+◌, ◌<◌, ◌≤◌, ◌^◌, Bool, true, false, ◌&&◌, arith, refl, cond, sym, ◌∙◌, ap, List, [], ◌∷◌, Some, subst, inl, inr, slice_get, suc, zero, nat_eq}
+use Rattle.std.specs.Prelude.{filter}
 use Rattle.std.proofs.lemmas.Bool.Decides.{nat_tests}
 use Rattle.std.proofs.lemmas.Nat.{pow_pos}
 use Rattle.std.proofs.lemmas.Option.{none-some}
 use Rattle.h2_ref.specs.declared.reference.Ref.{Ref}
-use Rattle.h2_set.specs.Ranges.{Rising, limit, lies, put, is_indirect, IsApart, Apart}
+use Rattle.h2_set.specs.Ranges.{Rising, limit, lies, put, is_indirect, IsApart}
 use Rattle.h2_set.specs.Forest.{NamesBelow}
 use Rattle.h2_set.specs.EditLaws.{before_apart, behind_apart, apart_tail}
-use Rattle.h2_set.specs.LeafLaws.{Rising-low, Rising-le, place_above}
+use Rattle.h2_set.specs.LeafLaws.{place_above}
 use Rattle.h2_set.specs.SplitLaws.{lies_in}
 use Rattle.h2_memory_sets.specs.View.{names}
 

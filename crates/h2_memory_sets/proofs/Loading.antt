@@ -1,17 +1,16 @@
 -- A node that is loaded.
-use Rattle.std.proofs.Common.{◌≡◌, ℕ, ◌+◌, ◌<◌, ◌≤◌, ◌^◌, ◌%◌, Bool, true, false, arith, refl, cond, sym, ◌∙◌, ap, List, [], ◌∷◌, length, Option, Some, None, subst, ◌⊎◌, inl, inr, slice_get, suc}
-use Rattle.std.proofs.lemmas.Option.{none-some}
+use Rattle.std.proofs.Common.{◌≡◌, ℕ, ◌+◌, ◌≤◌, ◌^◌, true, false, arith, refl, sym, ◌∙◌, ap, List, [], ◌∷◌, Some, subst, ◌⊎◌, inl, inr, slice_get, suc}
 use Rattle.h2_ref.specs.declared.reference.Ref.{Ref}
 use Rattle.h2_set.specs.Ranges.{Rising, limit, is_indirect}
 use Rattle.h2_set.specs.RefSet.{RefSet, IsRefSet}
-use Rattle.h2_set.specs.Forest.{Forest, refs, Link, loaded, told, untold, IsSound, IsSoundNode, IsChild, NamesBelow, Fits, Stays, Keeps, Walks, Loads, Below, Alike}
+use Rattle.h2_set.specs.Forest.{Forest, refs, loaded, told, untold, IsSound, IsSoundNode, IsChild, NamesBelow, Fits, Stays, Keeps, Walks, Loads, Below, Alike}
 use Rattle.h2_set.specs.ChangeLaws.{same_or_not, Keeps-Stays}
 use Rattle.h2_set.specs.LeafLaws.{place_above}
 use Rattle.h2_set.specs.SplitLaws.{below_high}
 use Rattle.h2_set.specs.StayLaws.{Alike-refl}
-use Rattle.h2_memory_sets.specs.View.{FitsBelow, AllFitBelow}
+use Rattle.h2_memory_sets.specs.View.{AllFitBelow}
 use Rattle.h2_memory_sets.proofs.Lists.{same_key}
-use Rattle.h2_memory_sets.proofs.Settled.{Settled, Contents, fits_in, child_in, placed, same_node, same_keeps}
+use Rattle.h2_memory_sets.proofs.Settled.{Settled, fits_in, child_in, placed, same_node, same_keeps}
 
 -- two forests of which the second has one node loaded that the first hasn't
 pub record DiffersByLoad (f g : Forest) (at c : ℕ) (r : Ref) : Type 0 where

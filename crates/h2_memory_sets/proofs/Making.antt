@@ -1,24 +1,23 @@
 -- A node that takes over a part of another.
-use Rattle.std.proofs.Common.{◌≡◌, ℕ, ◌+◌, ◌<◌, ◌≤◌, ◌^◌, ◌%◌, Bool, true, false, arith, refl, cond, sym, ◌∙◌, ap, List, [], ◌∷◌, length, Option, Some, None, subst, ◌⊎◌, inl, inr, slice_get, suc, zero}
+use Rattle.std.proofs.Common.{◌≡◌, ℕ, ◌+◌, ◌<◌, ◌≤◌, ◌^◌, Bool, true, false, arith, refl, cond, sym, ◌∙◌, ap, List, [], ◌∷◌, length, Some, subst, ◌⊎◌, inl, inr, slice_get, suc}
 use Rattle.std.specs.Prelude.{filter, not, count_by}
 use Rattle.std.proofs.lemmas.Bool.{cases_lt}
 use Rattle.std.proofs.lemmas.Nat.{pow_pos}
 use Rattle.std.proofs.lemmas.List.Sums.{length-filter, sum_by-cons}
-use Rattle.std.proofs.lemmas.Option.{none-some}
 use Rattle.h2_ref.specs.declared.reference.Ref.{Ref}
 use Rattle.h2_set.specs.declared.set.Split.{Split}
-use Rattle.h2_set.specs.Ranges.{Rising, limit, put, lies, is_indirect, IsApart, Apart, Sides, IsAligned}
+use Rattle.h2_set.specs.Ranges.{Rising, limit, put, lies, is_indirect, IsApart, Apart, Sides}
 use Rattle.h2_set.specs.RefSet.{RefSet, IsRefSet, with_rest}
-use Rattle.h2_set.specs.Forest.{Forest, refs, Link, loaded, untold, IsSound, IsSoundNode, IsChild, NamesBelow, Fits, MadeFrom, Makes, Keeps}
+use Rattle.h2_set.specs.Forest.{Forest, refs, Link, loaded, untold, IsSound, IsSoundNode, IsChild, NamesBelow, Fits, MadeFrom, Makes}
 use Rattle.h2_set.specs.ChangeLaws.{same_or_not}
-use Rattle.h2_set.specs.LeafLaws.{Rising-low, Rising-le, place_above}
+use Rattle.h2_set.specs.LeafLaws.{Rising-low}
 use Rattle.h2_set.specs.EditLaws.{Rising-put, length-put}
 use Rattle.h2_set.specs.PutLaws.{Rising-filter, put_from, put_keeps}
-use Rattle.h2_set.specs.SplitLaws.{lies_in, in_lies, below_high}
+use Rattle.h2_set.specs.SplitLaws.{lies_in}
 use Rattle.h2_set.specs.MadeLaws.{put_rising, put_fits, PartsNode, parts_node}
 use Rattle.h2_memory_sets.specs.View.{names}
-use Rattle.h2_memory_sets.proofs.Lists.{names_below, below_names, filter_from, filter_keeps, put_there, Rising-within, same_key}
-use Rattle.h2_memory_sets.proofs.Settled.{Settled, Contents, fits_in, child_in, placed, same_node, same_keeps}
+use Rattle.h2_memory_sets.proofs.Lists.{names_below, below_names, filter_from, filter_keeps, put_there, Rising-within}
+use Rattle.h2_memory_sets.proofs.Settled.{Settled, fits_in, child_in, placed, same_node, same_keeps}
 
 -- Two forests of which the second has one node more, with what lay in the range of a split below node at.
 pub record DiffersByMake (f g : Forest) (at c : ℕ) (set : RefSet) (s : Split) (ref : Ref) : Type 0 where

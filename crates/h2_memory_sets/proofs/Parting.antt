@@ -1,26 +1,20 @@
 -- The nodes of a forest in memory once a node took over a part of another.
-use Rattle.std.proofs.Common.{◌≡◌, ℕ, ◌+◌, ◌-◌, ◌<◌, ◌≤◌, ◌^◌, Bool, true, false, ◌&&◌, arith, refl, cond, sym, ◌∙◌, ap, List, [], ◌∷◌, ◌++◌, length, Option, Some, None, subst, ◌⊎◌, inl, inr, slice_get, slice_set, suc, zero, nat_lt, nat_eq}
+use Rattle.std.proofs.Common.{◌≡◌, ℕ, ◌+◌, ◌<◌, ◌≤◌, Bool, true, false, ◌&&◌, arith, refl, cond, sym, ◌∙◌, ap, List, [], ◌∷◌, ◌++◌, length, Option, Some, None, subst, inl, inr, slice_get, slice_set, suc, zero, nat_lt, nat_eq}
 use Rattle.std.specs.Prelude.{not, map}
 use Rattle.std.specs.List.{position, position_or_len}
 use Rattle.std.proofs.Math.Numerals.{one-add}
 use Rattle.std.proofs.lemmas.Bool.{cases_lt}
 use Rattle.std.proofs.lemmas.Bool.Decides.{nat_tests}
-use Rattle.std.proofs.lemmas.Nat.{pow_pos}
-use Rattle.std.proofs.lemmas.Option.{none-some, slice_get_within, slice_get_past, slice_get-map}
-use Rattle.std.proofs.lemmas.List.{length-map, length-append}
+use Rattle.std.proofs.lemmas.Option.{none-some, slice_get_within, slice_get_past}
+use Rattle.std.proofs.lemmas.List.{length-map}
 use Rattle.std.proofs.Math.ListN.{length-set}
 use Rattle.h2_ref.specs.declared.reference.Ref.{Ref}
-use Rattle.h2_set.specs.declared.set.Split.{Split}
-use Rattle.h2_set.specs.Ranges.{holds, limit, put, is_indirect}
-use Rattle.h2_set.specs.RefSet.{RefSet, with_rest}
-use Rattle.h2_set.specs.Forest.{Forest, refs, Link, loaded, untold}
-use Rattle.h2_set.specs.LeafLaws.{outside_holds}
+use Rattle.h2_set.specs.Ranges.{holds}
+use Rattle.h2_set.specs.RefSet.{RefSet}
 use Rattle.h2_set.specs.ChangeLaws.{same_or_not}
 use Rattle.h2_memory_sets.specs.declared.node.Node.{Node}
-use Rattle.h2_memory_sets.specs.View.{stands_of, set_of, root_of, low_of, bits_of, leaf_bits_of, is_up, is_child, names, link_to, link_of, moved_up, moved, moved_all, with_set, new_node, parted, forest_with}
-use Rattle.h2_memory_sets.proofs.Settled.{Settled}
-use Rattle.h2_memory_sets.proofs.Making.{DiffersByMake}
-use Rattle.h2_memory_sets.proofs.Nodes.{position_same, first_same, get_set, get_set_other, settled_of}
+use Rattle.h2_memory_sets.specs.View.{is_up, moved_up, moved, moved_all, with_set, new_node, parted}
+use Rattle.h2_memory_sets.proofs.Nodes.{position_same, get_set, get_set_other}
 
 pub unlike : (a b : ℕ) → (a ≡ b → ⊥) → nat_eq a b ≡ false
 unlike a b ne = elim (cases_lt a b) as (λ _. nat_eq a b ≡ false) [

@@ -1,5 +1,5 @@
 -- A reference that is put in place of another.
-use Rattle.std.proofs.Common.{◌≡◌, ℕ, ◌+◌, ◌<◌, ◌≤◌, ◌^◌, Bool, true, false, arith, refl, cond, sym, ◌∙◌, ap, List, [], ◌∷◌, length, Option, Some, None, subst, ◌⊎◌, inl, inr, slice_get, suc, zero, nat_lt}
+use Rattle.std.proofs.Common.{◌≡◌, ℕ, ◌<◌, ◌≤◌, true, false, arith, refl, sym, ◌∙◌, ap, List, [], ◌∷◌, Some, subst, inl, inr, slice_get, suc, zero, nat_lt}
 use Rattle.std.specs.List.{remove}
 use Rattle.std.proofs.lemmas.Bool.{cases_lt}
 use Rattle.std.proofs.lemmas.Bool.Decides.{nat_tests}
@@ -7,7 +7,7 @@ use Rattle.std.proofs.lemmas.Nat.{pow_pos}
 use Rattle.std.proofs.lemmas.Option.{none-some}
 use Rattle.h2_ref.specs.declared.reference.Ref.{Ref}
 use Rattle.h2_set.specs.Ranges.{Rising, limit, holds, NoneHolds, put, Apart, IsApart}
-use Rattle.h2_set.specs.LeafLaws.{Rising-le, place_above, holds_inside, outside_holds}
+use Rattle.h2_set.specs.LeafLaws.{Rising-le, place_above, holds_inside}
 use Rattle.h2_set.specs.ChangeLaws.{put_below}
 
 lt_true : (a b : ℕ) → a < b → nat_lt a b ≡ true

@@ -1,9 +1,9 @@
 -- Nodes that stay where they are while something else of the forest changes.
-use Rattle.std.proofs.Common.{◌≡◌, ℕ, ◌+◌, ◌<◌, ◌≤◌, ◌^◌, ◌%◌, Bool, true, false, arith, refl, cond, sym, ◌∙◌, ap, List, [], ◌∷◌, length, Option, Some, None, subst, ◌⊎◌, inl, inr, slice_get, suc, zero}
+use Rattle.std.proofs.Common.{◌≡◌, ℕ, ◌+◌, ◌<◌, ◌≤◌, ◌^◌, true, false, arith, refl, sym, ◌∙◌, ap, length, Some, subst, slice_get}
 use Rattle.h2_ref.specs.declared.reference.Ref.{Ref}
-use Rattle.h2_set.specs.Ranges.{Rising, limit, is_indirect}
+use Rattle.h2_set.specs.Ranges.{Rising, is_indirect}
 use Rattle.h2_set.specs.RefSet.{RefSet, IsRefSet}
-use Rattle.h2_set.specs.Forest.{Forest, refs, Link, loaded, IsChild, IsSoundNode, IsSound, Fits, NamesBelow, Fixed, InPlace, Keeps, Same, Alike, Alters, ReadiesOnly, Walks}
+use Rattle.h2_set.specs.Forest.{Forest, refs, loaded, IsChild, IsSoundNode, IsSound, Fits, NamesBelow, Fixed, InPlace, Keeps, Same, Alike, Alters, ReadiesOnly, Walks}
 use Rattle.h2_set.specs.StayLaws.{Alike-refl, Fixed-refl}
 use Rattle.h2_set.specs.ChangeLaws.{Keeps-refl, Keeps-Stays}
 use Rattle.h2_set.specs.RenewLaws.{Keeps-Renews}

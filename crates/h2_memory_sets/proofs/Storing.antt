@@ -1,13 +1,13 @@
 -- Another set in one node.
-use Rattle.std.proofs.Common.{◌≡◌, ℕ, ◌+◌, ◌<◌, ◌≤◌, ◌^◌, Bool, true, false, arith, refl, cond, sym, ◌∙◌, ap, List, [], ◌∷◌, length, Option, Some, None, subst, ◌⊎◌, inl, inr, slice_get}
+use Rattle.std.proofs.Common.{◌≡◌, ℕ, Bool, true, false, refl, cond, sym, ◌∙◌, ap, Some, subst, inl, inr, slice_get}
 use Rattle.h2_ref.specs.declared.reference.Ref.{Ref}
-use Rattle.h2_set.specs.Ranges.{Rising, is_indirect}
-use Rattle.h2_set.specs.RefSet.{RefSet, IsRefSet}
-use Rattle.h2_set.specs.Forest.{Forest, refs, Link, loaded, untold, IsSound, IsSoundNode, IsChild, NamesBelow, Storable, Stores, GoesBelow, GoesWith, Same}
+use Rattle.h2_set.specs.Ranges.{is_indirect}
+use Rattle.h2_set.specs.RefSet.{RefSet}
+use Rattle.h2_set.specs.Forest.{Forest, refs, Link, loaded, untold, IsSound, IsSoundNode, NamesBelow, Storable, Stores}
 use Rattle.h2_set.specs.ChangeLaws.{same_or_not}
 use Rattle.h2_memory_sets.specs.View.{names}
 use Rattle.h2_memory_sets.proofs.Lists.{names_below, below_names}
-use Rattle.h2_memory_sets.proofs.Settled.{Settled, Contents, fits_in, child_in, placed, same_node, same_all}
+use Rattle.h2_memory_sets.proofs.Settled.{Settled, fits_in, child_in, placed, same_node, same_all}
 
 -- two forests that differ in the set of one node, and so in what is below keys that one names and the other doesn't
 pub record DiffersByStore (f g : Forest) (at : ℕ) (s : RefSet) : Type 0 where

@@ -1,10 +1,10 @@
 -- The forest that a vector of nodes is.
-use Rattle.std.specs.Prelude.{◌≡◌, ℕ, ◌+◌, ◌-◌, ◌^◌, ◌≤◌, ◌<◌, min, not, Bool, true, false, ◌&&◌, ◌||◌, ◌==◌, if◌then◌else◌, List, [], ◌∷◌, ◌++◌, length, Option, Some, None, slice_get, slice_set, map}
+use Rattle.std.specs.Prelude.{◌≡◌, ℕ, ◌≤◌, ◌<◌, not, Bool, true, false, ◌&&◌, ◌==◌, if◌then◌else◌, List, [], ◌∷◌, ◌++◌, length, Option, Some, None, slice_get, slice_set, map}
 use Rattle.std.specs.List.{position}
 use Rattle.h2_ref.specs.declared.reference.Ref.{Ref}
 use Rattle.h2_set.specs.Ranges.{limit, holds, is_indirect, IsAligned}
 use Rattle.h2_set.specs.RefSet.{RefSet, IsRefSet}
-use Rattle.h2_set.specs.Forest.{Link, loaded, told, untold, Forest}
+use Rattle.h2_set.specs.Forest.{Link, loaded, untold, Forest}
 use Rattle.h2_memory_sets.specs.declared.node.Node.{Node}
 use Rattle.h2_memory_sets.specs.declared.memory.MemorySets.{MemorySets}
 

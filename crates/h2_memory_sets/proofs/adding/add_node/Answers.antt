@@ -1,5 +1,4 @@
 use Rattle.std.proofs.Common.{List, [], ◌∷◌, ◌++◌, length, take, drop, slice_set, refl, ◌≡◌, ◌∙◌, sym, ap}
-use Rattle.h2_memory_sets.proofs.Differing.{differs_by_make}
 use Rattle.std.proofs.Math.Seq.{take-append_seam}
 use Rattle.std.proofs.lemmas.Option.{slice_get_read}
 use Rattle.h2_memory_sets.specs.declared.node.Node.{Node}

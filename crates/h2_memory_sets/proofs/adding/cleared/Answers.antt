@@ -1,6 +1,4 @@
-use Rattle.std.proofs.Common.{◌≡◌, Some, slice_get, List, subst, sym, ap, ◌∙◌}
-use Rattle.std.specs.List.{remove}
-use Rattle.h2_ref.specs.declared.reference.Ref.{Ref}
+use Rattle.std.proofs.Common.{subst, sym, ap, ◌∙◌}
 use Rattle.h2_set.specs.Ranges.{put, IsApart}
 use Rattle.h2_set.specs.RefSet.{RefSet}
 use Rattle.h2_memory_sets.proofs.Putting.{put_none, put_cut}

@@ -1,6 +1,5 @@
-use Rattle.std.proofs.Common.{◌≡◌, Some, slice_get, List, length, subst, sym, ap, ◌∙◌, arith}
+use Rattle.std.proofs.Common.{List, length, ap, arith}
 use Rattle.h2_ref.specs.declared.reference.Ref.{Ref}
-use Rattle.h2_set.specs.Ranges.{put}
 use Rattle.h2_set.specs.EditLaws.{length-put}
 use Rattle.h2_memory_sets.proofs.Putting.{put_limit}
 use Rattle.h2_memory_sets.proofs.adding.with_one.Goals as goal

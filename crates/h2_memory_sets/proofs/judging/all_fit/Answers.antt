@@ -1,8 +1,5 @@
-use Rattle.std.proofs.Common.{◌≡◌, ◌<◌, ◌≤◌, ◌+◌, ℕ, Some, slice_get, length, arith, refl, sym, ◌∙◌, ap, subst, inl, inr, ◌⊎◌, rules}
+use Rattle.std.proofs.Common.{arith}
 use Rattle.std.proofs.lemmas.Option.{slice_get_within}
-use Rattle.h2_ref.specs.declared.reference.Ref.{Ref}
-use Rattle.h2_set.specs.ChangeLaws.{same_or_not}
-use Rattle.h2_memory_sets.specs.View.{FitsBelow, AllFitBelow}
 use Rattle.h2_memory_sets.proofs.Fitting.{one_more}
 use Rattle.h2_memory_sets.proofs.judging.all_fit.Goals as goal
 

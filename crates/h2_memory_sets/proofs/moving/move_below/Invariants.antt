@@ -1,4 +1,4 @@
-use Rattle.std.proofs.Common.{◌≡◌, map, take, drop, ◌++◌, length, ℕ, ◌≤◌}
+use Rattle.std.proofs.Common.{◌≡◌, map, take, drop, ◌++◌}
 use Rattle.h2_memory_sets.specs.View.{moved}
 use Rattle.h2_memory_sets.proofs.moving.move_below.Given as goal
 

@@ -1,4 +1,4 @@
-use Rattle.std.proofs.Common.{◌≡◌, ◌<◌, ◌≤◌, ℕ, Some, None, slice_get, slice_set, refl, sym, ap, ◌∙◌, subst, arith, rules, length, Option, ◌^◌}
+use Rattle.std.proofs.Common.{◌≡◌, Some, None, slice_set, refl, sym, ap, ◌∙◌, subst, arith}
 use Rattle.std.specs.List.{position}
 use Rattle.std.proofs.lemmas.Option.{slice_get_read}
 use Rattle.h2_ref.specs.declared.reference.Ref.{Ref}

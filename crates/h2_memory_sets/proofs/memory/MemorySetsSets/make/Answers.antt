@@ -1,6 +1,4 @@
-use Rattle.std.proofs.Common.{◌≡◌, ◌<◌, ◌≤◌, ◌+◌, ◌-◌, ℕ, List, length, Some, slice_get, refl, sym, ap, ◌∙◌, subst, arith, rules}
-use Rattle.h2_memory_sets.proofs.Loading.{walks}
-use Rattle.h2_ref.specs.declared.reference.Ref.{Ref}
+use Rattle.std.proofs.Common.{◌≡◌, ◌≤◌, ◌+◌, ◌-◌, ℕ, List, length, sym, ap, ◌∙◌, subst, arith}
 use Rattle.h2_set.specs.Ranges.{Rising, put}
 use Rattle.h2_set.specs.RefSet.{RefSet, with_rest}
 use Rattle.h2_set.specs.Forest.{Makes}

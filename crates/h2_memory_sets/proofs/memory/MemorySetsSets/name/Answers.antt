@@ -1,4 +1,4 @@
-use Rattle.std.proofs.Common.{◌≡◌, ◌≤◌, arith}
+use Rattle.std.proofs.Common.{arith}
 use Rattle.h2_set.specs.StayLaws.{Walks-refl}
 use Rattle.h2_memory_sets.proofs.Nodes.{counts_walk_nodes}
 use Rattle.h2_memory_sets.proofs.memory.MemorySetsSets.name.Goals as goal

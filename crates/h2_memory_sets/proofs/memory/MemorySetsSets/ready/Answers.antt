@@ -1,4 +1,4 @@
-use Rattle.std.proofs.Common.{◌≡◌, refl, rules, arith, ◌<◌, ◌≤◌}
+use Rattle.std.proofs.Common.{arith}
 use Rattle.h2_memory_sets.proofs.Nodes.{readies_nodes}
 use Rattle.h2_memory_sets.proofs.memory.MemorySetsSets.ready.Goals as goal
 

@@ -1,4 +1,4 @@
-use Rattle.std.proofs.Common.{refl, rules, arith, slice_get, Some, ◌≡◌}
+use Rattle.std.proofs.Common.{refl}
 use Rattle.std.proofs.lemmas.Option.{slice_get_read}
 use Rattle.h2_memory_sets.proofs.Storing.{stores}
 use Rattle.h2_memory_sets.proofs.Nodes.{differs_by_store, is_there}
