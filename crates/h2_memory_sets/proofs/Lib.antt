@@ -1,0 +1,11 @@
+pub mod Lists
+pub mod Settled
+pub mod Storing
+pub mod Nodes
+pub mod Making
+pub mod Putting
+pub mod Parting
+pub mod Differing
+pub mod Loading
+pub mod Fitting
+pub mod Bringing

@@ -1,0 +1,195 @@
+-- A node that is loaded.
+use Rattle.std.proofs.Common.{◌≡◌, ℕ, ◌+◌, ◌≤◌, ◌^◌, true, false, arith, refl, sym, ◌∙◌, ap, List, [], ◌∷◌, Some, subst, ◌⊎◌, inl, inr, slice_get, suc}
+use Rattle.h2_ref.specs.declared.reference.Ref.{Ref}
+use Rattle.h2_set.specs.Ranges.{Rising, limit, is_indirect}
+use Rattle.h2_set.specs.RefSet.{RefSet, IsRefSet}
+use Rattle.h2_set.specs.Forest.{Forest, refs, loaded, told, untold, IsSound, IsSoundNode, IsChild, NamesBelow, Fits, Stays, Keeps, Walks, Loads, Below, Alike}
+use Rattle.h2_set.specs.ChangeLaws.{same_or_not, Keeps-Stays}
+use Rattle.h2_set.specs.LeafLaws.{place_above}
+use Rattle.h2_set.specs.SplitLaws.{below_high}
+use Rattle.h2_set.specs.StayLaws.{Alike-refl}
+use Rattle.h2_memory_sets.specs.View.{AllFitBelow}
+use Rattle.h2_memory_sets.proofs.Lists.{same_key}
+use Rattle.h2_memory_sets.proofs.Settled.{Settled, fits_in, child_in, placed, same_node, same_keeps}
+
+-- two forests of which the second has one node loaded that the first hasn't
+pub record DiffersByLoad (f g : Forest) (at c : ℕ) (r : Ref) : Type 0 where
+  pub settled : Settled f g
+  pub fresh : f.stands c ≡ false
+  pub new : g.stands c ≡ true
+  pub stands : (m : ℕ) → (m ≡ c → ⊥) → g.stands m ≡ true → f.stands m ≡ true
+  pub root : g.root c ≡ f.root at
+  pub low : g.low c ≡ r.key
+  pub bits : g.bits c ≡ r.keybits
+  pub set : IsRefSet (g.set c)
+  pub fits : AllFitBelow r (f.leaf_bits (f.root at)) (g.set c)
+  pub there : (m : ℕ) → f.stands m ≡ true → g.set m ≡ f.set m
+  pub link : (m k : ℕ) → f.stands m ≡ true → (m ≡ at → k ≡ r.key → ⊥) → g.link m k ≡ f.link m k
+  pub child : g.link at r.key ≡ loaded c
+  pub was : f.link at r.key ≡ untold
+  pub bare : (k d : ℕ) → g.link c k ≡ loaded d → ⊥
+  pub spare : g.spare ≡ f.spare
+  pub room : g.room ≡ f.room
+
+-- references between two keys, in order
+between_rest : (low high high' : ℕ) (rs : List Ref) → Rising low high rs → ((i : ℕ) (r : Ref) → slice_get rs i ≡ Some r → limit r ≤ high') → low ≤ high' → Rising low high' rs
+between_rest low high high' [] h all le = le
+between_rest low high high' (r ∷ rs) h all le = (h.0, between_rest (limit r) high high' rs h.1 (λ i q read. all (suc i) q read) (all 0 r refl))
+
+Rising-between : (low low' high high' : ℕ) (rs : List Ref) → Rising low high rs → ((i : ℕ) (r : Ref) → slice_get rs i ≡ Some r → low' ≤ r.key) → ((i : ℕ) (r : Ref) → slice_get rs i ≡ Some r → limit r ≤ high') → low' ≤ high' → Rising low' high' rs
+Rising-between low low' high high' [] h from to le = le
+Rising-between low low' high high' (r ∷ rs) h from to le = (from 0 r refl, between_rest (limit r) high high' rs h.1 (λ i q read. to (suc i) q read) (to 0 r refl))
+
+module _ (f g : Forest) (at c i : ℕ) (r : Ref) (d : DiffersByLoad f g at c r) (sound : IsSound f) (stands : f.stands at ≡ true) (read : slice_get (refs f at) i ≡ Some r) (ind : is_indirect r ≡ true) where
+  node : IsSoundNode f at
+  node = sound.node at stands
+
+  fits : Fits f at r
+  fits = node.fits i r read
+
+  starts : f.low at ≤ r.key
+  starts = place_above _ _ (refs f at) i r node.inside read
+
+  ends : limit r ≤ f.low at + 2 ^ f.bits at
+  ends = below_high _ _ (refs f at) i r node.inside read
+
+  refs_same : (m : ℕ) → f.stands m ≡ true → refs g m ≡ refs f m
+  refs_same m st = ap (λ (t : RefSet). t.refs) (d.there m st)
+
+  at_start : (e : ℕ) → g.link at r.key ≡ loaded e → c ≡ e
+  at_start e l = let it : loaded c ≡ loaded e = sym d.child ∙ l in cc
+
+  fresh_child : IsChild g at r.key c
+  fresh_child =
+      let p = d.settled.place at stands in
+      record {
+        stands = d.new;
+        root = d.root ∙ sym p.root;
+        low = d.low;
+        above = rw (p.low, d.low) starts;
+        within = rw (p.low, d.low, p.bits, d.bits) ends;
+        fewer = rw (p.bits, d.bits) (fits.falls ind);
+        copies = rw (d.settled.copies c, d.settled.copies at, d.settled.writable c, d.settled.uncopied c, d.settled.uncopied at, d.settled.all_writable c) refl;
+      }
+
+  here_child : (k e : ℕ) → g.link at k ≡ loaded e → IsChild g at k e
+  here_child k e l = elim (same_or_not k r.key) as (λ _. IsChild g at k e) [
+    | inr ne ↦ child_in f g d.settled at k e stands (node.child k e (sym (d.link at k stands (λ _ q. ne q)) ∙ l))
+    | inl same ↦
+        let it : c ≡ e = at_start e (ap (g.link at) (sym same) ∙ l) in
+        subst (λ z. IsChild g at z e) (sym same) (subst (IsChild g at r.key) it fresh_child)
+  ]
+
+  here_named : (k e : ℕ) → g.link at k ≡ loaded e → NamesBelow (refs f at) k
+  here_named k e l = elim (same_or_not k r.key) as (λ _. NamesBelow (refs f at) k) [
+    | inr ne ↦ node.named k e (sym (d.link at k stands (λ _ q. ne q)) ∙ l)
+    | inl same ↦ record { place = i; ref = r; read = read; indirect = ind; key = sym same }
+  ]
+
+  here_bits : (j e : ℕ) (q : Ref) → slice_get (refs f at) j ≡ Some q → is_indirect q ≡ true → g.link at q.key ≡ loaded e → g.bits e ≡ q.keybits
+  here_bits j e q got q_ind l = elim (same_or_not q.key r.key) as (λ _. g.bits e ≡ q.keybits) [
+    | inr ne ↦
+        let l' : f.link at q.key ≡ loaded e = sym (d.link at q.key stands (λ _ k. ne k)) ∙ l in
+        let kid = node.child q.key e l' in
+        (d.settled.place e kid.stands).bits ∙ node.bits j e q got q_ind l'
+    | inl same ↦
+        let it : c ≡ e = at_start e (ap (g.link at) (sym same) ∙ l) in
+        let one : q ≡ r = same_key _ _ (refs f at) j i q r node.inside got read same in
+        ap g.bits (sym it) ∙ d.bits ∙ ap (λ (z : Ref). z.keybits) (sym one)
+  ]
+
+  here_node : IsSoundNode g at
+  here_node =
+      let p = d.settled.place at stands in
+      let same = refs_same at stands in
+      placed f g d.settled at stands node (record {
+        set = rw (d.there at stands) node.set;
+        inside = rw (same, p.low, p.bits) node.inside;
+        fits = λ j q got. fits_in f g d.settled at q stands (node.fits j q (rw same at got));
+        some = λ top. rw same (node.some (λ e. top (p.root ∙ e)));
+        child = here_child;
+        named = λ k e l. rw same (here_named k e l);
+        bits = λ j e q got q_ind l. here_bits j e q (rw same at got) q_ind l;
+      })
+
+  new_fits : (j : ℕ) (q : Ref) → slice_get (refs g c) j ≡ Some q → Fits g c q
+  new_fits j q got =
+      let h = d.fits.each j q got in
+      let grain : g.leaf_bits (g.root c) ≡ f.leaf_bits (f.root at) = ap g.leaf_bits d.root ∙ d.settled.fixed.leaf_bits (f.root at) in
+      record {
+        aligned = h.aligned;
+        leaf = λ k. h.leaf k ∙ sym grain;
+        allowed = λ k. d.settled.fixed.allows (g.root c) q ∙ d.settled.all_allowed (g.root c) q;
+        wide = λ k. rw grain (h.wide k);
+        some_bits = h.some_bits;
+        falls = λ k. rw d.bits h.fewer;
+      }
+
+  new_node : IsSoundNode g c
+  new_node =
+      let fewer = fits.falls ind in
+      let slope = node.slope in
+      let top = node.ends in
+      let start = starts in
+      let stop = ends in
+      record {
+        set = d.set;
+        inside = rw (d.low, d.bits) (Rising-between 0 r.key (2 ^ 64) (limit r) (refs g c) d.set.rising (λ j q got. (d.fits.each j q got).low) (λ j q got. (d.fits.each j q got).high) (omega arith));
+        aligned = rw (d.low, d.bits) fits.aligned;
+        ends = rw (d.low, d.bits) (omega (arith, top, stop));
+        class = rw (d.low, d.bits) (elim node.class as (λ _. (r.key + 2 ^ r.keybits ≤ 2 ^ 62) ⊎ (2 ^ 63 ≤ r.key)) [
+          | inl small ↦ inl (omega (arith, small, stop))
+          | inr large ↦ inr (omega (arith, large, start))
+        ]);
+        fits = new_fits;
+        some = λ _. d.fits.some;
+        child = λ k e l. absurd (d.bare k e l);
+        named = λ k e l. absurd (d.bare k e l);
+        bits = λ j e q got q_ind l. absurd (d.bare q.key e l);
+        top = λ _. d.settled.copies c ∙ d.settled.uncopied c;
+        slope = rw (d.settled.copies c, d.settled.uncopied c, d.bits) (omega (arith, fewer, slope));
+      }
+
+  pub keeps : (m : ℕ) → f.stands m ≡ true → (m ≡ at → ⊥) → Keeps f g m
+  keeps m st ne = same_keeps f g d.settled m st (d.there m st) (λ k. d.link m k st (λ e _. ne e))
+
+  here_stays : Stays f g at
+  here_stays = record {
+    place = d.settled.place at stands;
+    alike = subst (λ (t : RefSet). Alike (refs f at) t.refs) (sym (d.there at stands)) (Alike-refl (refs f at));
+    near = λ k e l. elim (same_or_not k r.key) as (λ _. g.link at k ≡ loaded e) [
+      | inr ne ↦ d.link at k stands (λ _ q. ne q) ∙ l
+      | inl same ↦ let clash : untold ≡ loaded e = sym d.was ∙ ap (f.link at) (sym same) ∙ l in absurd (cc)
+    ];
+    far = λ k ls l. elim (same_or_not k r.key) as (λ _. Below g at k ls) [
+      | inr ne ↦ inl (d.link at k stands (λ _ q. ne q) ∙ l)
+      | inl same ↦ let clash : untold ≡ told ls = sym d.was ∙ ap (f.link at) (sym same) ∙ l in absurd (cc)
+    ];
+  }
+
+  pub loads : Loads f g at r.key
+  loads = record { keeps = keeps; link = λ j ne. d.link at j stands (λ _ q. ne q) }
+
+  pub walks : Walks f g
+  walks = record {
+    sound = record {
+      node = λ m st. elim (same_or_not m c) as (λ _. IsSoundNode g m) [
+        | inl e ↦ subst (IsSoundNode g) (sym e) new_node
+        | inr ne ↦ elim (same_or_not m at) as (λ _. IsSoundNode g m) [
+          | inl e ↦ subst (IsSoundNode g) (sym e) here_node
+          | inr off ↦ let old = d.stands m ne st in same_node f g d.settled m old (sound.node m old) (d.there m old) (λ k. d.link m k old (λ e _. off e))
+        ]
+      ];
+      held = λ m held. let miss : g.held m ≡ false = d.settled.fixed.held m ∙ d.settled.none_held m in let clash : true ≡ false = sym held ∙ miss in absurd (cc);
+    };
+    fixed = d.settled.fixed;
+    stays = λ m st. elim (same_or_not m at) as (λ _. Stays f g m) [
+      | inl e ↦ subst (Stays f g) (sym e) here_stays
+      | inr off ↦ Keeps-Stays f g m (keeps m st off)
+    ];
+    sets = λ m st. d.there m st;
+    writable = λ m st. d.settled.writable m;
+    copies = λ m st. d.settled.copies m;
+    spare = (let e = d.spare in omega (arith, e));
+    room = d.room;
+  }

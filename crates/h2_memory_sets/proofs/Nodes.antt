@@ -1,0 +1,115 @@
+-- Lists of nodes in which some have changed.
+use Rattle.std.proofs.Common.{◌≡◌, ℕ, ◌+◌, ◌<◌, ◌≤◌, Bool, true, arith, refl, cond, sym, ◌∙◌, ap, List, [], ◌∷◌, ◌++◌, length, Option, Some, subst, inl, inr, slice_get, slice_set, suc, zero}
+use Rattle.std.specs.Prelude.{not}
+use Rattle.std.specs.List.{position, position_or_len}
+use Rattle.std.proofs.lemmas.Option.{slice_get_within}
+use Rattle.std.proofs.Math.ListN.{length-set}
+use Rattle.h2_ref.specs.declared.reference.Ref.{Ref}
+use Rattle.h2_set.specs.RefSet.{RefSet}
+use Rattle.h2_set.specs.Forest.{IsSound, ReadiesOnly, Walks}
+use Rattle.h2_set.specs.ChangeLaws.{same_or_not}
+use Rattle.h2_memory_sets.specs.declared.node.Node.{Node}
+use Rattle.h2_memory_sets.specs.View.{stands_of, set_of, root_of, low_of, bits_of, leaf_bits_of, is_child, link_to, link_of, with_set, new_node, moved_all, parted, forest_with}
+use Rattle.h2_memory_sets.proofs.Settled.{Settled, readies, counts_walk}
+use Rattle.h2_memory_sets.proofs.Storing.{DiffersByStore}
+
+-- a test that passes at the same places of two lists
+pub first_same : {X : Type 0} (p q : X → Bool) (xs ys : List X) → length xs ≡ length ys → ((i : ℕ) (x y : X) → slice_get xs i ≡ Some x → slice_get ys i ≡ Some y → p x ≡ q y) → position_or_len p xs ≡ position_or_len q ys
+first_same p q [] [] len same = refl
+first_same p q [] (y ∷ ys) len same = absurd (omega (arith, len))
+first_same p q (x ∷ xs) [] len same = absurd (omega (arith, len))
+first_same p q (x ∷ xs) (y ∷ ys) len same = rw (same 0 x y refl refl) (ap (λ n. cond (not (q y)) (1 + n) 0) (first_same p q xs ys (omega (arith, len)) (λ i a b ra rb. same (suc i) a b ra rb)))
+
+pub position_same : {X : Type 0} (p q : X → Bool) (xs ys : List X) → length xs ≡ length ys → ((i : ℕ) (x y : X) → slice_get xs i ≡ Some x → slice_get ys i ≡ Some y → p x ≡ q y) → position p xs ≡ position q ys
+position_same p q xs ys len same = rw (first_same p q xs ys len same, len) refl
+
+pub get_set : {X : Type 0} (xs : List X) (at : ℕ) (y : X) → at < length xs → slice_get (slice_set xs at y) at ≡ Some y
+get_set [] at y lt = absurd (omega (arith, lt))
+get_set (z ∷ zs) zero y lt = refl
+get_set (z ∷ zs) (suc at) y lt = get_set zs at y (omega arith)
+
+pub get_set_other : {X : Type 0} (xs : List X) (at m : ℕ) (y : X) → (m ≡ at → ⊥) → slice_get (slice_set xs at y) m ≡ slice_get xs m
+get_set_other [] at m y ne = refl
+get_set_other (z ∷ zs) zero zero y ne = absurd (ne refl)
+get_set_other (z ∷ zs) zero (suc m) y ne = refl
+get_set_other (z ∷ zs) (suc at) zero y ne = refl
+get_set_other (z ∷ zs) (suc at) (suc m) y ne = get_set_other zs at m y (λ e. ne (ap suc e))
+
+-- what reads the same of one node reads the same of all
+pub field_stays : {X Y : Type 0} (F : Option Y → X) (xs : List Y) (at : ℕ) (x y : Y) → slice_get xs at ≡ Some x → F (Some y) ≡ F (Some x) → (m : ℕ) → F (slice_get (slice_set xs at y) m) ≡ F (slice_get xs m)
+field_stays F xs at x y read same m = elim (same_or_not m at) as (λ _. F (slice_get (slice_set xs at y) m) ≡ F (slice_get xs m)) [
+  | inl e ↦ subst (λ z. F (slice_get (slice_set xs at y) z) ≡ F (slice_get xs z)) (sym e) (ap F (get_set xs at y (slice_get_within xs at x read)) ∙ same ∙ ap F (sym read))
+  | inr ne ↦ ap F (get_set_other xs at m y ne)
+]
+
+-- a node that stands is there
+pub is_there : (xs : List Node) (at : ℕ) → stands_of (slice_get xs at) ≡ true → at < length xs
+is_there [] at h = absurd (cc)
+is_there (x ∷ xs) zero h = omega arith
+is_there (x ∷ xs) (suc at) h = let it = is_there xs at h in omega arith
+
+-- what every change of a forest in memory leaves as it is
+pub settled_of : (xs ys : List Node) (spare spare' epoch room room' failed failed' bad bad' : ℕ) → ((m : ℕ) → leaf_bits_of (slice_get ys m) ≡ leaf_bits_of (slice_get xs m)) → failed ≤ failed' → bad ≤ bad' → ((m : ℕ) → stands_of (slice_get xs m) ≡ true → (stands_of (slice_get ys m) ≡ true) × (root_of (slice_get ys m) ≡ root_of (slice_get xs m)) × (low_of (slice_get ys m) ≡ low_of (slice_get xs m)) × (bits_of (slice_get ys m) ≡ bits_of (slice_get xs m))) → Settled (forest_with xs spare epoch room failed bad) (forest_with ys spare' epoch room' failed' bad')
+settled_of xs ys spare spare' epoch room room' failed failed' bad bad' leaf more_failed more_bad place = record {
+  fixed = record { leaf_bits = leaf; allows = λ m r. refl; held = λ m. refl; name = λ r. refl; epoch = refl; failed = more_failed; bad = more_bad };
+  place = λ m st. let it = place m st in record { stands = it.0; root = it.1; low = it.2; bits = it.3; belongs = λ t k. refl; writable = λ e. refl };
+  copies = λ m. refl;
+  writable = λ m. refl;
+  uncopied = λ m. refl;
+  all_writable = λ m. refl;
+  all_allowed = λ m r. refl;
+  none_held = λ m. refl;
+}
+
+-- where the nodes are the same and there are more spare ones
+pub readies_nodes : (xs ys : List Node) (spare more epoch room failed bad : ℕ) → ys ≡ xs → spare ≤ more → IsSound (forest_with xs spare epoch room failed bad) → ReadiesOnly (forest_with xs spare epoch room failed bad) (forest_with ys more epoch room failed bad)
+readies_nodes xs ys spare more epoch room failed bad items le sound =
+    let field : (X : Type 0) (F : Option Node → X) (m : ℕ) → F (slice_get ys m) ≡ F (slice_get xs m) = λ X F m. ap (λ (l : List Node). F (slice_get l m)) items in
+    readies _ _ (settled_of xs ys spare more epoch room room failed failed bad bad (field _ leaf_bits_of) (omega arith) (omega arith) (λ m st. (field _ stands_of m ∙ st, field _ root_of m, field _ low_of m, field _ bits_of m))) (field _ stands_of) (field _ set_of) (λ m k. ap (λ (l : List Node). link_of l m k) items) le refl refl refl sound
+
+-- where the set of one node is another
+pub differs_by_store : (xs : List Node) (spare epoch room failed bad : ℕ) (at : ℕ) (x : Node) (s : RefSet) → slice_get xs at ≡ Some x → DiffersByStore (forest_with xs spare epoch room failed bad) (forest_with (slice_set xs at (with_set x s)) spare epoch room failed bad) at s
+differs_by_store xs spare epoch room failed bad at x s read =
+    let y = with_set x s in
+    let ys = slice_set xs at y in
+    let field : (X : Type 0) (F : Option Node → X) → F (Some y) ≡ F (Some x) → (m : ℕ) → F (slice_get ys m) ≡ F (slice_get xs m) = λ X F same. field_stays F xs at x y read same in
+    let here : set_of (slice_get ys at) ≡ s = ap set_of (get_set xs at y (slice_get_within xs at x read)) in
+    let there : (m : ℕ) → (m ≡ at → ⊥) → set_of (slice_get ys m) ≡ set_of (slice_get xs m) = λ m ne. ap set_of (get_set_other xs at m y ne) in
+    let first : (m k : ℕ) → position (is_child m k) ys ≡ position (is_child m k) xs = λ m k. sym (position_same (is_child m k) (is_child m k) xs ys (sym (length-set xs at y)) (same_children xs at x y read m k refl refl refl)) in
+    record {
+      settled = settled_of xs ys spare spare epoch room room failed failed bad bad (field _ leaf_bits_of refl) (omega arith) (omega arith) (λ m st. (field _ stands_of refl m ∙ st, field _ root_of refl m, field _ low_of refl m, field _ bits_of refl m));
+      stands = field _ stands_of refl;
+      here = here;
+      there = there;
+      link = λ m k ne. rw (there m ne, first m k) refl;
+      below = λ k. link_to (position (is_child at k) xs);
+      before = λ k. refl;
+      after = λ k. rw (here, first at k) refl;
+      spare = refl;
+      room = refl;
+      failed = refl;
+      bad = refl;
+    }
+  where
+    same_children : (xs : List Node) (at : ℕ) (x y : Node) → slice_get xs at ≡ Some x → (m k : ℕ) → y.loaded ≡ x.loaded → y.up ≡ x.up → y.low ≡ x.low → (i : ℕ) (a b : Node) → slice_get xs i ≡ Some a → slice_get (slice_set xs at y) i ≡ Some b → is_child m k a ≡ is_child m k b
+    same_children xs at x y read m k l u w i a b ra rb = elim (same_or_not i at) as (λ _. is_child m k a ≡ is_child m k b) [
+      | inl e ↦
+          let a_is : x ≡ a = some_one x a (sym read ∙ subst (λ z. slice_get xs z ≡ Some a) e ra) in
+          let b_is : y ≡ b = some_one y b (sym (get_set xs at y (slice_get_within xs at x read)) ∙ subst (λ z. slice_get (slice_set xs at y) z ≡ Some b) e rb) in
+          rw (← a_is, ← b_is, l, u, w) refl
+      | inr ne ↦ let b_is : a ≡ b = some_one a b (sym ra ∙ sym (get_set_other xs at i y ne) ∙ rb) in ap (is_child m k) b_is
+    ]
+      where
+        some_one : {X : Type 0} (a b : X) → Some a ≡ Some b → a ≡ b
+        some_one a b e = cc
+
+-- the nodes that a change of the set, a move of what is below, and one more node make
+pub parted_is : (xs zs items : List Node) (at n : ℕ) (x a b : Node) (kept part : RefSet) (r : Ref) → n ≡ length xs → slice_get xs at ≡ Some x → slice_get xs at ≡ Some a → slice_get xs at ≡ Some b → zs ≡ moved_all at n r (slice_set xs at (with_set b kept)) → items ≡ zs ++ new_node at a part r ∷ [] → items ≡ parted xs at x kept part r
+parted_is xs zs items at n x a b kept part r n_is at_x at_a at_b zs_is items_is =
+    let a_is : a ≡ x = (cc) in
+    let b_is : b ≡ x = (cc) in
+    items_is ∙ ap (λ (l : List Node). l ++ new_node at a part r ∷ []) zs_is ∙ ap (λ (y : Node). moved_all at n r (slice_set xs at (with_set b kept)) ++ new_node at y part r ∷ []) a_is ∙ ap (λ (y : Node). moved_all at n r (slice_set xs at (with_set y kept)) ++ new_node at x part r ∷ []) b_is ∙ ap (λ k. moved_all at k r (slice_set xs at (with_set x kept)) ++ new_node at x part r ∷ []) n_is
+
+-- where faults or bad blocks were met, and nothing else
+pub counts_walk_nodes : (xs : List Node) (spare epoch room failed failed' bad bad' : ℕ) → failed ≤ failed' → bad ≤ bad' → IsSound (forest_with xs spare epoch room failed bad) → Walks (forest_with xs spare epoch room failed bad) (forest_with xs spare epoch room failed' bad')
+counts_walk_nodes xs spare epoch room failed failed' bad bad' more_failed more_bad sound = counts_walk _ _ (settled_of xs xs spare spare epoch room room failed failed' bad bad' (λ m. refl) more_failed more_bad (λ m st. (st, refl, refl, refl))) (λ m. refl) (λ m. refl) (λ m k. refl) refl refl sound

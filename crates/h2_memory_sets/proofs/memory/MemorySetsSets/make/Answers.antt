@@ -1,0 +1,49 @@
+use Rattle.std.proofs.Common.{◌≡◌, ◌≤◌, ◌+◌, ◌-◌, ℕ, List, length, sym, ap, ◌∙◌, subst, arith}
+use Rattle.h2_set.specs.Ranges.{Rising, put}
+use Rattle.h2_set.specs.RefSet.{RefSet, with_rest}
+use Rattle.h2_set.specs.Forest.{Makes}
+use Rattle.h2_memory_sets.specs.declared.node.Node.{Node}
+use Rattle.h2_memory_sets.specs.View.{forest_with, parted}
+use Rattle.h2_memory_sets.proofs.Making.{kept_set, whole_set, makes}
+use Rattle.h2_memory_sets.proofs.Nodes.{is_there}
+use Rattle.h2_memory_sets.proofs.Parting.{item_at}
+use Rattle.h2_memory_sets.proofs.Differing.{differs_by_make}
+use Rattle.h2_memory_sets.proofs.memory.MemorySetsSets.make.Goals as goal
+
+pub with_left-requires-clause-rising : goal.with_left-requires-clause-rising
+with_left-requires-clause-rising c = let n = c.new_reference-r.ensures in (kept_set _ _ _ _ c.new_reference-r.result _ c.requires.sound c.requires.stands c.requires.split.1 n.indirect n.key n.keybits).rising
+
+pub with_left-requires-clause-fits : goal.with_left-requires-clause-fits
+with_left-requires-clause-fits c = let n = c.new_reference-r.ensures in (kept_set _ _ _ _ c.new_reference-r.result _ c.requires.sound c.requires.stands c.requires.split.1 n.indirect n.key n.keybits).fits
+
+pub with_one-kept-requires-clause-rising : goal.with_one-kept-requires-clause-rising
+with_one-kept-requires-clause-rising c =
+    let n = c.new_reference-r.ensures in
+    let whole = whole_set _ _ _ _ c.new_reference-r.result _ c.requires.sound c.requires.stands c.requires.split.1 n.indirect n.key n.keybits in
+    subst (λ (s : RefSet). Rising 0 18446744073709551616 (put c.new_reference-r.result s.refs)) (sym c.with_left.ensures) whole.rising
+
+pub with_one-kept-requires-clause-fits : goal.with_one-kept-requires-clause-fits
+with_one-kept-requires-clause-fits c =
+    let n = c.new_reference-r.ensures in
+    let whole = whole_set _ _ _ _ c.new_reference-r.result _ c.requires.sound c.requires.stands c.requires.split.1 n.indirect n.key n.keybits in
+    subst (λ (s : RefSet). length (put c.new_reference-r.result s.refs) ≤ s.capacity) (sym c.with_left.ensures) whole.fits
+
+pub add_node-requires-clause-there : goal.add_node-requires-clause-there
+add_node-requires-clause-there c = is_there _ _ c.requires.stands
+
+pub returns-clause-makes : goal.returns-clause-makes
+returns-clause-makes c =
+    let p = c.args.self.now in
+    let xs = p.nodes.items in
+    let r = c.new_reference-r.result in
+    let n = c.new_reference-r.ensures in
+    let it = item_at xs c.args.at.0 (is_there _ _ c.requires.stands) in
+    let whole : RefSet = record { refs = put r (with_rest c.args.split.rest c.args.set.refs); capacity = c.args.set.capacity } in
+    let kept_is : c.with_one-kept.result ≡ whole = c.with_one-kept.ensures ∙ ap (λ (s : RefSet). record { refs = put r s.refs; capacity = s.capacity }) c.with_left.ensures in
+    let items : c.add_node.new.nodes.items ≡ parted xs c.args.at.0 it.0 whole c.args.split.moved r = c.add_node.ensures.parted it.0 it.1 ∙ ap (λ (s : RefSet). parted xs c.args.at.0 it.0 s c.args.split.moved r) kept_is in
+    let spare : p.spare - 1 + 1 ≡ p.spare = (let one = c.requires.space.0 in omega (arith, one)) in
+    let room : p.room - 1 + 1 ≡ p.room = (let one = c.requires.space.1 in omega (arith, one)) in
+    let d = differs_by_make xs c.args.at.0 it.0 c.args.set c.args.split r it.1 n.key n.keybits p.spare (p.spare - 1) p.epoch p.room (p.room - 1) p.failed p.bad spare room in
+    let made = makes _ _ _ _ r _ c.requires.sound c.requires.stands c.requires.split.1 n.indirect n.key n.keybits _ _ d in
+    let place : length xs ≡ c.len-c.result = sym (c.len-c.ensures ∙ p.nodes.ok.0) in
+    subst (λ (ys : List Node). Makes (forest_with xs p.spare p.epoch p.room p.failed p.bad) (forest_with ys (p.spare - 1) p.epoch (p.room - 1) p.failed p.bad) c.args.at.0 c.len-c.result c.args.set c.args.split) (sym items) (subst (λ (k : ℕ). Makes (forest_with xs p.spare p.epoch p.room p.failed p.bad) (forest_with (parted xs c.args.at.0 it.0 whole c.args.split.moved r) (p.spare - 1) p.epoch (p.room - 1) p.failed p.bad) c.args.at.0 k c.args.set c.args.split) place made)

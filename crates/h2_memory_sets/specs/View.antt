@@ -1,0 +1,144 @@
+-- The forest that a vector of nodes is.
+use Rattle.std.specs.Prelude.{◌≡◌, ℕ, ◌≤◌, ◌<◌, not, Bool, true, false, ◌&&◌, ◌==◌, if◌then◌else◌, List, [], ◌∷◌, ◌++◌, length, Option, Some, None, slice_get, slice_set, map}
+use Rattle.std.specs.List.{position}
+use Rattle.h2_ref.specs.declared.reference.Ref.{Ref}
+use Rattle.h2_set.specs.Ranges.{limit, holds, is_indirect, IsAligned}
+use Rattle.h2_set.specs.RefSet.{RefSet, IsRefSet}
+use Rattle.h2_set.specs.Forest.{Link, loaded, untold, Forest}
+use Rattle.h2_memory_sets.specs.declared.node.Node.{Node}
+use Rattle.h2_memory_sets.specs.declared.memory.MemorySets.{MemorySets}
+
+-- the fields of a node, or what stands for them where there is none
+abbrev pub stands_of : Option Node → Bool
+stands_of None = false
+stands_of (Some x) = x.loaded
+
+abbrev pub set_of : Option Node → RefSet
+set_of None = record { refs = []; capacity = 4 }
+set_of (Some x) = x.set
+
+abbrev pub root_of : Option Node → ℕ
+root_of None = 0
+root_of (Some x) = x.root
+
+abbrev pub low_of : Option Node → ℕ
+low_of None = 0
+low_of (Some x) = x.low
+
+abbrev pub bits_of : Option Node → ℕ
+bits_of None = 0
+bits_of (Some x) = x.bits
+
+abbrev pub leaf_bits_of : Option Node → ℕ
+leaf_bits_of None = 0
+leaf_bits_of (Some x) = x.leaf_bits
+
+-- whether the node above is m
+abbrev pub is_up : ℕ → Option ℕ → Bool
+is_up m None = false
+is_up m (Some u) = u == m
+
+-- whether a node is loaded and right below node m
+abbrev pub is_below : ℕ → Node → Bool
+is_below m x = x.loaded && is_up m x.up
+
+-- whether a node is loaded, right below node m and at key k
+abbrev pub is_child : ℕ → ℕ → Node → Bool
+is_child m k x = x.loaded && (is_up m x.up && x.low == k)
+
+-- whether a node isn't loaded, right below node m and at key k
+abbrev pub is_away : ℕ → ℕ → Node → Bool
+is_away m k x = not x.loaded && (is_up m x.up && x.low == k)
+
+-- whether an indirect reference has the key
+abbrev pub names : List Ref → ℕ → Bool
+names [] k = false
+names (r ∷ rs) k = if is_indirect r && r.key == k then true else names rs k
+
+abbrev pub link_to : Option ℕ → Link
+link_to None = untold
+link_to (Some c) = loaded c
+
+-- what is below node m at key k
+abbrev pub link_of : List Node → ℕ → ℕ → Link
+link_of xs m k = let s = set_of (slice_get xs m) in if names s.refs k then link_to (position (is_child m k) xs) else untold
+
+-- the forest of these nodes, with these numbers
+abbrev pub forest_with : List Node → ℕ → ℕ → ℕ → ℕ → ℕ → Forest
+forest_with xs spare epoch room failed bad = record {
+  stands = λ m. stands_of (slice_get xs m);
+  set = λ m. set_of (slice_get xs m);
+  link = λ m k. link_of xs m k;
+  root = λ m. root_of (slice_get xs m);
+  low = λ m. low_of (slice_get xs m);
+  bits = λ m. bits_of (slice_get xs m);
+  leaf_bits = λ m. leaf_bits_of (slice_get xs m);
+  allows = λ m r. true;
+  belongs = λ m top k. false;
+  held = λ m. false;
+  copies = λ m. 0;
+  writable = λ m. true;
+  name = λ r. None;
+  epoch = epoch;
+  spare = spare;
+  room = room;
+  failed = failed;
+  bad = bad;
+}
+
+-- the forest that the value is seen as
+abbrev pub forest_of : MemorySets → Forest
+forest_of p = forest_with p.nodes.items p.spare p.epoch p.room p.failed p.bad
+
+-- what is above a node at key low, once node c has what lay in the range of r below node at
+abbrev pub moved_up : ℕ → ℕ → Ref → ℕ → Option ℕ → Option ℕ
+moved_up at c r low None = None
+moved_up at c r low (Some u) = if u == c then None else (if u == at then (if holds low r then Some c else Some u) else Some u)
+
+-- a node, once node c has what lay in the range of r below node at
+abbrev pub moved : ℕ → ℕ → Ref → Node → Node
+moved at c r x = record { set = x.set; loaded = x.loaded; up = moved_up at c r x.low x.up; root = x.root; low = x.low; bits = x.bits; leaf_bits = x.leaf_bits }
+
+abbrev pub moved_all : ℕ → ℕ → Ref → List Node → List Node
+moved_all at c r xs = map (moved at c r) xs
+
+-- a node with another set
+abbrev pub with_set : Node → RefSet → Node
+with_set x s = record { set = s; loaded = x.loaded; up = x.up; root = x.root; low = x.low; bits = x.bits; leaf_bits = x.leaf_bits }
+
+-- a new node right below node at, to which r leads
+abbrev pub new_node : ℕ → Node → RefSet → Ref → Node
+new_node at x part r = record { set = part; loaded = true; up = Some at; root = x.root; low = r.key; bits = r.keybits; leaf_bits = 0 }
+
+-- nodes of which x, at place at, has the set kept, and a new one the set part with what lay in the range of r
+abbrev pub parted : List Node → ℕ → Node → RefSet → RefSet → Ref → List Node
+parted xs at x kept part r = moved_all at (length xs) r (slice_set xs at (with_set x kept)) ++ new_node at x part r ∷ []
+
+-- a reference that may stand in the node that top names, in a tree with leaves of these keybits
+pub record FitsBelow (top : Ref) (leaf_bits : ℕ) (r : Ref) : Type 0 where
+  pub low : top.key ≤ r.key
+  pub high : limit r ≤ limit top
+  pub aligned : IsAligned r
+  pub fewer : r.keybits < top.keybits
+  pub leaf : is_indirect r ≡ false → r.keybits ≡ leaf_bits
+  pub wide : is_indirect r ≡ true → leaf_bits ≤ r.keybits
+  pub some_bits : is_indirect r ≡ true → 0 < r.keybits
+
+-- a set that may be that of the node that top names
+pub record AllFitBelow (top : Ref) (leaf_bits : ℕ) (s : RefSet) : Type 0 where
+  pub set : IsRefSet s
+  pub some : 0 < length s.refs
+  pub each : (i : ℕ) (r : Ref) → slice_get s.refs i ≡ Some r → FitsBelow top leaf_bits r
+
+-- node c isn't loaded, a reference r in the set of node at leads to it, it may be a node of its tree, and nothing
+-- below it is loaded
+pub record IsLoadable (xs : List Node) (at : ℕ) (r : Ref) (c : ℕ) : Type 0 where
+  pub node : Node
+  pub read : slice_get xs c ≡ Some node
+  pub away : is_away at r.key node ≡ true
+  pub fits : AllFitBelow r (leaf_bits_of (slice_get xs (root_of (slice_get xs at)))) node.set
+  pub bare : position (is_below c) xs ≡ None
+
+-- a node that was loaded, below one with this root and by a reference with these keybits
+abbrev pub brought : ℕ → ℕ → Node → Node
+brought root bits x = record { set = x.set; loaded = true; up = x.up; root = root; low = x.low; bits = bits; leaf_bits = x.leaf_bits }

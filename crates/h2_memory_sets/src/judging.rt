@@ -1,0 +1,129 @@
+ghost use Rattle.std.specs.Prelude.{◌≡◌, ◌<◌, ◌≤◌, ◌^◌, true, false, IsTrue, IfSome, length, slice_get};
+ghost use Rattle.h2_set.specs.Ranges.{limit, is_indirect, IsAligned};
+ghost use Rattle.h2_memory_sets.specs.View.{leaf_bits_of, brought, FitsBelow, AllFitBelow, IsLoadable};
+
+use crate::node::Node;
+use crate::searching::{find_away, find_below};
+use h2_ref::Ref;
+use h2_set::{Set, is_indirect};
+
+// How many keys a range has.
+fn range_length(keybits: u8) -> u64
+    requires { keybits < 64 }
+    ensures { result ≡ 2 ^ keybits }
+{
+    1u64 << keybits
+}
+
+// Whether the range of a reference lies in that of `top`, and is shorter.
+fn lies_below(r: &Ref, top: &Ref) -> bool
+    ensures low { IsTrue result → top.now.key ≤ r.now.key }
+    ensures high { IsTrue result → limit r.now ≤ limit top.now }
+    ensures fewer { IsTrue result → r.now.keybits < top.now.keybits }
+{
+    if top.keybits >= 64 {
+        return false;
+    }
+    if r.keybits >= top.keybits {
+        return false;
+    }
+    if r.key < top.key {
+        return false;
+    }
+    let whole = range_length(top.keybits);
+    let part = range_length(r.keybits);
+    if part > whole {
+        return false;
+    }
+    r.key - top.key <= whole - part
+}
+
+// Whether the key of a reference is a multiple of the length of its range.
+fn is_aligned(r: &Ref) -> bool
+    ensures { IsTrue result → IsAligned r.now }
+{
+    if r.keybits >= 64 {
+        return false;
+    }
+    r.key % range_length(r.keybits) == 0
+}
+
+// Whether a reference has keybits that it may have in a tree with leaves of these keybits.
+fn is_sized(r: &Ref, leaf_bits: u8) -> bool
+    ensures leaf { IsTrue result → is_indirect r.now ≡ false → r.now.keybits ≡ leaf_bits }
+    ensures wide { IsTrue result → is_indirect r.now ≡ true → leaf_bits ≤ r.now.keybits }
+    ensures some { IsTrue result → is_indirect r.now ≡ true → 0 < r.now.keybits }
+{
+    if !is_indirect(r) {
+        return r.keybits == leaf_bits;
+    }
+    if r.keybits == 0 {
+        return false;
+    }
+    leaf_bits <= r.keybits
+}
+
+// Whether a reference may stand in a node with the range of `top`, in a tree with leaves of these keybits.
+fn fits_below(r: &Ref, top: &Ref, leaf_bits: u8) -> bool
+    ensures { IsTrue result → FitsBelow top.now leaf_bits r.now }
+{
+    if !lies_below(r, top) {
+        return false;
+    }
+    if !is_aligned(r) {
+        return false;
+    }
+    is_sized(r, leaf_bits)
+}
+
+// Whether a set may be that of the node that `top` names.
+fn all_fit(set: &Set, top: &Ref, leaf_bits: u8) -> bool
+    ensures { IsTrue result → AllFitBelow top.now leaf_bits set.now }
+{
+    if set.len() == 0 {
+        return false;
+    }
+    for i in 0..set.len() {
+        if !fits_below(set.at(i), top, leaf_bits) {
+            return false;
+        }
+    }
+    true
+}
+
+// Of a root, the keybits of its tree's leaves.
+fn leaf_bits_of(nodes: &[Node], root: u32) -> u8
+    ensures { result ≡ leaf_bits_of (slice_get nodes.now root) }
+{
+    match nodes.get(root as usize) {
+        Some(x) => x.leaf_bits,
+        None => 0,
+    }
+}
+
+/// The node to which a reference in the set of node `at` leads, where it isn't loaded. None where it isn't one
+/// of its tree.
+pub(crate) fn find_loadable(nodes: &[Node], at: u32, r: &Ref) -> Option<usize>
+    requires there { at < length nodes.now }
+    requires small { length nodes.now < 2 ^ 32 }
+    ensures { IfSome result (IsLoadable nodes.now at r.now) }
+{
+    let c = find_away(nodes, at, r.key)?;
+    let leaf_bits = leaf_bits_of(nodes, nodes[at as usize].root);
+    if !all_fit(&nodes[c].set, r, leaf_bits) {
+        return None;
+    }
+    match find_below(nodes, c as u32) {
+        Some(_) => None,
+        None => Some(c),
+    }
+}
+
+/// Loads a node, below one with this root and by a reference with these keybits.
+pub(crate) fn bring_in(x: &mut Node, root: u32, bits: u8)
+    ensures { x.new ≡ brought root bits x.old }
+{
+    x.loaded = true;
+    x.root = root;
+    x.bits = bits;
+}

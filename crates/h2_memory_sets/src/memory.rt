@@ -1,0 +1,190 @@
+ghost use Rattle.std.specs.Prelude.{◌≡◌, ◌<◌, ◌≤◌, ◌^◌, ◌⊎◌, ◌+◌, ◌%◌, length, take, IfOk, IfSome};
+ghost use Rattle.h2_num.specs.Causes.{Rose};
+ghost use Rattle.std.specs.Vec.{vec_len, vec_capacity};
+
+use crate::adding::{add_node, new_reference, with_left, with_one};
+use crate::judging::{bring_in, find_loadable};
+use crate::node::Node;
+use crate::searching::find_child;
+use h2_num::{Bytes, NoMemory};
+use h2_ref::{Dirent, Ref, Trouble, Why};
+use h2_set::{NodeId, Set, Sets, Split};
+use std::alloc::Global;
+
+/// A forest of sets in one vector of nodes.
+#[derive(Drop)]
+pub struct MemorySets {
+    pub(crate) nodes: Vec<Node>,
+    /// How many nodes can be made without taking memory.
+    pub(crate) spare: u32,
+    pub(crate) epoch: u64,
+    /// How many blocks can be taken.
+    pub(crate) room: u64,
+    /// Which load from now on fails: 1 for the next. None fails where it is 0.
+    pub(crate) fault: u64,
+    /// Faults of the disk, and bad blocks that were met.
+    pub(crate) failed: u64,
+    pub(crate) bad: u64,
+    ghost small: { length nodes.items + spare < 2 ^ 32 },
+    ghost roomy: { vec_len nodes + spare ≤ vec_capacity nodes },
+}
+
+impl MemorySets {
+    ghost use Rattle.h2_set.specs.Forest.{IsSound};
+    ghost use Rattle.h2_memory_sets.specs.View.{forest_of};
+
+    /// A forest with no node, in which this number of blocks can be taken.
+    pub fn new(alloc: Global, epoch: u64, room: u64) -> MemorySets
+        ensures sound { IsSound (forest_of result) }
+        ensures room { let f = forest_of result in f.room ≡ room }
+    {
+        MemorySets {
+            nodes: Vec::new(alloc),
+            spare: 0,
+            epoch,
+            room,
+            fault: 0,
+            failed: 0,
+            bad: 0,
+        }
+    }
+
+    /// How many blocks can be taken.
+    pub fn room(&self) -> u64
+        ensures { let f = forest_of self.now in result ≡ f.room }
+    {
+        self.room
+    }
+
+    /// Lets this load from now on fail: 1 for the next. None fails where it is 0.
+    pub fn fail_load(&mut self, which: u64)
+        ensures { forest_of self.new ≡ forest_of self.old }
+    {
+        self.fault = which;
+    }
+}
+
+// Whether the load that is due is the one that fails.
+fn is_due(fault: &mut u64) -> bool {
+    let due = *fault == 1;
+    *fault = fault.saturating_sub(1);
+    due
+}
+
+// A count of one more, which stands still at its last value.
+fn one_more(count: u64) -> u64
+    ensures rose { Rose count result }
+    ensures more { count ≤ result }
+{
+    count.saturating_add(1)
+}
+
+// The name that an entry of a directory has in itself; None where there is none.
+fn inline_name(alloc: Global, entry: Dirent) -> Result<Option<Bytes>, NoMemory>
+    ensures { IfOk result (λ o. IfSome o (λ b. b ≡ take entry.len entry.name)) }
+{
+    let all = entry.name.as_slice();
+    if entry.len as usize > all.len() {
+        return Ok(None);
+    }
+    let (name, _) = all.split_at(entry.len as usize);
+    let bytes = Bytes::from_slice(alloc, name)?;
+    Ok(Some(bytes))
+}
+
+impl Sets for MemorySets {
+    ghost use Rattle.std.specs.Prelude.{ℕ};
+    ghost use Rattle.h2_memory_sets.specs.View.{forest_of};
+
+    type Beside = ();
+
+    ghost forest = { forest_of };
+
+    ghost beside = { λ p m. tt };
+
+    ghost later = { λ p q. Unit {0} };
+
+    ghost same_later = { λ p. tt };
+
+    ghost later_later = { λ p q r a b. tt };
+
+    fn get(&self, at: NodeId) -> &Set {
+        &self.nodes[at.0 as usize].set
+    }
+
+    fn epoch(&self) -> u64 {
+        self.epoch
+    }
+
+    fn child(&mut self, at: NodeId, i: usize) -> Result<NodeId, Trouble> {
+        let r = *self.nodes[at.0 as usize].set.at(i);
+        if let Some(c) = find_child(&self.nodes, at.0, r.key) {
+            return Ok(NodeId(c as u32));
+        }
+        if is_due(&mut self.fault) {
+            self.failed = one_more(self.failed);
+            return Err(Trouble::Failed);
+        }
+        let Some(c) = find_loadable(&self.nodes, at.0, &r) else {
+            self.bad = one_more(self.bad);
+            return Err(Trouble::Bad {
+                place: r.place,
+                why: Why::Shape,
+            });
+        };
+        let root = self.nodes[at.0 as usize].root;
+        bring_in(&mut self.nodes[c], root, r.keybits);
+        Ok(NodeId(c as u32))
+    }
+
+    fn ready(&mut self, n: u32) -> Result<(), NoMemory> {
+        if n <= self.spare {
+            return Ok(());
+        }
+        if self.nodes.len() > (u32::MAX - n) as usize {
+            return Err(NoMemory);
+        }
+        match self.nodes.reserve(n as usize) {
+            Ok(()) => {
+                self.spare = n;
+                Ok(())
+            }
+            Err(_) => Err(NoMemory),
+        }
+    }
+
+    fn alter(&mut self, at: NodeId) {
+        let _ = at;
+    }
+
+    fn store(&mut self, at: NodeId, set: Set) {
+        self.nodes[at.0 as usize].set = set;
+    }
+
+    fn make(&mut self, at: NodeId, set: Set, split: Split) -> NodeId {
+        let c = self.nodes.len() as u32;
+        let r = new_reference(split.key, split.keybits, self.epoch);
+        let kept = with_one(with_left(set, split.rest), r);
+        add_node(&mut self.nodes, at.0, kept, split.moved, &r);
+        self.spare -= 1;
+        self.room -= 1;
+        NodeId(c)
+    }
+
+    fn name(&mut self, alloc: Global, r: &Ref) -> Result<Bytes, Trouble> {
+        let Some(entry) = r.dirent else {
+            return Err(Trouble::NoMemory);
+        };
+        match inline_name(alloc, entry) {
+            Ok(Some(name)) => Ok(name),
+            Ok(None) => {
+                self.bad = one_more(self.bad);
+                Err(Trouble::Bad {
+                    place: r.place,
+                    why: Why::Name,
+                })
+            }
+            Err(NoMemory) => Err(Trouble::NoMemory),
+        }
+    }
+}

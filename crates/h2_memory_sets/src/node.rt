@@ -1,0 +1,17 @@
+use h2_set::Set;
+
+/// A node of a forest.
+#[derive(Drop)]
+pub(crate) struct Node {
+    pub set: Set,
+    /// Whether it is loaded; a node that isn't doesn't stand.
+    pub loaded: bool,
+    /// The node above it. A root has none.
+    pub up: Option<u32>,
+    pub root: u32,
+    /// Its range: the first key, and the base-2 logarithm of its length.
+    pub low: u64,
+    pub bits: u8,
+    /// Of a root, the keybits of its tree's leaves.
+    pub leaf_bits: u8,
+}

@@ -1,0 +1,50 @@
+ghost use Rattle.std.specs.Prelude.{◌≡◌};
+ghost use Rattle.std.specs.List.{position};
+ghost use Rattle.h2_memory_sets.specs.View.{is_below, is_child, is_away, is_up};
+
+use crate::node::Node;
+
+// Whether the node right above is this one.
+fn is_up(up: Option<u32>, at: u32) -> bool
+    ensures { result ≡ is_up at up }
+{
+    match up {
+        None => false,
+        Some(u) => u == at,
+    }
+}
+
+// Whether a node is loaded, right below the other, and at this key.
+fn is_child(x: &Node, at: u32, key: u64) -> bool
+    ensures { result ≡ is_child at key x.now }
+{
+    x.loaded && (is_up(x.up, at) && x.low == key)
+}
+
+// Whether a node isn't loaded, right below the other, and at this key.
+fn is_away(x: &Node, at: u32, key: u64) -> bool
+    ensures { result ≡ is_away at key x.now }
+{
+    !x.loaded && (is_up(x.up, at) && x.low == key)
+}
+
+/// The loaded node at a key below another.
+pub(crate) fn find_child(nodes: &[Node], at: u32, key: u64) -> Option<usize>
+    ensures { result ≡ position (is_child at key) nodes.now }
+{
+    nodes.iter().position(|x| is_child(x, at, key))
+}
+
+/// The node that isn't loaded at a key below another.
+pub(crate) fn find_away(nodes: &[Node], at: u32, key: u64) -> Option<usize>
+    ensures { result ≡ position (is_away at key) nodes.now }
+{
+    nodes.iter().position(|x| is_away(x, at, key))
+}
+
+/// A loaded node right below another.
+pub(crate) fn find_below(nodes: &[Node], at: u32) -> Option<usize>
+    ensures { result ≡ position (is_below at) nodes.now }
+{
+    nodes.iter().position(|x| x.loaded && is_up(x.up, at))
+}
