@@ -4,6 +4,8 @@ mod Elements
 mod FirstFaults
 mod Joined
 mod Numerals
+mod OneOrder
+mod OneText
 mod Ordered
 mod Paths
 mod Payloads

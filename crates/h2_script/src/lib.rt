@@ -2,7 +2,8 @@
 //!
 //! A script is lines; a line is skipped, ends a phase, or is a command of one of 8 clients. Which bytes are
 //! a script, and which script they are, is a relation by cases (`specs/Scripts`), and so is what is wrong
-//! first with bytes that are none.
+//! first with bytes that are none. The text of a history has a line for each reply (`specs/Texts`), and a
+//! history has one text.
 #![tactic(auto)]
 
 mod arguments;
@@ -24,7 +25,7 @@ mod verb;
 
 pub use fault::{LineFault, ParseFault};
 pub use parsing::parse;
-pub use printing::text;
+pub use printing::{text, text_law};
 pub use script::Script;
 
 #[cfg(test)]

@@ -1,5 +1,6 @@
-ghost use Rattle.std.specs.Prelude.{◌≡◌, ◌++◌, IfOk, OnOk, map};
+ghost use Rattle.std.specs.Prelude.{◌≡◌, ◌++◌, ℕ, List, IfOk, OnOk, map};
 ghost use Rattle.std.specs.List.{flat_map};
+ghost use Rattle.h2_command.specs.declared.history.Item.{Item};
 ghost use Rattle.h2_script.specs.Texts.{line_of, entries_of, IsByPlace, IsText};
 
 use crate::reply_text::put_reply;
@@ -58,3 +59,8 @@ pub fn text(alloc: Global, history: &History) -> Result<Bytes, NoMemory>
     let text = lines_of(alloc, &entries)?;
     Ok(Bytes::from_vec(text))
 }
+
+/// A law: a history has one text.
+pub fn text_law()
+    ensures { (items : List Item) (a b : List ℕ) → IsText items a → IsText items b → a ≡ b }
+{}

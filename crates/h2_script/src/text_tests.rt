@@ -98,6 +98,13 @@ fn numbers(alloc: Global) -> Result<Vec<(Reply, &'static str)>, NoMemory> {
             "bulk seen 68 staged 6209 freed 0"
         ),
         (Reply::InUse(1), "in-use 1"),
+    ]?;
+    Ok(told)
+}
+
+// Refusals from outside the forest.
+fn refusals(alloc: Global) -> Result<Vec<(Reply, &'static str)>, NoMemory> {
+    let told = vec![in alloc;
         (Reply::Running(6), "running 6"),
         (
             Reply::NoSpace {
@@ -114,6 +121,7 @@ fn numbers(alloc: Global) -> Result<Vec<(Reply, &'static str)>, NoMemory> {
             "io"
         ),
         (Reply::BadBlock { place: 4195328 }, "bad-block 4195328"),
+        (Reply::NoMemory, "no-memory"),
     ]?;
     Ok(told)
 }
@@ -134,7 +142,6 @@ fn words(alloc: Global) -> Result<Vec<(Reply, &'static str)>, NoMemory> {
         (Reply::NoHandle, "no-handle"),
         (Reply::HandlesFull, "handles-full"),
         (Reply::Long, "long"),
-        (Reply::NoMemory, "no-memory"),
     ]?;
     Ok(told)
 }
@@ -159,6 +166,8 @@ fn replies_have_their_text(rt: HostRuntime) -> Result<(), Fail> {
     let table = numbers(alloc).ok().ok_or("memory")?;
     assert_eq!(rt; are_told(alloc, table), Ok(true));
     let table = words(alloc).ok().ok_or("memory")?;
+    assert_eq!(rt; are_told(alloc, table), Ok(true));
+    let table = refusals(alloc).ok().ok_or("memory")?;
     assert_eq!(rt; are_told(alloc, table), Ok(true));
     Ok(())
 }
