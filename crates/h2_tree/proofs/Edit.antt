@@ -1,5 +1,5 @@
 -- The set of a node with a leaf more, or with a leaf replaced.
-use Rattle.std.proofs.Common.{◌≡◌, ℕ, ◌+◌, ◌<◌, ◌≤◌, ◌^◌, Bool, true, false, arith, refl, sym, ◌∙◌, ap, List, [], ◌∷◌, length, Some, subst, ◌⊎◌, inl, inr, slice_get, slice_set, suc, zero}
+use Rattle.std.proofs.Common.{◌≡◌, ℕ, ◌+◌, ◌<◌, ◌≤◌, ◌^◌, Bool, true, false, arith, refl, sym, ◌∙◌, ap, List, [], ◌∷◌, length, Option, Some, None, subst, ◌⊎◌, inl, inr, slice_get, slice_set, suc, zero}
 use Rattle.std.proofs.lemmas.Option.{none-some, slice_get_within}
 use Rattle.std.proofs.lemmas.Bool.{cases_lt}
 use Rattle.h2_ref.specs.declared.reference.Ref.{Ref}
@@ -12,7 +12,8 @@ use Rattle.h2_set.specs.LeafLaws.{holds_inside}
 use Rattle.h2_set.specs.PutLaws.{put_from, put_keeps}
 use Rattle.h2_set.specs.RenewLaws.{apart_alike, Alike-length, Alike-sym, like_at}
 use Rattle.h2_tree.proofs.Store.{WithLeaf}
-use Rattle.h2_tree.specs.Changes.{Takes}
+use Rattle.h2_tree.specs.Changes.{Takes, TakesIn, replaced, placed}
+use Rattle.h2_tree.proofs.Going.{own_set}
 
 pub with_put : (h : Forest) (at : ℕ) (leaf : Ref) → IsSoundNode h at → IsApart leaf (refs h at) → is_indirect leaf ≡ false → h.low at ≤ leaf.key → limit leaf ≤ h.low at + 2 ^ h.bits at → (let s = h.set at in length s.refs < s.capacity) → WithLeaf h at leaf (let s = h.set at in let t : RefSet = record { refs = put leaf s.refs; capacity = s.capacity } in t)
 with_put h at leaf node a kind low high room = record {
@@ -128,3 +129,23 @@ module _ (f h : Forest) (at : ℕ) (leaf : Ref) (sound : IsSound f) (stands : f.
 
   pub old_copy : (i : ℕ) (q : Ref) → IsSameAt (refs f at) i leaf → (copy got : RefSet) → copy ≡ got → got ≡ h.set at → slice_get copy.refs i ≡ Some q → slice_get (refs f at) i ≡ Some q
   old_copy i q same copy got e1 e2 read = old_altered i q same (subst (λ (s : RefSet). slice_get s.refs i ≡ Some q) (e1 ∙ e2) read)
+
+  -- how a copy of the set that was put into takes the leaf in
+  pub places : (g : Forest) → NoneHolds leaf.key (refs f at) → (let s = f.set at in length s.refs < s.capacity) → (copy got s : RefSet) → copy ≡ got → got ≡ h.set at → s ≡ record { refs = put leaf copy.refs; capacity = copy.capacity } → g.set at ≡ s → TakesIn f g at leaf 0 None
+  places g miss room copy got s e1 e2 e3 e4 =
+      let same = own_set f h at sound stands alters in
+      placed (record { none = miss; space = room; set = e4 ∙ e3 ∙ ap (λ (s : RefSet). let t : RefSet = record { refs = put leaf s.refs; capacity = s.capacity } in t) (e1 ∙ e2 ∙ same) })
+
+  pub replaces : (g : Forest) (i : ℕ) (q : Ref) → IsSameAt (refs f at) i leaf → (copy got s : RefSet) → copy ≡ got → got ≡ h.set at → s ≡ record { refs = slice_set copy.refs i leaf; capacity = copy.capacity } → slice_get copy.refs i ≡ Some q → g.set at ≡ s → TakesIn f g at leaf 0 (Some q)
+  replaces g i q facts copy got s e1 e2 e3 read e4 =
+      let same = own_set f h at sound stands alters in
+      let read_f : slice_get (refs f at) i ≡ Some q = subst (λ (s : RefSet). slice_get s.refs i ≡ Some q) (e1 ∙ e2 ∙ same) read in
+      let it = facts q read_f in
+      replaced (record {
+        place = i;
+        was = read_f;
+        leaf_was = it.0;
+        key = it.1;
+        keybits = it.2;
+        set = e4 ∙ e3 ∙ ap (λ (s : RefSet). let t : RefSet = record { refs = slice_set s.refs i leaf; capacity = s.capacity } in t) (e1 ∙ e2 ∙ same);
+      })

@@ -1,6 +1,7 @@
 mod Answering
 mod Climb
 mod Collect
+mod Going
 mod Store
 mod Edit
 mod Parted

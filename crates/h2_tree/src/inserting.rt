@@ -1,4 +1,4 @@
-ghost use Rattle.std.specs.Prelude.{◌≡◌, ◌<◌, ◌≤◌, ◌⊎◌, true, false, ℕ, List, Some, slice_get, length, IfOk, IfErr, OnOk, OnErr};
+ghost use Rattle.std.specs.Prelude.{◌≡◌, ◌<◌, ◌≤◌, ◌⊎◌, true, false, ℕ, List, Some, None, slice_get, length, IfOk, IfErr, OnOk, OnErr};
 ghost use Rattle.h2_ref.specs.declared.reference.Ref.{Ref};
 ghost use Rattle.h2_set.specs.Ranges.{find, is_indirect, NoneHolds};
 ghost use Rattle.h2_set.specs.Forest.{Forest, refs, IsSound, Walks, HasCause, LeavesOf, KeepsBeside, ReadiesOnly};
@@ -17,7 +17,7 @@ fn replace<N: Sets>(n: &mut N, at: NodeId, i: usize, leaf: Ref) -> Ref
     requires takes { Takes (N.forest n.old) at.0 leaf }
     requires there { i < length (refs (N.forest n.old) at.0) }
     requires same { (q : Ref) → slice_get (refs (N.forest n.old) at.0) i ≡ Some q → (is_indirect q ≡ false) × (q.key ≡ leaf.key) × (q.keybits ≡ leaf.keybits) }
-    ensures inserts { Inserts (N.forest n.old) (N.forest n.new) at.0 leaf }
+    ensures inserts { Inserts (N.forest n.old) (N.forest n.new) at.0 leaf (Some result) }
     ensures old { slice_get (refs (N.forest n.old) at.0) i ≡ Some result }
     ensures beside { KeepsBeside (N.forest n.old) (N.forest n.new) (N.beside n.old) (N.beside n.new) }
     ensures later { N.later n.old n.new }
@@ -37,7 +37,7 @@ fn place<N: Sets>(n: &mut N, at: NodeId, leaf: Ref)
     requires takes { Takes (N.forest n.old) at.0 leaf }
     requires none { NoneHolds leaf.key (refs (N.forest n.old) at.0) }
     requires space { let f = N.forest n.old in let s = f.set at.0 in length s.refs < s.capacity }
-    ensures inserts { Inserts (N.forest n.old) (N.forest n.new) at.0 leaf }
+    ensures inserts { Inserts (N.forest n.old) (N.forest n.new) at.0 leaf None }
     ensures beside { KeepsBeside (N.forest n.old) (N.forest n.new) (N.beside n.old) (N.beside n.new) }
     ensures later { N.later n.old n.new }
 {
@@ -58,7 +58,7 @@ fn part<N: Sets>(n: &mut N, at: NodeId, leaf: Ref)
     requires takes { Takes (N.forest n.old) at.0 leaf }
     requires none { NoneHolds leaf.key (refs (N.forest n.old) at.0) }
     requires full { let f = N.forest n.old in let s = f.set at.0 in length s.refs ≡ s.capacity }
-    ensures inserts { Inserts (N.forest n.old) (N.forest n.new) at.0 leaf }
+    ensures inserts { Inserts (N.forest n.old) (N.forest n.new) at.0 leaf None }
     ensures beside { KeepsBeside (N.forest n.old) (N.forest n.new) (N.beside n.old) (N.beside n.new) }
     ensures later { N.later n.old n.new }
 {
@@ -75,7 +75,7 @@ fn add<N: Sets>(alloc: Global, n: &mut N, at: NodeId, leaf: Ref) -> Result<(), N
     requires room { let f = N.forest n.old in 63 ≤ f.room }
     requires takes { Takes (N.forest n.old) at.0 leaf }
     requires none { NoneHolds leaf.key (refs (N.forest n.old) at.0) }
-    ensures ok { OnOk result (Inserts (N.forest n.old) (N.forest n.new) at.0 leaf) }
+    ensures ok { OnOk result (Inserts (N.forest n.old) (N.forest n.new) at.0 leaf None) }
     ensures walks { OnErr result (Walks (N.forest n.old) (N.forest n.new)) }
     ensures spare { let f = N.forest n.old in OnErr result (f.spare ≡ 0) }
     ensures beside { KeepsBeside (N.forest n.old) (N.forest n.new) (N.beside n.old) (N.beside n.new) }
@@ -103,7 +103,7 @@ pub fn insert<N: Sets>(
     requires stands { let f = N.forest n.old in f.stands root.0 ≡ true }
     requires room { let f = N.forest n.old in 63 ≤ f.room }
     requires takes { Takes (N.forest n.old) root.0 leaf }
-    ensures ok { OnOk result (Inserts (N.forest n.old) (N.forest n.new) root.0 leaf) }
+    ensures ok { IfOk result (Inserts (N.forest n.old) (N.forest n.new) root.0 leaf) }
     ensures old { IfOk result (λ o. (l : List Ref) → LeavesOf (N.forest n.old) root.0 l → o ≡ find leaf.key l) }
     ensures walks { OnErr result (Walks (N.forest n.old) (N.forest n.new)) }
     ensures err { IfErr result (HasCause (N.forest n.old) (N.forest n.new)) }

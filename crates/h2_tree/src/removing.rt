@@ -26,7 +26,7 @@ fn cut_at<N: Sets>(n: &mut N, at: NodeId, i: usize)
     requires room { let f = N.forest n.old in (f.copies at.0 ≤ 62) × (62 ≤ f.room) }
     requires more { let f = N.forest n.old in (f.root at.0 ≡ at.0) ⊎ (2 ≤ length (refs f at.0)) }
     requires only { let f = N.forest n.old in (leaf : Ref) × LeadsOnly f at.0 i leaf × IsFree f (f.root at.0) leaf.key }
-    ensures removes { let f = N.forest n.old in (leaf : Ref) → LeadsOnly f at.0 i leaf → IsFree f (f.root at.0) leaf.key → Removes f (N.forest n.new) at.0 leaf.key }
+    ensures removes { let f = N.forest n.old in (leaf : Ref) → LeadsOnly f at.0 i leaf → IsFree f (f.root at.0) leaf.key → Removes f (N.forest n.new) at.0 leaf }
     ensures beside { KeepsBeside (N.forest n.old) (N.forest n.new) (N.beside n.old) (N.beside n.new) }
     ensures later { N.later n.old n.new }
 {
@@ -101,7 +101,8 @@ pub fn remove<N: Sets>(
     requires room { let f = N.forest n.old in 62 ≤ f.room }
     requires free { IsFree (N.forest n.old) root.0 key }
     ensures answer { IfOk result (λ o. (l : List Ref) → LeavesOf (N.forest n.old) root.0 l → o ≡ at_key key l) }
-    ensures removes { IfOk result (λ o. IfSome o (λ leaf. Removes (N.forest n.old) (N.forest n.new) root.0 key)) }
+    ensures removes { IfOk result (λ o. IfSome o (Removes (N.forest n.old) (N.forest n.new) root.0)) }
+    ensures key { IfOk result (λ o. IfSome o (λ leaf. leaf.key ≡ key)) }
     ensures absent { IfOk result (λ o. IfNone o (Walks (N.forest n.old) (N.forest n.new))) }
     ensures walks { OnErr result (Walks (N.forest n.old) (N.forest n.new)) }
     ensures err { IfErr result (HasCause (N.forest n.old) (N.forest n.new)) }
