@@ -6,8 +6,8 @@ use Rattle.h2_set.specs.Ranges.{holds, is_indirect}
 use Rattle.h2_set.specs.RefSet.{RefSet}
 use Rattle.h2_set.specs.Forest.{Forest, refs, loaded, IsSoundNode, IsSound, InPlace, Stays, Same, Walks, ReadiesOnly, Alters, OnWay, inside, across, IsAbove, itself}
 use Rattle.h2_set.specs.StayLaws.{Fixed-refl, Fixed-trans, InPlace-trans, Stays-refl, Stays-trans, Same-Stays}
-use Rattle.h2_set.specs.ChangeLaws.{same_or_not}
-use Rattle.h2_set.specs.RenewLaws.{Alike-length}
+use Rattle.h2_set.specs.ChangeLaws.{same_or_not, Keeps-trans, Same-Keeps}
+use Rattle.h2_set.specs.RenewLaws.{Alike-length, Keeps-Renews, Renews-trans}
 use Rattle.h2_tree.specs.Changes.{ChangesOnly, Prepares, Descends, arrived, onward, NoneEmpty}
 
 -- lists of one length, of which one has all that the other has, each at its place
@@ -56,6 +56,12 @@ changes_only f h g at goes alters place others = record {
         | inl same ↦ InPlace-trans f h g m first (subst (InPlace h g) (sym same) place)
         | inr differs ↦ InPlace-trans f h g m first (others m first.stands differs not_gone).place
       ];
+  tree = λ m st root differs not_gone.
+      let k = alters.tree m st root in
+      Keeps-trans f h g m k (Same-Keeps h g m (others m k.place.stands differs not_gone));
+  others = λ m st root not_gone.
+      let k = alters.above m st root in
+      Renews-trans f h g m k (Keeps-Renews h g m (Same-Keeps h g m (others m k.place.stands (λ e. root (ap f.root e)) not_gone)));
   exact = λ m i r st differs not_gone read off.
       let first = altered_place f h at alters m st in
       subst (λ (s : RefSet). slice_get s.refs i ≡ Some r) (sym (others m first.stands differs not_gone).set) (alters.exact m i r st read off);

@@ -8,6 +8,7 @@ mod Parted
 mod Descend
 mod Readied
 mod Only
+mod Paths
 mod Removal
 mod RemoveBelow
 mod Taking

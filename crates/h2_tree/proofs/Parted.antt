@@ -1,9 +1,9 @@
 -- A leaf that goes into a set which is split for it.
-use Rattle.std.proofs.Common.{◌≡◌, ℕ, ◌+◌, ◌≤◌, ◌^◌, Bool, true, false, arith, refl, sym, ◌∙◌, ap, List, length, None, subst}
+use Rattle.std.proofs.Common.{◌≡◌, ℕ, ◌+◌, ◌≤◌, ◌^◌, Bool, true, false, arith, refl, sym, ◌∙◌, ap, List, length, Some, None, slice_get, subst}
 use Rattle.h2_ref.specs.declared.reference.Ref.{Ref}
 use Rattle.h2_set.specs.declared.set.Split.{Split}
 use Rattle.std.specs.Prelude.{filter, not}
-use Rattle.h2_set.specs.Ranges.{Rising, limit, put, lies, NoneHolds, IsApart, AllAligned, IsOneClass}
+use Rattle.h2_set.specs.Ranges.{Rising, limit, put, lies, Sides, NoneHolds, IsApart, AllAligned, IsOneClass}
 use Rattle.h2_set.specs.RefSet.{RefSet, IsSplitOf, with_rest}
 use Rattle.h2_set.specs.Forest.{Forest, refs, loaded, HasLeaves, LeavesOf, IsSoundNode, IsSound, Stays, Keeps, Alters, MadeFrom, Makes}
 use Rattle.h2_set.specs.StayLaws.{leaves_stay, Fixed-trans, InPlace-trans}
@@ -16,7 +16,7 @@ use Rattle.h2_tree.specs.Changes.{Under, Takes, TakesIn, arrived, Inserts}
 use Rattle.h2_tree.specs.Changes.{parted as parted_by}
 use Rattle.h2_tree.proofs.Going.{own_set, changes_only, Prepares-refl, none_empty}
 use Rattle.h2_tree.proofs.Store.{all_still, leaf_fits, alters_still}
-use Rattle.h2_tree.proofs.Edit.{apart_altered}
+use Rattle.h2_tree.proofs.Edit.{apart_altered, apart_node}
 
 module _ (f h g : Forest) (at c : ℕ) (leaf : Ref) (set : RefSet) (s : Split) (sound : IsSound f) (stands : f.stands at ≡ true) (takes : Takes f at leaf) (alters : Alters f h at) (made : MadeFrom h at leaf set s) (makes : Makes h g at c set s) where
   here : Keeps f h at
@@ -56,6 +56,10 @@ module _ (f h g : Forest) (at c : ℕ) (leaf : Ref) (set : RefSet) (s : Split) (
   takes_in : NoneHolds leaf.key (refs f at) → TakesIn f g at leaf 1 None
   takes_in miss = parted_by (record {
     none = miss;
+    apart = apart_node f at leaf (sound.node at stands) takes miss;
+    sides = subst (λ (t : RefSet). (i : ℕ) (r : Ref) → slice_get (put leaf t.refs) i ≡ Some r → Sides s.key s.keybits r) same parting.sides;
+    below_moved = λ k le lt. makes.below_moved k le lt ∙ here.link k;
+    below_kept = λ k out. makes.below_kept k out ∙ here.link k;
     full = subst (λ (t : RefSet). length t.refs ≡ t.capacity) same made.full;
     key = s.key;
     bits = s.keybits;

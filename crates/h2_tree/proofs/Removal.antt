@@ -196,10 +196,6 @@ module _ (f h : Forest) (at i : ℕ) (leaf : Ref) (sound : IsSound f) (stands : 
           link = λ j r read' ind.
               let in_s : slice_get s.refs j ≡ Some r = subst (λ (t : RefSet). slice_get t.refs j ≡ Some r) stores.set read' in
               stores.link j r in_s ind ∙ here.link r.key;
-          links = λ m k st root ne not_gone.
-              let k1 = alters.tree m st root in
-              let kept = stores.others m k1.place.stands ne (λ goes. not_gone (below_goes m st goes)) (λ goes. not_gone (with_goes m st goes)) in
-              kept.link k ∙ k1.link k;
           only = changes_only f h g at (GoesAway f at i leaf) alters stores.place (λ m st ne not_gone. stores.others m st ne (λ goes. not_gone (below_goes m (alters.none_new m st) goes)) (λ goes. not_gone (with_goes m (alters.none_new m st) goes)));
           room = omega (arith, alters.room, stores.room);
           spare = stores.spare ∙ alters.spare;

@@ -97,7 +97,6 @@ module _ (f h : Forest) (at i c : ℕ) (leaf q : Ref) (sound : IsSound f) (stand
           more = it.more;
           set = it.set;
           link = it.link;
-          links = it.links;
           only = it.only;
           room = omega (arith, it.room, walks.room);
           spare = it.spare ∙ walks.spare;

@@ -135,7 +135,6 @@ removes_after f h g at leaf sound stands walk rem =
         more = it.more;
         set = it.set;
         link = it.link;
-        links = it.links;
         only = it.only;
         room = omega (arith, it.room, walk.walks.room);
         spare = it.spare ∙ walk.walks.spare;

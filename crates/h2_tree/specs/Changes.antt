@@ -2,7 +2,7 @@
 use Rattle.std.specs.List.{remove}
 use Rattle.std.specs.Prelude.{slice_set, filter, not, ◌≡◌, ℕ, ◌+◌, ◌^◌, ◌<◌, ◌≤◌, ◌⊎◌, ◌&&◌, nat_le, Bool, true, false, List, Option, Some, None, slice_get, length}
 use Rattle.h2_ref.specs.declared.reference.Ref.{Ref}
-use Rattle.h2_set.specs.Ranges.{limit, holds, lies, NoneHolds, put, without, at_key, is_indirect, IsAligned}
+use Rattle.h2_set.specs.Ranges.{limit, holds, lies, NoneHolds, IsApart, Sides, put, without, at_key, is_indirect, IsAligned}
 use Rattle.h2_tree.specs.declared.removing.Taken.{Taken}
 use Rattle.h2_tree.specs.declared.removing.Taken.TheVariants.{Nothing, Out, Sole}
 use Rattle.h2_set.specs.Forest.{Forest, refs, loaded, IsSound, LeavesOf, Walks, Fixed, InPlace, Keeps, Renews, Stays, Reaches, OnWay, IsAbove}
@@ -33,6 +33,10 @@ pub data Descends (f : Forest) (key : ℕ) : ℕ → ℕ → Type 0 where
 pub record ChangesOnly (h g : Forest) (n : ℕ) (goes : ℕ → Type 0) : Type 0 where
   -- no node is unloaded
   pub still : (m : ℕ) → h.stands m ≡ true → (goes m → ⊥) → InPlace h g m
+  -- nodes of its tree keep their references, but for where blocks of indirect ones lie, and what is loaded below them
+  pub tree : (m : ℕ) → h.stands m ≡ true → h.root m ≡ h.root n → (m ≡ n → ⊥) → (goes m → ⊥) → Keeps h g m
+  -- and those of other trees, but for where blocks of inodes and indirect ones lie
+  pub others : (m : ℕ) → h.stands m ≡ true → (h.root m ≡ h.root n → ⊥) → (goes m → ⊥) → Renews h g m
   -- no reference changes but on the way to the node
   pub exact : (m i : ℕ) (r : Ref) → h.stands m ≡ true → (m ≡ n → ⊥) → (goes m → ⊥) → slice_get (refs h m) i ≡ Some r → (OnWay h m r n → ⊥) → slice_get (refs g m) i ≡ Some r
   pub writable : (m : ℕ) → h.stands m ≡ true → (goes m → ⊥) → (IsAbove h m n → ⊥) → g.writable m ≡ h.writable m
@@ -47,17 +51,21 @@ pub record Replaces (h g : Forest) (n : ℕ) (leaf old : Ref) : Type 0 where
   pub key : old.key ≡ leaf.key
   pub keybits : old.keybits ≡ leaf.keybits
   pub set : let s = h.set n in g.set n ≡ record { refs = slice_set s.refs place leaf; capacity = s.capacity }
+  pub link : (i : ℕ) (r : Ref) → slice_get (refs g n) i ≡ Some r → is_indirect r ≡ true → g.link n r.key ≡ h.link n r.key
 
 -- the set of node n, which wasn't full, has the leaf in its order
 pub record Places (h g : Forest) (n : ℕ) (leaf : Ref) : Type 0 where
   pub none : NoneHolds leaf.key (refs h n)
+  pub apart : IsApart leaf (refs h n)
   pub space : let s = h.set n in length s.refs < s.capacity
   pub set : let s = h.set n in g.set n ≡ record { refs = put leaf s.refs; capacity = s.capacity }
+  pub link : (i : ℕ) (r : Ref) → slice_get (refs g n) i ≡ Some r → is_indirect r ≡ true → g.link n r.key ≡ h.link n r.key
 
 -- the full set of node n and the leaf were split by the split rule: node c has the references of its range, and node
 -- n the others, and one that leads to node c
 pub record Parts (h g : Forest) (n : ℕ) (leaf : Ref) : Type 0 where
   pub none : NoneHolds leaf.key (refs h n)
+  pub apart : IsApart leaf (refs h n)
   pub full : let s = h.set n in length s.refs ≡ s.capacity
   pub key : ℕ
   pub bits : ℕ
@@ -71,6 +79,10 @@ pub record Parts (h g : Forest) (n : ℕ) (leaf : Ref) : Type 0 where
   pub ref_key : ref.key ≡ key
   pub ref_bits : ref.keybits ≡ bits
   pub link : g.link n key ≡ loaded node
+  -- what was loaded below the moved references is so below the new node
+  pub sides : (i : ℕ) (r : Ref) → slice_get (put leaf (refs h n)) i ≡ Some r → Sides key bits r
+  pub below_moved : (k : ℕ) → key ≤ k → k < key + 2 ^ bits → g.link node k ≡ h.link n k
+  pub below_kept : (k : ℕ) → (k < key) ⊎ (key + 2 ^ bits ≤ k) → g.link n k ≡ h.link n k
   pub set : let s = h.set n in g.set n ≡ record { refs = put ref (filter (λ q. not (lies key bits q)) (put leaf s.refs)); capacity = s.capacity }
 
 -- how the set of node n takes a leaf in: the number of new blocks, and the leaf that it replaces
@@ -159,7 +171,6 @@ pub record GoesOut (f g : Forest) (at : ℕ) (leaf : Ref) : Type 0 where
   pub more : (then.root node ≡ node) ⊎ (2 ≤ length (refs then node))
   pub set : let s = then.set node in g.set node ≡ record { refs = remove s.refs place; capacity = s.capacity }
   pub link : (i : ℕ) (r : Ref) → slice_get (refs g node) i ≡ Some r → is_indirect r ≡ true → g.link node r.key ≡ then.link node r.key
-  pub links : (m k : ℕ) → then.stands m ≡ true → then.root m ≡ then.root node → (m ≡ node → ⊥) → (GoesAway then node place leaf m → ⊥) → g.link m k ≡ then.link m k
   pub only : ChangesOnly then g node (GoesAway then node place leaf)
   pub room : g.room + then.copies node ≡ f.room
   pub spare : g.spare ≡ f.spare
@@ -183,6 +194,10 @@ abbrev pub TakesOut : Forest → Forest → ℕ → ℕ → Taken → Type 0
 TakesOut f g at key Nothing = WalksUnder f g at × ((l : List Ref) → LeavesOf f at l → at_key key l ≡ None)
 TakesOut f g at key (Out leaf) = Removes f g at leaf × (leaf.key ≡ key) × ((l : List Ref) → LeavesOf f at l → at_key key l ≡ Some leaf)
 TakesOut f g at key (Sole leaf) = WalksUnder f g at × (length (refs g at) ≡ 1) × LeadsOnly g at 0 leaf × (leaf.key ≡ key)
+
+-- each loaded path to a key outside the leaf's range stays loaded, and leads to what it led to
+abbrev pub KeepsPaths : Forest → Forest → ℕ → Ref → Type 0
+KeepsPaths f g at leaf = (key : ℕ) (o : Option Ref) → holds key leaf ≡ false → Reaches f key at o → Reaches g key at o
 
 -- a leaf whose key is from `from` to `to`
 abbrev pub is_between : ℕ → ℕ → Ref → Bool

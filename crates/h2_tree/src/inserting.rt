@@ -1,8 +1,8 @@
 ghost use Rattle.std.specs.Prelude.{◌≡◌, ◌<◌, ◌≤◌, ◌⊎◌, true, false, ℕ, List, Some, None, slice_get, length, IfOk, IfErr, OnOk, OnErr};
 ghost use Rattle.h2_ref.specs.declared.reference.Ref.{Ref};
 ghost use Rattle.h2_set.specs.Ranges.{find, is_indirect, NoneHolds};
-ghost use Rattle.h2_set.specs.Forest.{Forest, refs, IsSound, Walks, HasCause, LeavesOf, KeepsBeside, ReadiesOnly};
-ghost use Rattle.h2_tree.specs.Changes.{Takes, Inserts, PathUnloaded};
+ghost use Rattle.h2_set.specs.Forest.{Forest, refs, IsSound, Walks, HasCause, LeavesOf, Reaches, KeepsBeside, ReadiesOnly};
+ghost use Rattle.h2_tree.specs.Changes.{Takes, Inserts, KeepsPaths, PathUnloaded};
 
 use h2_num::NoMemory;
 use h2_ref::{Ref, Trouble};
@@ -105,6 +105,8 @@ pub fn insert<N: Sets>(
     requires takes { Takes (N.forest n.old) root.0 leaf }
     ensures ok { IfOk result (Inserts (N.forest n.old) (N.forest n.new) root.0 leaf) }
     ensures old { IfOk result (λ o. (l : List Ref) → LeavesOf (N.forest n.old) root.0 l → o ≡ find leaf.key l) }
+    ensures paths { IfOk result (λ o. KeepsPaths (N.forest n.old) (N.forest n.new) root.0 leaf) }
+    ensures path { IfOk result (λ o. Reaches (N.forest n.new) leaf.key root.0 (Some leaf)) }
     ensures walks { OnErr result (Walks (N.forest n.old) (N.forest n.new)) }
     ensures err { IfErr result (HasCause (N.forest n.old) (N.forest n.new)) }
     ensures unloaded { let f = N.forest n.old in OnErr result (PathUnloaded f root.0 leaf.key ⊎ (f.spare ≡ 0)) }

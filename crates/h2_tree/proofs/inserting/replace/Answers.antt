@@ -22,7 +22,7 @@ pub store-requires-clause-storable : goal.store-requires-clause-storable
 store-requires-clause-storable g c = storable _ _ _ _ _ c.requires.sound c.requires.stands c.requires.takes c.alter.ensures.alters (swap_copy _ _ _ _ c.requires.sound c.requires.stands c.requires.takes c.alter.ensures.alters c.args.i c.swap-old.result c.requires.same _ _ _ c.copy-set.ensures.same c.get.ensures c.swap-old.ensures.new c.swap-old.ensures.old)
 
 pub returns-clause-inserts : goal.returns-clause-inserts
-returns-clause-inserts g c = inserts _ _ _ _ _ c.requires.sound c.requires.stands c.requires.takes c.alter.ensures.alters (swap_copy _ _ _ _ c.requires.sound c.requires.stands c.requires.takes c.alter.ensures.alters c.args.i c.swap-old.result c.requires.same _ _ _ c.copy-set.ensures.same c.get.ensures c.swap-old.ensures.new c.swap-old.ensures.old) _ _ (replaces _ _ _ _ c.requires.sound c.requires.stands c.requires.takes c.alter.ensures.alters _ c.args.i c.swap-old.result c.requires.same _ _ _ c.copy-set.ensures.same c.get.ensures c.swap-old.ensures.new c.swap-old.ensures.old c.store.ensures.stores.set) c.requires.room c.store.ensures.stores
+returns-clause-inserts g c = inserts _ _ _ _ _ c.requires.sound c.requires.stands c.requires.takes c.alter.ensures.alters (swap_copy _ _ _ _ c.requires.sound c.requires.stands c.requires.takes c.alter.ensures.alters c.args.i c.swap-old.result c.requires.same _ _ _ c.copy-set.ensures.same c.get.ensures c.swap-old.ensures.new c.swap-old.ensures.old) _ _ (replaces _ _ _ _ c.requires.sound c.requires.stands c.requires.takes c.alter.ensures.alters _ c.args.i c.swap-old.result c.requires.same _ _ _ c.copy-set.ensures.same c.get.ensures c.swap-old.ensures.new c.swap-old.ensures.old c.store.ensures.stores) c.requires.room c.store.ensures.stores
 
 pub returns-clause-old : goal.returns-clause-old
 returns-clause-old g c = old_copy _ _ _ _ c.requires.sound c.requires.stands c.requires.takes c.alter.ensures.alters c.args.i c.swap-old.result c.requires.same _ _ c.copy-set.ensures.same c.get.ensures c.swap-old.ensures.old
