@@ -9,6 +9,7 @@ mod Descend
 mod Readied
 mod Only
 mod Paths
+mod Leaving
 mod Removal
 mod RemoveBelow
 mod Taking

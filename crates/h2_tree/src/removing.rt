@@ -1,8 +1,8 @@
-ghost use Rattle.std.specs.Prelude.{◌≡◌, ◌<◌, ◌≤◌, ◌⊎◌, true, false, ℕ, List, Some, slice_get, length, IfOk, IfErr, IfSome, IfNone, OnOk, OnErr};
+ghost use Rattle.std.specs.Prelude.{◌≡◌, ◌<◌, ◌≤◌, ◌⊎◌, true, false, ℕ, List, Some, None, slice_get, length, IfOk, IfErr, IfSome, IfNone, OnOk, OnErr};
 ghost use Rattle.h2_ref.specs.declared.reference.Ref.{Ref};
 ghost use Rattle.h2_set.specs.Ranges.{at_key, is_indirect};
-ghost use Rattle.h2_set.specs.Forest.{Forest, refs, IsSound, Walks, HasCause, LeavesOf, KeepsBeside};
-ghost use Rattle.h2_tree.specs.Changes.{IsFree, LeadsOnly, Removes, TakesOut, PathUnloaded};
+ghost use Rattle.h2_set.specs.Forest.{Forest, refs, IsSound, Walks, HasCause, LeavesOf, Reaches, KeepsBeside};
+ghost use Rattle.h2_tree.specs.Changes.{IsFree, LeadsOnly, Removes, KeepsPaths, TakesOut, PathUnloaded};
 
 use h2_ref::{Ref, Trouble};
 use h2_set::{NodeId, Sets, is_indirect};
@@ -103,6 +103,8 @@ pub fn remove<N: Sets>(
     ensures answer { IfOk result (λ o. (l : List Ref) → LeavesOf (N.forest n.old) root.0 l → o ≡ at_key key l) }
     ensures removes { IfOk result (λ o. IfSome o (Removes (N.forest n.old) (N.forest n.new) root.0)) }
     ensures key { IfOk result (λ o. IfSome o (λ leaf. leaf.key ≡ key)) }
+    ensures paths { IfOk result (λ o. IfSome o (KeepsPaths (N.forest n.old) (N.forest n.new) root.0)) }
+    ensures path { IfOk result (λ o. IfSome o (λ leaf. Reaches (N.forest n.new) leaf.key root.0 None)) }
     ensures absent { IfOk result (λ o. IfNone o (Walks (N.forest n.old) (N.forest n.new))) }
     ensures walks { OnErr result (Walks (N.forest n.old) (N.forest n.new)) }
     ensures err { IfErr result (HasCause (N.forest n.old) (N.forest n.new)) }
