@@ -10,6 +10,7 @@ mod Readied
 mod Only
 mod Paths
 mod Leaving
+mod Touching
 mod Removal
 mod RemoveBelow
 mod Taking
