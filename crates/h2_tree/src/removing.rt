@@ -86,9 +86,11 @@ fn take<N: Sets>(alloc: Global, n: &mut N, at: NodeId, key: u64) -> Result<Taken
     }
 }
 
-/// Takes out the leaf with this key, which is answered; None exactly where there is none, and then nothing has
-/// changed. What the leaf names isn't held, and the room is at least 62. Indirect blocks that become empty go.
-/// Trouble only where a node on the key's path isn't loaded.
+/// Takes out the leaf with this key, which is answered; None exactly where there is none, and then nothing but loads
+/// took place. What the leaf names isn't held, and the room is at least 62; it is lowered by the number of nodes that
+/// are copied. Of the tree nothing goes but indirect blocks that would be left empty: the reference to the uppermost of
+/// them is cut. Paths to other keys stay loaded. Trouble only where a node on the key's path isn't loaded; nothing but
+/// loads took place then.
 pub fn remove<N: Sets>(
     alloc: Global,
     n: &mut N,
