@@ -17,7 +17,7 @@ use Rattle.h2_memory_sets.proofs.Nodes.{settled_of, position_same, get_set, get_
 use Rattle.h2_memory_sets.proofs.Parting.{unlike, alike, fails, none_passes, none_false, position_one, one_of}
 
 -- the parts of what a node that isn't loaded is
-away_parts : (l u e : Bool) → (not l && (u && e)) ≡ true → (l ≡ false) × (u ≡ true) × (e ≡ true)
+pub away_parts : (l u e : Bool) → (not l && (u && e)) ≡ true → (l ≡ false) × (u ≡ true) × (e ≡ true)
 away_parts false true true h = (refl, refl, refl)
 away_parts false true false h = absurd (cc)
 away_parts false false e h = absurd (cc)
@@ -32,7 +32,7 @@ below_fails true true e h = absurd (cc)
 below_fails true false e h = refl
 below_fails false u e h = refl
 
-cond_same : (b : Bool) (l : Link) → cond b l l ≡ l
+pub cond_same : (b : Bool) (l : Link) → cond b l l ≡ l
 cond_same true l = refl
 cond_same false l = refl
 

@@ -9,3 +9,6 @@ pub mod Differing
 pub mod Loading
 pub mod Fitting
 pub mod Bringing
+pub mod Rooted
+pub mod Rooting
+pub mod Unloads
