@@ -49,6 +49,7 @@ module _ (f h : Forest) (at i c : ℕ) (leaf q : Ref) (sound : IsSound f) (stand
         is_leaf = takes.is_leaf;
         allowed = ap (λ z. h.allows z leaf) (child.root ∙ there.place.root) ∙ walks.fixed.allows (f.root at) leaf ∙ takes.allowed;
         aligned = takes.aligned;
+        class = takes.class;
         keybits = bits_are ∙ ap h.leaf_bits (sym child.root);
         low = omega (arith, child.low, inside.0);
         high = rw (child.low, bits_c) top;

@@ -8,7 +8,7 @@ use Rattle.h2_set.specs.RefSet.{RefSet, IsSplitOf, with_rest}
 use Rattle.h2_set.specs.Forest.{Forest, refs, loaded, HasLeaves, LeavesOf, IsSoundNode, IsSound, Stays, Keeps, Alters, MadeFrom, Makes}
 use Rattle.h2_set.specs.StayLaws.{leaves_stay, Fixed-trans, InPlace-trans}
 use Rattle.h2_set.specs.EditLaws.{Rising-put}
-use Rattle.h2_set.specs.ChangeLaws.{Keeps-Stays, Keeps-trans, below_keeps, leaves_put}
+use Rattle.h2_set.specs.ChangeLaws.{Keeps-Stays, Keeps-trans, Same-Keeps, below_keeps, leaves_put}
 use Rattle.h2_set.specs.PartLaws.{Divides, halves, inner_of}
 use Rattle.h2_set.specs.RenewLaws.{Keeps-Renews, Renews-trans, Alike-length}
 use Rattle.h2_set.specs.MadeLaws.{PartsNode, parts_node, put_aligned, put_class}
@@ -32,7 +32,7 @@ module _ (f h g : Forest) (at c : ℕ) (leaf : Ref) (set : RefSet) (s : Split) (
     kept = makes.below_kept;
     keep = λ k d link.
         let child = node.child k d link in
-        below_keeps h g at alters.sound (λ m st root ne. makes.others m st ne) d child.stands child.root child.fewer;
+        below_keeps h g at alters.sound (λ m st root ne. Same-Keeps h g m (makes.others m st ne)) d child.stands child.root child.fewer;
   }
 
   new_refs : refs g at ≡ put makes.ref (with_rest s.rest set.refs)
@@ -60,12 +60,12 @@ module _ (f h g : Forest) (at c : ℕ) (leaf : Ref) (set : RefSet) (s : Split) (
         tree = λ m st root out.
             let k = alters.tree m st root in
             let ne : m ≡ at → ⊥ = λ e. out (subst (λ z. Under f z at) (sym e) (record { low = omega arith; high = omega arith })) in
-            Keeps-trans f h g m k (makes.others m k.place.stands ne);
+            Keeps-trans f h g m k (Same-Keeps h g m (makes.others m k.place.stands ne));
         above = λ m st root.
             let k = alters.above m st root in
             let ne : m ≡ at → ⊥ = λ e. root (ap f.root e) in
-            Renews-trans f h g m k (Keeps-Renews h g m (makes.others m k.place.stands ne));
-        still = all_still f h g at alters makes.place makes.others;
+            Renews-trans f h g m k (Keeps-Renews h g m (Same-Keeps h g m (makes.others m k.place.stands ne)));
+        still = all_still f h g at alters makes.place (λ m st ne. Same-Keeps h g m (makes.others m st ne));
         room = (let slope = (sound.node at stands).slope in omega (arith, enough, slope, parting.fewer, here.place.bits, alters.room, makes.room));
         spare = omega (arith, alters.spare, makes.spare);
       }

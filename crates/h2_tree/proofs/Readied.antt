@@ -5,7 +5,7 @@ use Rattle.h2_ref.specs.declared.reference.Ref.{Ref}
 use Rattle.h2_set.specs.Ranges.{NoneHolds}
 use Rattle.h2_set.specs.RefSet.{RefSet, IsRefSet}
 use Rattle.h2_set.specs.Forest.{Forest, refs, IsSound, ReadiesOnly}
-use Rattle.h2_set.specs.StayLaws.{Fixed-trans, InPlace-trans, Readies-walks, Walks-leaves}
+use Rattle.h2_set.specs.StayLaws.{Fixed-trans, InPlace-trans, Readies-leaves}
 use Rattle.h2_set.specs.ChangeLaws.{Same-Keeps, Keeps-trans}
 use Rattle.h2_set.specs.RenewLaws.{Keeps-Renews, Renews-trans}
 use Rattle.h2_tree.specs.Changes.{Takes, Inserts}
@@ -18,6 +18,7 @@ module _ (f h : Forest) (at : ℕ) (leaf : Ref) (stands : f.stands at ≡ true) 
         is_leaf = takes.is_leaf;
         allowed = ap (λ z. h.allows z leaf) place.root ∙ ready.fixed.allows (f.root at) leaf ∙ takes.allowed;
         aligned = takes.aligned;
+        class = takes.class;
         keybits = takes.keybits ∙ sym (ready.fixed.leaf_bits (f.root at)) ∙ ap h.leaf_bits (sym place.root);
         low = omega (arith, takes.low, place.low);
         high = rw (place.low, place.bits) takes.high;
@@ -34,7 +35,7 @@ module _ (f h : Forest) (at : ℕ) (leaf : Ref) (stands : f.stands at ≡ true) 
         sound = ins.sound;
         fixed = Fixed-trans f h g ready.fixed ins.fixed;
         place = InPlace-trans f h g at place ins.place;
-        leaves = λ l hl. ins.leaves l (Walks-leaves f h sound (Readies-walks f h ready) at stands l hl);
+        leaves = λ l hl. ins.leaves l (Readies-leaves f h sound ready at stands l hl);
         tree = λ m st root out.
             let k = keeps m st in
             Keeps-trans f h g m k (ins.tree m k.place.stands (k.place.root ∙ root ∙ sym place.root) (λ u. out (record { low = omega (arith, u.low, place.low, k.place.low); high = omega (arith, u.high, place.low, k.place.low, ap (λ z. 2 ^ z) place.bits, ap (λ z. 2 ^ z) k.place.bits) })));

@@ -28,6 +28,7 @@ leaf_fits f h at leaf stands takes alters =
     let here = alters.tree at stands refl in
     record {
       aligned = takes.aligned;
+      class = takes.class;
       leaf = λ _. takes.keybits ∙ sym (alters.fixed.leaf_bits (f.root at)) ∙ ap h.leaf_bits (sym here.place.root);
       allowed = λ _. ap (λ z. h.allows z leaf) here.place.root ∙ alters.fixed.allows (f.root at) leaf ∙ takes.allowed;
       wide = λ ind. let clash : false ≡ true = sym takes.is_leaf ∙ ind in cc;

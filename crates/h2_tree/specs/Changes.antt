@@ -1,5 +1,5 @@
 -- What inserting and removing a leaf do to a forest.
-use Rattle.std.specs.Prelude.{◌≡◌, ℕ, ◌+◌, ◌^◌, ◌≤◌, ◌&&◌, nat_le, Bool, true, false, List, Option, Some, None, slice_get, length}
+use Rattle.std.specs.Prelude.{◌≡◌, ℕ, ◌+◌, ◌^◌, ◌<◌, ◌≤◌, ◌⊎◌, ◌&&◌, nat_le, Bool, true, false, List, Option, Some, None, slice_get, length}
 use Rattle.h2_ref.specs.declared.reference.Ref.{Ref}
 use Rattle.h2_set.specs.Ranges.{limit, put, without, at_key, is_indirect, IsAligned}
 use Rattle.h2_tree.specs.declared.removing.Taken.{Taken}
@@ -16,6 +16,8 @@ pub record Takes (f : Forest) (at : ℕ) (leaf : Ref) : Type 0 where
   pub is_leaf : is_indirect leaf ≡ false
   pub allowed : f.allows (f.root at) leaf ≡ true
   pub aligned : IsAligned leaf
+  -- its key is below 2^62 or at least 2^63, as all keys of a tree are
+  pub class : (leaf.key < 2 ^ 62) ⊎ (2 ^ 63 ≤ leaf.key)
   pub keybits : leaf.keybits ≡ f.leaf_bits (f.root at)
   pub low : f.low at ≤ leaf.key
   pub high : limit leaf ≤ f.low at + 2 ^ f.bits at

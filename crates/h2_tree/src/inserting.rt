@@ -7,6 +7,7 @@ ghost use Rattle.h2_tree.specs.Changes.{Takes, Inserts, PathUnloaded};
 use h2_num::NoMemory;
 use h2_ref::{Ref, Trouble};
 use h2_set::{NodeId, PutAnswer, Sets, is_indirect};
+use std::alloc::Global;
 
 // Puts a leaf in place of one with the same range.
 fn replace<N: Sets>(n: &mut N, at: NodeId, i: usize, leaf: Ref) -> Ref
@@ -68,7 +69,7 @@ fn part<N: Sets>(n: &mut N, at: NodeId, leaf: Ref)
 }
 
 // Adds a leaf to the set of a node in which no range holds its key.
-fn add<N: Sets>(n: &mut N, at: NodeId, leaf: Ref) -> Result<(), NoMemory>
+fn add<N: Sets>(alloc: Global, n: &mut N, at: NodeId, leaf: Ref) -> Result<(), NoMemory>
     requires sound { IsSound (N.forest n.old) }
     requires stands { let f = N.forest n.old in f.stands at.0 ≡ true }
     requires room { let f = N.forest n.old in 63 ≤ f.room }
@@ -81,7 +82,7 @@ fn add<N: Sets>(n: &mut N, at: NodeId, leaf: Ref) -> Result<(), NoMemory>
     ensures later { N.later n.old n.new }
 {
     if n.get(at).is_full() {
-        n.ready(1)?;
+        n.ready(alloc, 1)?;
         part(n, at, leaf);
         return Ok(());
     }
@@ -92,7 +93,12 @@ fn add<N: Sets>(n: &mut N, at: NodeId, leaf: Ref) -> Result<(), NoMemory>
 /// Adds a leaf to the tree, or puts it in place of the one with its range, which is answered; None exactly where
 /// there is none. The room is at least 63. Trouble only where a node on the path of its key isn't loaded, or no
 /// node is spare.
-pub fn insert<N: Sets>(n: &mut N, root: NodeId, leaf: Ref) -> Result<Option<Ref>, Trouble>
+pub fn insert<N: Sets>(
+    alloc: Global,
+    n: &mut N,
+    root: NodeId,
+    leaf: Ref,
+) -> Result<Option<Ref>, Trouble>
     requires sound { IsSound (N.forest n.old) }
     requires stands { let f = N.forest n.old in f.stands root.0 ≡ true }
     requires room { let f = N.forest n.old in 63 ≤ f.room }
@@ -107,7 +113,7 @@ pub fn insert<N: Sets>(n: &mut N, root: NodeId, leaf: Ref) -> Result<Option<Ref>
 {
     let set = n.get(root);
     let Some(i) = set.find(leaf.key) else {
-        return match add(n, root, leaf) {
+        return match add(alloc, n, root, leaf) {
             Ok(()) => Ok(None),
             Err(NoMemory) => Err(Trouble::NoMemory),
         };
@@ -115,6 +121,6 @@ pub fn insert<N: Sets>(n: &mut N, root: NodeId, leaf: Ref) -> Result<Option<Ref>
     if !is_indirect(set.at(i)) {
         return Ok(Some(replace(n, root, i, leaf)));
     }
-    let child = n.child(root, i)?;
-    insert(n, child, leaf)
+    let child = n.child(alloc, root, i)?;
+    insert(alloc, n, child, leaf)
 }
