@@ -17,12 +17,13 @@ use Rattle.h2_set.specs.SplitLaws.{lies_in}
 use Rattle.h2_set.specs.MadeLaws.{put_rising, put_fits, PartsNode, parts_node}
 use Rattle.h2_memory_sets.specs.View.{names}
 use Rattle.h2_memory_sets.proofs.Lists.{names_below, below_names, filter_from, filter_keeps, put_there, Rising-within}
-use Rattle.h2_memory_sets.proofs.Settled.{Settled, fits_in, child_in, placed, same_node, same_keeps}
+use Rattle.h2_memory_sets.proofs.Settled.{Settled, fits_in, child_in, placed, same_node, same_all}
 
 -- Two forests of which the second has one node more, with what lay in the range of a split below node at.
 pub record DiffersByMake (f g : Forest) (at c : ℕ) (set : RefSet) (s : Split) (ref : Ref) : Type 0 where
   pub settled : Settled f g
   pub fresh : f.stands c ≡ false
+  pub under : f.root at ≡ c → ⊥
   pub new : g.stands c ≡ true
   pub stands : (m : ℕ) → (m ≡ c → ⊥) → g.stands m ≡ true → f.stands m ≡ true
   pub root : g.root c ≡ f.root at
@@ -312,6 +313,7 @@ module _ (f : Forest) (at : ℕ) (set : RefSet) (s : Split) (ref leaf : Ref) (so
     ref_fits : Fits g at ref
     ref_fits = fits_in f g d.settled at ref stands (record {
       aligned = rw (key_is, bits_is) made.split.half.aligned;
+      class = rw key_is parts.class;
       leaf = λ miss. let clash : true ≡ false = sym is_ind ∙ miss in absurd (cc);
       allowed = λ miss. let clash : true ≡ false = sym is_ind ∙ miss in absurd (cc);
       wide = λ _. let w = parts.wide in rw bits_is (omega (arith, w));
@@ -337,6 +339,7 @@ module _ (f : Forest) (at : ℕ) (set : RefSet) (s : Split) (ref leaf : Ref) (so
               within = rw (p.low, d.low, p.bits, d.bits) parts.range_high;
               fewer = rw (p.bits, d.bits) parts.fewer;
               copies = rw (d.settled.copies c, d.settled.copies at, d.settled.writable c, d.settled.uncopied c, d.settled.uncopied at, d.settled.all_writable c) refl;
+              belongs = λ t j. d.settled.none_belong c t j ∙ sym (d.settled.none_belong at t j);
             }
 
     here_named : (k e : ℕ) → g.link at k ≡ loaded e → NamesBelow (put ref (filter (λ q. not (lies s.key s.keybits q)) (put leaf (refs f at)))) k
@@ -393,6 +396,7 @@ module _ (f : Forest) (at : ℕ) (set : RefSet) (s : Split) (ref leaf : Ref) (so
         let grain : g.leaf_bits (g.root c) ≡ f.leaf_bits (f.root at) = ap g.leaf_bits d.root ∙ d.settled.fixed.leaf_bits (f.root at) in
         record {
           aligned = h.aligned;
+          class = h.class;
           leaf = λ k. h.leaf k ∙ sym grain;
           allowed = λ k. d.settled.fixed.allows (g.root c) q ∙ d.settled.all_allowed (g.root c) q;
           wide = λ k. rw grain (h.wide k);
@@ -439,6 +443,7 @@ module _ (f : Forest) (at : ℕ) (set : RefSet) (s : Split) (ref leaf : Ref) (so
           within = rw (d.low, d.bits, p.low, p.bits, low_is) end';
           fewer = rw (d.bits, p.bits, bits_is) (parts.shorter m.all_place n.ref m.all_read m.lies_there);
           copies = rw (d.settled.copies c, d.settled.copies e, d.settled.writable e, d.settled.uncopied c, d.settled.uncopied e, d.settled.all_writable e) refl;
+          belongs = λ t j. d.settled.none_belong e t j ∙ sym (d.settled.none_belong c t j);
         }
 
     new_named : (k e : ℕ) → g.link c k ≡ loaded e → NamesBelow (filter (lies s.key s.keybits) (put leaf (refs f at))) k
@@ -457,7 +462,6 @@ module _ (f : Forest) (at : ℕ) (set : RefSet) (s : Split) (ref leaf : Ref) (so
 
     new_node : IsSoundNode g c
     new_node =
-        let low = parts.range_low in
         let high = parts.range_high in
         let fewer = parts.fewer in
         let slope = node.slope in
@@ -466,16 +470,13 @@ module _ (f : Forest) (at : ℕ) (set : RefSet) (s : Split) (ref leaf : Ref) (so
           inside = rw (refs_new, d.low, d.bits) inner_rising;
           aligned = rw (d.low, d.bits) made.split.half.aligned;
           ends = rw (d.low, d.bits) (let e = node.ends in omega (arith, high, e));
-          class = rw (d.low, d.bits) (elim node.class as (λ _. (s.key + 2 ^ s.keybits ≤ 2 ^ 62) ⊎ (2 ^ 63 ≤ s.key)) [
-            | inl small ↦ inl (omega (arith, small, high))
-            | inr large ↦ inr (omega (arith, large, low))
-          ]);
           fits = λ i q read. new_fits i q (rw refs_new at read);
           some = λ top. rw (refs_new, inner_length) (let two = parts.two in omega (arith, two));
           child = new_child;
           named = λ k e l. rw refs_new (new_named k e l);
           bits = λ i e q read ind l. new_bits i e q (rw refs_new at read) ind l;
           top = λ _. d.settled.copies c ∙ d.settled.uncopied c;
+          half = λ top. absurd (d.under (sym d.root ∙ top));
           slope = rw (d.settled.copies c, d.settled.uncopied c, d.bits) (omega (arith, fewer, slope));
         }
 
@@ -504,7 +505,12 @@ module _ (f : Forest) (at : ℕ) (set : RefSet) (s : Split) (ref leaf : Ref) (so
       place = d.settled.place at stands;
       below_moved = below;
       below_kept = kept;
-      others = λ m st off. same_keeps f g d.settled m st (d.there m st off) (λ k. d.link m k st off);
+      copies = d.settled.copies at;
+      others = λ m st off. same_all f g d.settled m st (d.there m st off) (λ k. d.link m k st off);
+      none_new = λ m st. elim (same_or_not m c) as (λ _. (m ≡ c) ⊎ (f.stands m ≡ true)) [
+        | inl e ↦ inl e
+        | inr ne ↦ inr (d.stands m ne st)
+      ];
       spare = d.spare;
       room = d.room;
       failed = d.failed;

@@ -22,6 +22,10 @@ top_stands (Some x) h = go x.loaded h
     go true h = refl
     go false h = absurd (cc)
 
+-- the root of a loaded node isn't one that isn't loaded
+pub root_not : (xs : List Node) (at c : ℕ) → AllRooted xs → stands_of (slice_get xs at) ≡ true → stands_of (slice_get xs c) ≡ false → root_of (slice_get xs at) ≡ c → ⊥
+root_not xs at c rooted st fresh e = let clash : true ≡ false = sym (top_stands _ (rooted at st)) ∙ ap (λ z. stands_of (slice_get xs z)) e ∙ fresh in cc
+
 -- where each loaded node has the root of one that was loaded, and tops stay
 pub record HasRootOf (xs ys : List Node) (i : ℕ) : Type 0 where
   pub other : ℕ

@@ -9,7 +9,7 @@ use Rattle.h2_set.specs.ChangeLaws.{same_or_not}
 use Rattle.h2_memory_sets.specs.declared.node.KeyClass.{KeyClass}
 use Rattle.h2_memory_sets.specs.declared.node.KeyClass.TheVariants.{Low, High}
 use Rattle.h2_memory_sets.specs.declared.node.Node.{Node}
-use Rattle.h2_memory_sets.specs.View.{stands_of, set_of, root_of, low_of, bits_of, leaf_bits_of, is_child, is_top, link_of, forest_with, first_key, key_bits, top_node, AllRooted}
+use Rattle.h2_memory_sets.specs.View.{stands_of, set_of, root_of, low_of, bits_of, leaf_bits_of, is_child, is_top, link_of, forest_with, first_key, top_node, AllRooted}
 use Rattle.h2_memory_sets.specs.Roots.{AddsRoot}
 use Rattle.h2_memory_sets.proofs.Parting.{first_push, get_last}
 use Rattle.h2_memory_sets.proofs.Rooted.{get_push}
@@ -24,8 +24,8 @@ pub record Agrees (f g : Forest) (m : ℕ) : Type 0 where
   pub copies : g.copies m ≡ f.copies m
 
 -- a node stays sound where no more is loaded below it
-pub still_sound : (f g : Forest) (m : ℕ) → ((n : ℕ) → f.stands n ≡ true → g.stands n ≡ true → Agrees f g n) → f.stands m ≡ true → g.stands m ≡ true → ((k c : ℕ) → g.link m k ≡ loaded c → (f.link m k ≡ loaded c) × (g.stands c ≡ true)) → g.leaf_bits (f.root m) ≡ f.leaf_bits (f.root m) → ((r : Ref) → g.allows (f.root m) r ≡ true) → IsSoundNode f m → IsSoundNode g m
-still_sound f g m agrees old st links leaf allows node =
+pub still_sound : (f g : Forest) (m : ℕ) → ((n : ℕ) → f.stands n ≡ true → g.stands n ≡ true → Agrees f g n) → f.stands m ≡ true → g.stands m ≡ true → ((k c : ℕ) → g.link m k ≡ loaded c → (f.link m k ≡ loaded c) × (g.stands c ≡ true)) → g.leaf_bits (f.root m) ≡ f.leaf_bits (f.root m) → ((r : Ref) → g.allows (f.root m) r ≡ true) → ((n t j : ℕ) → g.belongs n t j ≡ false) → IsSoundNode f m → IsSoundNode g m
+still_sound f g m agrees old st links leaf allows none node =
     let p = agrees m old st in
     let refs_is : refs g m ≡ refs f m = ap (λ (t : RefSet). t.refs) p.set in
     let grain : g.leaf_bits (g.root m) ≡ f.leaf_bits (f.root m) = ap g.leaf_bits p.root ∙ leaf in
@@ -34,9 +34,9 @@ still_sound f g m agrees old st links leaf allows node =
       inside = rw (refs_is, p.low, p.bits) node.inside;
       aligned = rw (p.low, p.bits) node.aligned;
       ends = rw (p.low, p.bits) node.ends;
-      class = rw (p.low, p.bits) node.class;
       fits = λ i r read. let h = node.fits i r (rw refs_is at read) in record {
         aligned = h.aligned;
+        class = h.class;
         leaf = λ k. h.leaf k ∙ sym grain;
         allowed = λ k. ap (λ n. g.allows n r) p.root ∙ allows r;
         wide = λ k. rw grain (h.wide k);
@@ -56,6 +56,7 @@ still_sound f g m agrees old st links leaf allows node =
             within = rw (p.low, q.low, p.bits, q.bits) h.within;
             fewer = rw (p.bits, q.bits) h.fewer;
             copies = rw (q.copies, p.copies, q.writable) h.copies;
+            belongs = λ t j. none c t j ∙ sym (none m t j);
           };
       named = λ k c at_k. rw refs_is (node.named k c (links k c at_k).0);
       bits = λ i c r read ind at_k.
@@ -63,25 +64,18 @@ still_sound f g m agrees old st links leaf allows node =
           let h = node.child r.key c l.0 in
           (agrees c h.stands l.1).bits ∙ node.bits i c r (rw refs_is at read) ind l.0;
       top = λ top. p.copies ∙ node.top (sym p.root ∙ top);
+      half = λ top. p.bits ∙ node.half (sym p.root ∙ top);
       slope = rw (p.copies, p.bits) node.slope;
     }
 
 -- the range of a tree
-keys_aligned : (keys : KeyClass) → first_key keys % 2 ^ key_bits keys ≡ 0
+keys_aligned : (keys : KeyClass) → first_key keys % 2 ^ 63 ≡ 0
 keys_aligned Low = refl
 keys_aligned High = refl
 
-keys_end : (keys : KeyClass) → first_key keys + 2 ^ key_bits keys ≤ 2 ^ 64
+keys_end : (keys : KeyClass) → first_key keys + 2 ^ 63 ≤ 2 ^ 64
 keys_end Low = omega arith
 keys_end High = omega arith
-
-keys_class : (keys : KeyClass) → (first_key keys + 2 ^ key_bits keys ≤ 2 ^ 62) ⊎ (2 ^ 63 ≤ first_key keys)
-keys_class Low = inl (omega arith)
-keys_class High = inr (omega arith)
-
-keys_slope : (keys : KeyClass) → 0 + key_bits keys ≤ 63
-keys_slope Low = omega arith
-keys_slope High = omega arith
 
 module _ (xs : List Node) (keys : KeyClass) (leaf_bits spare epoch room failed bad : ℕ) where
   abbrev new : Node
@@ -140,14 +134,14 @@ module _ (xs : List Node) (keys : KeyClass) (leaf_bits spare epoch room failed b
         inside = rw (refs_here, low, bits) (omega arith);
         aligned = rw (low, bits) (keys_aligned keys);
         ends = rw (low, bits) (keys_end keys);
-        class = rw (low, bits) (keys_class keys);
         fits = λ i r read. absurd (none-some r (rw refs_here at read));
         some = λ top. absurd (top (ap root_of here));
         child = λ k c e. absurd (none_loaded k c e);
         named = λ k c e. absurd (none_loaded k c e);
         bits = λ i c r read ind e. absurd (none_loaded r.key c e);
         top = λ e. refl;
-        slope = rw bits (keys_slope keys);
+        half = λ top. bits;
+        slope = rw bits (omega arith);
       }
 
   old_node : AllRooted xs → IsSound f → (m : ℕ) → stands_of (slice_get xs m) ≡ true → IsSoundNode g m
@@ -160,7 +154,7 @@ module _ (xs : List Node) (keys : KeyClass) (leaf_bits spare epoch room failed b
       st s.place.stands
       (λ k c e. let was = sym (s.link k) ∙ e in (was, (same c (node.child k c was).stands).place.stands))
       (ap leaf_bits_of (get_push xs new (root_of (slice_get xs m)) root_there))
-      (λ r. refl) node
+      (λ r. refl) (λ n t j. refl) node
 
   pub adds_root : AllRooted xs → IsSound f → AddsRoot (forest_with xs spare epoch room failed bad) (forest_with (xs ++ top_node (length xs) keys leaf_bits ∷ []) spare epoch room failed bad) (length xs) keys leaf_bits
   adds_root rooted sound = record {

@@ -163,7 +163,7 @@ module _ (xs : List Node) (from spare epoch room failed bad : ℕ) where
             | inr ge ↦ let clash : untold ≡ loaded c = sym (link_from m k ge) ∙ e in absurd (cc)
           ])
           (field leaf_bits_of (λ x. refl) (root_of (slice_get xs m)))
-          (λ r. refl) node;
+          (λ r. refl) (λ n t j. refl) node;
       held = λ m held. absurd (cc);
     };
     fixed = record { leaf_bits = field leaf_bits_of (λ x. refl); allows = λ m r. refl; held = λ m. refl; name = λ r. refl; epoch = refl; failed = omega arith; bad = omega arith };

@@ -4,7 +4,7 @@ use Rattle.h2_ref.specs.declared.reference.Ref.{Ref}
 use Rattle.h2_set.specs.RefSet.{RefSet}
 use Rattle.h2_set.specs.Forest.{Forest, loaded, untold, IsSound, Fixed, InPlace, Same}
 use Rattle.h2_memory_sets.specs.declared.node.KeyClass.{KeyClass}
-use Rattle.h2_memory_sets.specs.View.{first_key, key_bits}
+use Rattle.h2_memory_sets.specs.View.{first_key}
 
 -- c is the root of a tree with these keys, and with leaves of these keybits
 pub record IsTreeRoot (f : Forest) (c : ℕ) (keys : KeyClass) (grain : ℕ) : Type 0 where
@@ -12,7 +12,7 @@ pub record IsTreeRoot (f : Forest) (c : ℕ) (keys : KeyClass) (grain : ℕ) : T
   pub stands : f.stands c ≡ true
   pub root : f.root c ≡ c
   pub low : f.low c ≡ first_key keys
-  pub bits : f.bits c ≡ key_bits keys
+  pub bits : f.bits c ≡ 63
   pub leaf_bits : f.leaf_bits c ≡ grain
 
 -- nothing has changed but that the root c is new, with an empty set of capacity 4

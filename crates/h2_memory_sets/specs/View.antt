@@ -1,5 +1,5 @@
 -- The forest that a vector of nodes is.
-use Rattle.std.specs.Prelude.{◌≡◌, ℕ, ◌≤◌, ◌<◌, not, Bool, true, false, ◌&&◌, ◌==◌, if◌then◌else◌, List, [], ◌∷◌, ◌++◌, length, Option, Some, None, slice_get, slice_set, map, nat_lt, ◌||◌, ◌^◌}
+use Rattle.std.specs.Prelude.{◌≡◌, ℕ, ◌≤◌, ◌<◌, ◌⊎◌, not, Bool, true, false, ◌&&◌, ◌==◌, if◌then◌else◌, List, [], ◌∷◌, ◌++◌, length, Option, Some, None, slice_get, slice_set, map, nat_lt, ◌||◌, ◌^◌}
 use Rattle.std.specs.List.{position}
 use Rattle.h2_ref.specs.declared.reference.Ref.{Ref}
 use Rattle.h2_set.specs.Ranges.{limit, holds, is_indirect, IsAligned}
@@ -116,6 +116,7 @@ pub record FitsBelow (top : Ref) (leaf_bits : ℕ) (r : Ref) : Type 0 where
   pub low : top.key ≤ r.key
   pub high : limit r ≤ limit top
   pub aligned : IsAligned r
+  pub class : (r.key < 2 ^ 62) ⊎ (2 ^ 63 ≤ r.key)
   pub fewer : r.keybits < top.keybits
   pub leaf : is_indirect r ≡ false → r.keybits ≡ leaf_bits
   pub wide : is_indirect r ≡ true → leaf_bits ≤ r.keybits
@@ -140,18 +141,14 @@ pub record IsLoadable (xs : List Node) (at : ℕ) (r : Ref) (c : ℕ) : Type 0 w
 abbrev pub brought : ℕ → ℕ → Node → Node
 brought root bits x = record { set = x.set; loaded = true; up = x.up; root = root; low = x.low; bits = bits; leaf_bits = x.leaf_bits }
 
--- the first key of a tree, and the base-2 logarithm of the length of its range
+-- the first key of a tree's range, which is one half of all keys
 abbrev pub first_key : KeyClass → ℕ
 first_key Low = 0
 first_key High = 2 ^ 63
 
-abbrev pub key_bits : KeyClass → ℕ
-key_bits Low = 62
-key_bits High = 63
-
 -- the root of a tree, at this place of the vector
 abbrev pub top_node : ℕ → KeyClass → ℕ → Node
-top_node n keys leaf_bits = record { set = record { refs = []; capacity = 4 }; loaded = true; up = None; root = n; low = first_key keys; bits = key_bits keys; leaf_bits = leaf_bits }
+top_node n keys leaf_bits = record { set = record { refs = []; capacity = 4 }; loaded = true; up = None; root = n; low = first_key keys; bits = 63; leaf_bits = leaf_bits }
 
 -- whether nothing is above
 abbrev pub is_bare : Option ℕ → Bool

@@ -1,4 +1,4 @@
-ghost use Rattle.std.specs.Prelude.{◌≡◌, ◌<◌, ◌≤◌, ◌^◌, ◌-◌, ◌↔◌, true, false, IsTrue, IfSome, IfNone, length, slice_get};
+ghost use Rattle.std.specs.Prelude.{◌≡◌, ◌<◌, ◌≤◌, ◌^◌, ◌-◌, ◌↔◌, ◌⊎◌, true, false, IsTrue, IfSome, IfNone, length, slice_get};
 ghost use Rattle.h2_set.specs.Ranges.{limit, is_indirect, IsAligned};
 ghost use Rattle.h2_memory_sets.specs.View.{leaf_bits_of, brought, FitsBelow, AllFitBelow, IsLoadable};
 
@@ -48,6 +48,16 @@ fn is_aligned(r: &Ref) -> bool
     r.key % range_length(r.keybits) == 0
 }
 
+// Whether a tree may have the key: one below 2^62, or of at least 2^63.
+fn is_classed(key: u64) -> bool
+    ensures { IsTrue result → (key < 2 ^ 62) ⊎ (2 ^ 63 ≤ key) }
+{
+    if key < 1 << 62 {
+        return true;
+    }
+    key >= 1 << 63
+}
+
 // Whether a reference has keybits that it may have in a tree with leaves of these keybits.
 fn is_sized(r: &Ref, leaf_bits: u8) -> bool
     ensures leaf { IsTrue result → is_indirect r.now ≡ false → r.now.keybits ≡ leaf_bits }
@@ -71,6 +81,9 @@ fn fits_below(r: &Ref, top: &Ref, leaf_bits: u8) -> bool
         return false;
     }
     if !is_aligned(r) {
+        return false;
+    }
+    if !is_classed(r.key) {
         return false;
     }
     is_sized(r, leaf_bits)

@@ -1,4 +1,4 @@
-ghost use Rattle.std.specs.Prelude.{◌≡◌, ◌<◌, ◌≤◌, ◌^◌, ◌⊎◌, ◌+◌, ◌%◌, length, take, IfOk, IfSome};
+ghost use Rattle.std.specs.Prelude.{◌≡◌, ◌<◌, ◌≤◌, ◌^◌, ◌⊎◌, ◌+◌, ◌%◌, length, take, IfOk, IfSome, IfNone};
 ghost use Rattle.h2_num.specs.Causes.{Rose};
 ghost use Rattle.std.specs.Vec.{vec_len, vec_capacity};
 ghost use Rattle.h2_memory_sets.specs.View.{AllRooted};
@@ -123,7 +123,8 @@ fn one_more(count: u64) -> u64
 
 // The name that an entry of a directory has in itself; None where there is none.
 fn inline_name(alloc: Global, entry: Dirent) -> Result<Option<Bytes>, NoMemory>
-    ensures { IfOk result (λ o. IfSome o (λ b. b ≡ take entry.len entry.name)) }
+    ensures some { IfOk result (λ o. IfSome o (λ b. b ≡ take entry.len entry.name)) }
+    ensures none { IfOk result (λ o. IfNone o (64 < entry.len)) }
 {
     let all = entry.name.as_slice();
     if entry.len as usize > all.len() {
@@ -158,7 +159,8 @@ impl Sets for MemorySets {
         self.epoch
     }
 
-    fn child(&mut self, at: NodeId, i: usize) -> Result<NodeId, Trouble> {
+    fn child(&mut self, alloc: Global, at: NodeId, i: usize) -> Result<NodeId, Trouble> {
+        let _ = alloc;
         let r = *self.nodes[at.0 as usize].set.at(i);
         if let Some(c) = find_child(&self.nodes, at.0, r.key) {
             return Ok(NodeId(c as u32));
@@ -179,7 +181,8 @@ impl Sets for MemorySets {
         Ok(NodeId(c as u32))
     }
 
-    fn ready(&mut self, n: u32) -> Result<(), NoMemory> {
+    fn ready(&mut self, alloc: Global, n: u32) -> Result<(), NoMemory> {
+        let _ = alloc;
         if n <= self.spare {
             return Ok(());
         }

@@ -1,7 +1,7 @@
 //! Roots of trees, without anything below them yet.
 ghost use Rattle.std.specs.Prelude.{◌≡◌, ◌<◌, ◌≤◌, ◌^◌, ◌+◌, ◌++◌, ◌∷◌, [], length};
 ghost use Rattle.std.specs.Vec.{vec_len, vec_capacity};
-ghost use Rattle.h2_memory_sets.specs.View.{top_node, first_key, key_bits};
+ghost use Rattle.h2_memory_sets.specs.View.{top_node, first_key};
 
 use crate::node::{KeyClass, Node};
 use h2_set::Set;
@@ -9,23 +9,16 @@ use h2_set::Set;
 /// How many references the set of a root has room for.
 const ROOT_CAPACITY: u8 = 4;
 
-// The first key of a tree.
+/// The base-2 logarithm of how many keys the range of a root has: one half of all.
+const ROOT_BITS: u8 = 63;
+
+// The first key of a tree's range.
 fn first_key(keys: KeyClass) -> u64
     ensures { result ≡ first_key keys }
 {
     match keys {
         KeyClass::Low => 0,
         KeyClass::High => 0x8000_0000_0000_0000,
-    }
-}
-
-// The base-2 logarithm of how many keys a tree may have.
-fn key_bits(keys: KeyClass) -> u8
-    ensures { result ≡ key_bits keys }
-{
-    match keys {
-        KeyClass::Low => 62,
-        KeyClass::High => 63,
     }
 }
 
@@ -45,7 +38,7 @@ pub(crate) fn add_top(nodes: &mut Vec<Node>, keys: KeyClass, leaf_bits: u8) -> u
         up: None,
         root: c,
         low: first_key(keys),
-        bits: key_bits(keys),
+        bits: ROOT_BITS,
         leaf_bits,
     };
     match nodes.push(node) {

@@ -2,12 +2,12 @@ use Rattle.std.proofs.Common.{◌≡◌, Some, None, slice_set, refl, sym, ap, �
 use Rattle.std.specs.List.{position}
 use Rattle.std.proofs.lemmas.Option.{slice_get_read}
 use Rattle.h2_ref.specs.declared.reference.Ref.{Ref}
-use Rattle.h2_set.specs.StayLaws.{Walks-refl}
+use Rattle.h2_set.specs.StayLaws.{Walks-refl, Unchanged-walks}
 use Rattle.h2_set.specs.Forest.{Loads, loaded}
 use Rattle.h2_memory_sets.specs.View.{forest_with, is_child, link_of}
-use Rattle.h2_memory_sets.proofs.Nodes.{counts_walk_nodes, is_there}
-use Rattle.h2_memory_sets.proofs.Bringing.{ref_there, ref_same, loads_nothing, not_loaded, is_loaded, loadable_in, loadable_within, brings}
-use Rattle.h2_memory_sets.proofs.Rooted.{rooted_bring}
+use Rattle.h2_memory_sets.proofs.Nodes.{unchanged_nodes, is_there}
+use Rattle.h2_memory_sets.proofs.Bringing.{ref_there, ref_same, loads_nothing, not_loaded, is_loaded, loadable_in, loadable_within, loadable_away, brings}
+use Rattle.h2_memory_sets.proofs.Rooted.{rooted_bring, root_not}
 use Rattle.h2_memory_sets.proofs.memory.MemorySetsSets.child.Goals as goal
 
 pub returns-in-Some-clause-walks : goal.returns-in-Some-clause-walks
@@ -27,7 +27,7 @@ returns-in-Some-clause-loads c = λ r read. let p = c.args.self.now in loads_not
 pub returns-then-is_due-clause-walks : goal.returns-then-is_due-clause-walks
 returns-then-is_due-clause-walks c =
     let p = c.args.self.now in
-    counts_walk_nodes p.nodes.items p.spare p.epoch p.room p.failed c.one_more-self.result p.bad p.bad c.one_more-self.ensures.more (omega arith) c.requires.sound
+    Unchanged-walks _ _ (unchanged_nodes p.nodes.items p.spare p.epoch p.room p.failed c.one_more-self.result p.bad p.bad c.one_more-self.ensures.more (omega arith) c.requires.sound)
 
 pub returns-then-is_due-clause-loads : goal.returns-then-is_due-clause-loads
 returns-then-is_due-clause-loads c = λ r read. let p = c.args.self.now in loads_nothing p.nodes.items p.spare p.epoch p.room p.failed c.one_more-self.result p.bad p.bad _ _
@@ -46,7 +46,7 @@ find_unspoiled-requires-clause-there c = rw c.deref-2.ensures.value (is_there _ 
 pub returns-in_default-find_unspoiled-clause-walks : goal.returns-in_default-find_unspoiled-clause-walks
 returns-in_default-find_unspoiled-clause-walks c =
     let p = c.args.self.now in
-    counts_walk_nodes p.nodes.items p.spare p.epoch p.room p.failed p.failed p.bad c.one_more-self-in_default-find_unspoiled.result (omega arith) c.one_more-self-in_default-find_unspoiled.ensures.more c.requires.sound
+    Unchanged-walks _ _ (unchanged_nodes p.nodes.items p.spare p.epoch p.room p.failed p.failed p.bad c.one_more-self-in_default-find_unspoiled.result (omega arith) c.one_more-self-in_default-find_unspoiled.ensures.more c.requires.sound)
 
 pub returns-in_default-find_unspoiled-clause-loads : goal.returns-in_default-find_unspoiled-clause-loads
 returns-in_default-find_unspoiled-clause-loads c = λ r read. let p = c.args.self.now in loads_nothing p.nodes.items p.spare p.epoch p.room p.failed p.failed p.bad c.one_more-self-in_default-find_unspoiled.result _ _
@@ -90,7 +90,7 @@ returns-clause-walks c =
     let y = slice_get_read xs _ k c.index_mut.result.now refl (loadable_within xs at k q l) c.index_mut.ensures.value in
     let none = ap (position (is_child at q.key)) (sym c.deref.ensures.value) ∙ sym c.find_child.ensures ∙ c.in_default.is in
     let read' = ref_there xs at c.args.i c.index.result.now q node c.at.ensures in
-    let b = brings xs p.spare p.epoch p.room p.failed p.bad at c.args.i k q c.index-2.result.now c.index_mut.result.now c.bring_in.new.x c.requires.sound c.requires.stands l none read' (c.requires.indirect.indirect q read') node' y c.bring_in.ensures in
+    let b = brings xs p.spare p.epoch p.room p.failed p.bad at c.args.i k q c.index-2.result.now c.index_mut.result.now c.bring_in.new.x c.requires.sound c.requires.stands l none (root_not xs at k p.rooted c.requires.stands (loadable_away xs at k q l)) read' (c.requires.indirect.indirect q read') node' y c.bring_in.ensures in
     b.walked
 
 pub returns-clause-ok : goal.returns-clause-ok
@@ -107,7 +107,7 @@ returns-clause-ok c = λ r read.
     let y = slice_get_read xs _ k c.index_mut.result.now refl (loadable_within xs at k q l) c.index_mut.ensures.value in
     let none = ap (position (is_child at q.key)) (sym c.deref.ensures.value) ∙ sym c.find_child.ensures ∙ c.in_default.is in
     let read' = ref_there xs at c.args.i c.index.result.now q node c.at.ensures in
-    let b = brings xs p.spare p.epoch p.room p.failed p.bad at c.args.i k q c.index-2.result.now c.index_mut.result.now c.bring_in.new.x c.requires.sound c.requires.stands l none read' (c.requires.indirect.indirect q read') node' y c.bring_in.ensures in
+    let b = brings xs p.spare p.epoch p.room p.failed p.bad at c.args.i k q c.index-2.result.now c.index_mut.result.now c.bring_in.new.x c.requires.sound c.requires.stands l none (root_not xs at k p.rooted c.requires.stands (loadable_away xs at k q l)) read' (c.requires.indirect.indirect q read') node' y c.bring_in.ensures in
     subst (λ (z : Ref). link_of (slice_set xs k c.bring_in.new.x) at z.key ≡ loaded k) (ref_same xs at c.args.i c.index.result.now q node c.at.ensures r read) b.link
 
 pub returns-clause-loads : goal.returns-clause-loads
@@ -124,7 +124,7 @@ returns-clause-loads c = λ r read.
     let y = slice_get_read xs _ k c.index_mut.result.now refl (loadable_within xs at k q l) c.index_mut.ensures.value in
     let none = ap (position (is_child at q.key)) (sym c.deref.ensures.value) ∙ sym c.find_child.ensures ∙ c.in_default.is in
     let read' = ref_there xs at c.args.i c.index.result.now q node c.at.ensures in
-    let b = brings xs p.spare p.epoch p.room p.failed p.bad at c.args.i k q c.index-2.result.now c.index_mut.result.now c.bring_in.new.x c.requires.sound c.requires.stands l none read' (c.requires.indirect.indirect q read') node' y c.bring_in.ensures in
+    let b = brings xs p.spare p.epoch p.room p.failed p.bad at c.args.i k q c.index-2.result.now c.index_mut.result.now c.bring_in.new.x c.requires.sound c.requires.stands l none (root_not xs at k p.rooted c.requires.stands (loadable_away xs at k q l)) read' (c.requires.indirect.indirect q read') node' y c.bring_in.ensures in
     subst (λ (z : Ref). Loads (forest_with xs p.spare p.epoch p.room p.failed p.bad) (forest_with (slice_set xs k c.bring_in.new.x) p.spare p.epoch p.room p.failed p.bad) at z.key) (ref_same xs at c.args.i c.index.result.now q node c.at.ensures r read) b.loaded_there
 
 pub invariant_of-self-2-clause-rooted : goal.invariant_of-self-2-clause-rooted
@@ -139,3 +139,13 @@ invariant_of-self-2-clause-rooted c =
     let l = loadable_in _ xs at k q c.deref-2.ensures.value c.in-Some-find_unspoiled.ensures.found in
     let y = slice_get_read xs _ k c.index_mut.result.now refl (loadable_within xs at k q l) c.index_mut.ensures.value in
     rooted_bring xs at k q c.index-2.result.now c.index_mut.result.now c.bring_in.new.x p.rooted c.requires.stands l node' y c.bring_in.ensures
+
+pub returns-then-is_due-clause-same : goal.returns-then-is_due-clause-same
+returns-then-is_due-clause-same c =
+    let p = c.args.self.now in
+    unchanged_nodes p.nodes.items p.spare p.epoch p.room p.failed c.one_more-self.result p.bad p.bad c.one_more-self.ensures.more (omega arith) c.requires.sound
+
+pub returns-in_default-find_unspoiled-clause-same : goal.returns-in_default-find_unspoiled-clause-same
+returns-in_default-find_unspoiled-clause-same c =
+    let p = c.args.self.now in
+    unchanged_nodes p.nodes.items p.spare p.epoch p.room p.failed p.failed p.bad c.one_more-self-in_default-find_unspoiled.result (omega arith) c.one_more-self-in_default-find_unspoiled.ensures.more c.requires.sound
