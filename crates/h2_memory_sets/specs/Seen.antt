@@ -12,9 +12,13 @@ forest_of p = forest_with p.nodes.items p.spare p.epoch p.room p.failed p.bad
 abbrev pub blocks_of : MemorySets → List Block
 blocks_of p = map block p.nodes.items
 
--- which load from now on the disk fails, and which meets a bad block: 1 for the next, 0 for none
+-- which load from now on the disk fails, which meets a bad block, and which call for spare nodes is refused:
+-- 1 for the next, 0 for none
 abbrev pub failing_load : MemorySets → ℕ
 failing_load p = p.fault
 
 abbrev pub spoiled_load : MemorySets → ℕ
 spoiled_load p = p.spoiled
+
+abbrev pub refused_spare : MemorySets → ℕ
+refused_spare p = p.refused

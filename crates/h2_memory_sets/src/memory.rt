@@ -27,6 +27,8 @@ pub struct MemorySets {
     pub(crate) fault: u64,
     /// Which load from now on meets a bad block, counted likewise.
     pub(crate) spoiled: u64,
+    /// Which call for spare nodes from now on is refused, counted likewise.
+    pub(crate) refused: u64,
     /// Faults of the disk, and bad blocks that were met.
     pub(crate) failed: u64,
     pub(crate) bad: u64,
@@ -38,7 +40,7 @@ pub struct MemorySets {
 impl MemorySets {
     ghost use Rattle.std.specs.Prelude.{OnErr};
     ghost use Rattle.h2_set.specs.Forest.{IsSound};
-    ghost use Rattle.h2_memory_sets.specs.Seen.{forest_of, blocks_of, failing_load, spoiled_load};
+    ghost use Rattle.h2_memory_sets.specs.Seen.{forest_of, blocks_of, failing_load, spoiled_load, refused_spare};
     ghost use Rattle.h2_memory_sets.specs.Roots.{AddsRoot, Unloads};
 
     /// A forest with no node, in which this number of blocks can be taken.
@@ -53,6 +55,7 @@ impl MemorySets {
             room,
             fault: 0,
             spoiled: 0,
+            refused: 0,
             failed: 0,
             bad: 0,
         }
@@ -65,11 +68,11 @@ impl MemorySets {
         self.room
     }
 
-    /// Makes this the number of blocks that can be taken.
-    pub fn set_room(&mut self, room: u64)
-        ensures { forest_of self.new ≡ record (forest_of self.old) { room = room } }
+    /// How many nodes can be made without taking memory.
+    pub fn spare(&self) -> u32
+        ensures { let f = forest_of self.now in result ≡ f.spare }
     {
-        self.room = room;
+        self.spare
     }
 
     /// Lets the disk fail this load from now on: 1 for the next. It fails none where it is 0.
@@ -86,6 +89,15 @@ impl MemorySets {
         ensures due { spoiled_load self.new ≡ which }
     {
         self.spoiled = which;
+    }
+
+    /// Lets this call from now on for spare nodes be refused, of those that take memory: 1 for the next. None is
+    /// where it is 0.
+    pub fn refuse_spare(&mut self, which: u64)
+        ensures same { forest_of self.new ≡ forest_of self.old }
+        ensures due { refused_spare self.new ≡ which }
+    {
+        self.refused = which;
     }
 
     /// Adds the root of a tree: a node with an empty set of capacity 4. After a refusal nothing has changed.
@@ -185,6 +197,9 @@ impl Sets for MemorySets {
         let _ = alloc;
         if n <= self.spare {
             return Ok(());
+        }
+        if is_due(&mut self.refused) {
+            return Err(NoMemory);
         }
         if self.nodes.len() > (u32::MAX - n) as usize {
             return Err(NoMemory);
