@@ -2,7 +2,9 @@ pub mod Lists
 pub mod Settled
 pub mod Storing
 pub mod Nodes
+pub mod Made
 pub mod Making
+pub mod Sides
 pub mod Putting
 pub mod Parting
 pub mod Differing

@@ -1,14 +1,13 @@
 -- A node that takes over a part of another.
-use Rattle.std.proofs.Common.{◌≡◌, ℕ, ◌+◌, ◌<◌, ◌≤◌, ◌^◌, Bool, true, false, arith, refl, cond, sym, ◌∙◌, ap, List, [], ◌∷◌, length, Some, subst, ◌⊎◌, inl, inr, slice_get, suc}
+use Rattle.std.proofs.Common.{◌≡◌, ℕ, ◌+◌, ◌<◌, ◌≤◌, ◌^◌, true, false, arith, refl, cond, sym, ◌∙◌, ap, List, length, Some, subst, ◌⊎◌, inl, inr, slice_get, suc}
 use Rattle.std.specs.Prelude.{filter, not, count_by}
-use Rattle.std.proofs.lemmas.Bool.{cases_lt}
 use Rattle.std.proofs.lemmas.Nat.{pow_pos}
-use Rattle.std.proofs.lemmas.List.Sums.{length-filter, sum_by-cons}
+use Rattle.std.proofs.lemmas.List.Sums.{length-filter}
 use Rattle.h2_ref.specs.declared.reference.Ref.{Ref}
 use Rattle.h2_set.specs.declared.set.Split.{Split}
-use Rattle.h2_set.specs.Ranges.{Rising, limit, put, lies, is_indirect, IsApart, Apart, Sides}
+use Rattle.h2_set.specs.Ranges.{Rising, limit, put, lies, is_indirect, IsApart, Apart}
 use Rattle.h2_set.specs.RefSet.{RefSet, IsRefSet, with_rest}
-use Rattle.h2_set.specs.Forest.{Forest, refs, Link, loaded, untold, IsSound, IsSoundNode, IsChild, NamesBelow, Fits, MadeFrom, Makes}
+use Rattle.h2_set.specs.Forest.{Forest, refs, loaded, untold, IsSound, IsSoundNode, IsChild, NamesBelow, Fits, MadeFrom, Makes}
 use Rattle.h2_set.specs.ChangeLaws.{same_or_not}
 use Rattle.h2_set.specs.LeafLaws.{Rising-low}
 use Rattle.h2_set.specs.EditLaws.{Rising-put, length-put}
@@ -17,96 +16,9 @@ use Rattle.h2_set.specs.SplitLaws.{lies_in}
 use Rattle.h2_set.specs.MadeLaws.{put_rising, put_fits, PartsNode, parts_node}
 use Rattle.h2_memory_sets.specs.View.{names}
 use Rattle.h2_memory_sets.proofs.Lists.{names_below, below_names, filter_from, filter_keeps, put_there, Rising-within}
-use Rattle.h2_memory_sets.proofs.Settled.{Settled, fits_in, child_in, placed, same_node, same_all}
-
--- Two forests of which the second has one node more, with what lay in the range of a split below node at.
-pub record DiffersByMake (f g : Forest) (at c : ℕ) (set : RefSet) (s : Split) (ref : Ref) : Type 0 where
-  pub settled : Settled f g
-  pub fresh : f.stands c ≡ false
-  pub under : f.root at ≡ c → ⊥
-  pub new : g.stands c ≡ true
-  pub stands : (m : ℕ) → (m ≡ c → ⊥) → g.stands m ≡ true → f.stands m ≡ true
-  pub root : g.root c ≡ f.root at
-  pub low : g.low c ≡ s.key
-  pub bits : g.bits c ≡ s.keybits
-  pub moved : g.set c ≡ s.moved
-  pub now : g.set at ≡ record { refs = put ref (with_rest s.rest set.refs); capacity = set.capacity }
-  pub there : (m : ℕ) → f.stands m ≡ true → (m ≡ at → ⊥) → g.set m ≡ f.set m
-  pub link : (m k : ℕ) → f.stands m ≡ true → (m ≡ at → ⊥) → g.link m k ≡ f.link m k
-  -- what is below a key of node at, where its set names the key
-  pub before : ℕ → Link
-  pub before_is : (k : ℕ) → f.link at k ≡ cond (names (refs f at) k) (before k) untold
-  pub after_here : (k : ℕ) → (k < s.key) ⊎ (s.key + 2 ^ s.keybits ≤ k) → g.link at k ≡ cond (names (refs g at) k) (before k) untold
-  pub after_start : g.link at s.key ≡ cond (names (refs g at) s.key) (loaded c) untold
-  pub after_new : (k : ℕ) → s.key ≤ k → k < s.key + 2 ^ s.keybits → g.link c k ≡ cond (names (refs g c) k) (before k) untold
-  -- nothing else is loaded below the two
-  pub only : (k d : ℕ) → (k ≡ s.key → ⊥) → s.key ≤ k → k < s.key + 2 ^ s.keybits → g.link at k ≡ loaded d → ⊥
-  pub only_below : (k d : ℕ) → (k < s.key) ⊎ (s.key + 2 ^ s.keybits ≤ k) → g.link c k ≡ loaded d → ⊥
-  pub spare : g.spare + 1 ≡ f.spare
-  pub room : g.room + 1 ≡ f.room
-  pub failed : g.failed ≡ f.failed
-  pub bad : g.bad ≡ f.bad
-
-same_bool : (a b : Bool) → (a ≡ true → b ≡ true) → (b ≡ true → a ≡ true) → a ≡ b
-same_bool true b to from = sym (to refl)
-same_bool false true to from = from refl
-same_bool false false to from = refl
-
--- where a key lies to a range
-data Lies (key bits k : ℕ) : Type 0 where
-  at_start : k ≡ key → Lies key bits k
-  in_range : (k ≡ key → ⊥) → key ≤ k → k < key + 2 ^ bits → Lies key bits k
-  outside : (k < key) ⊎ (key + 2 ^ bits ≤ k) → Lies key bits k
-
-where_lies : (key bits k : ℕ) → Lies key bits k
-where_lies key bits k = elim (cases_lt k key) as (λ _. Lies key bits k) [
-  | inl lt ↦ outside (inl lt)
-  | inr ge ↦ elim (cases_lt k (key + 2 ^ bits)) as (λ _. Lies key bits k) [
-    | inr past ↦ outside (inr past)
-    | inl within ↦ elim (same_or_not k key) as (λ _. Lies key bits k) [
-      | inl e ↦ at_start e
-      | inr ne ↦ in_range ne ge within
-    ]
-  ]
-]
-
--- a count of the others
-count_not : (p : Ref → Bool) (rs : List Ref) → count_by p rs + count_by (λ q. not (p q)) rs ≡ length rs
-count_not p [] = refl
-count_not p (r ∷ rs) = rw (sum_by-cons, sum_by-cons) (head (p r) (count_not p rs))
-  where
-    head : (b : Bool) → count_by p rs + count_by (λ q. not (p q)) rs ≡ length rs → (cond b 1 0 + count_by p rs) + (cond (not b) 1 0 + count_by (λ q. not (p q)) rs) ≡ suc (length rs)
-    head true e = omega (arith, e)
-    head false e = omega (arith, e)
-
-not_false : (b : Bool) → not b ≡ true → b ≡ false
-not_false true e = absurd (cc)
-not_false false e = refl
-
--- a reference that doesn't lie in the range is apart from it
-off_range : (key bits : ℕ) (q : Ref) → Sides key bits q → lies key bits q ≡ false → (limit q ≤ key) ⊎ (key + 2 ^ bits ≤ q.key)
-off_range key bits q (inl e) miss = let e2 : lies key bits q ≡ true = e in let e3 : lies key bits q ≡ false = miss in absurd (cc)
-off_range key bits q (inr out) miss = out
-
--- one whose key is in the range lies in it
-on_range : (key bits : ℕ) (q : Ref) → Sides key bits q → key ≤ q.key → q.key < key + 2 ^ bits → lies key bits q ≡ true
-on_range key bits q (inl e) lo hi = e
-on_range key bits q (inr (inl before)) lo hi = let pos = pow_pos q.keybits in absurd (omega (arith, before, lo, pos))
-on_range key bits q (inr (inr after)) lo hi = absurd (omega (arith, after, hi))
-
--- a key before or behind the range, of a reference that is apart from it
-off_key : (key bits : ℕ) (q : Ref) → (limit q ≤ key) ⊎ (key + 2 ^ bits ≤ q.key) → (q.key < key) ⊎ (key + 2 ^ bits ≤ q.key)
-off_key key bits q (inl before) = let pos = pow_pos q.keybits in inl (omega (arith, before, pos))
-off_key key bits q (inr after) = inr after
-
-off_lies : (key bits : ℕ) (q : Ref) → (q.key < key) ⊎ (key + 2 ^ bits ≤ q.key) → (b : Bool) → lies key bits q ≡ b → b ≡ false
-off_lies key bits q out false e = refl
-off_lies key bits q (inl before) true e = let it = lies_in key bits q e in absurd (omega (arith, before, it.0))
-off_lies key bits q (inr after) true e = let it = lies_in key bits q e in let pos = pow_pos q.keybits in absurd (omega (arith, after, it.1, pos))
-
-Rising-wide : (low high high' : ℕ) (rs : List Ref) → high ≤ high' → Rising low high rs → Rising low high' rs
-Rising-wide low high high' [] le h = omega (arith, le, h)
-Rising-wide low high high' (r ∷ rs) le h = (h.0, Rising-wide (limit r) high high' rs le h.1)
+use Rattle.h2_memory_sets.proofs.Settled.{fits_in, child_in, placed, same_node, same_all}
+use Rattle.h2_memory_sets.proofs.Made.{DiffersByMake}
+use Rattle.h2_memory_sets.proofs.Sides.{at_start, in_range, outside, same_bool, where_lies, count_not, not_false, off_range, on_range, off_key, off_lies, Rising-wide}
 
 module _ (f : Forest) (at : ℕ) (set : RefSet) (s : Split) (ref leaf : Ref) (sound : IsSound f) (stands : f.stands at ≡ true) (made : MadeFrom f at leaf set s) (is_ind : is_indirect ref ≡ true) (key_is : ref.key ≡ s.key) (bits_is : ref.keybits ≡ s.keybits) where
   node : IsSoundNode f at

@@ -1,7 +1,6 @@
 -- What adding a root, giving room and unloading do to a forest.
-use Rattle.std.specs.Prelude.{◌≡◌, ℕ, ◌+◌, ◌≤◌, ◌<◌, ◌⊎◌, Bool, true, false, [], List}
+use Rattle.std.specs.Prelude.{◌≡◌, ℕ, ◌≤◌, ◌<◌, ◌⊎◌, true, false, []}
 use Rattle.h2_ref.specs.declared.reference.Ref.{Ref}
-use Rattle.h2_set.specs.RefSet.{RefSet}
 use Rattle.h2_set.specs.Forest.{Forest, loaded, untold, IsSound, Fixed, InPlace, Same}
 use Rattle.h2_memory_sets.specs.declared.node.KeyClass.{KeyClass}
 use Rattle.h2_memory_sets.specs.View.{first_key}

@@ -1,7 +1,6 @@
-use Rattle.std.proofs.Common.{◌≡◌, List, ◌++◌, length, take, drop, map, sym, ap, ◌∙◌, subst}
-use Rattle.std.proofs.Math.Seq.{take-append_seam}
+use Rattle.std.proofs.Common.{List, map, sym, ap, ◌∙◌, subst}
 use Rattle.h2_memory_sets.specs.declared.node.Node.{Node}
-use Rattle.h2_memory_sets.specs.View.{AllRooted, block, forest_with, unloaded_all}
+use Rattle.h2_memory_sets.specs.View.{AllRooted, block, forest_with}
 use Rattle.h2_memory_sets.specs.Roots.{Unloads}
 use Rattle.h2_memory_sets.proofs.Rooted.{rooted_unload}
 use Rattle.h2_memory_sets.proofs.Unloads.{unloads, blocks_stay, rewritten}
