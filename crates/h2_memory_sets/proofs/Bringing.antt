@@ -17,7 +17,7 @@ use Rattle.h2_memory_sets.proofs.Nodes.{settled_of, position_same, get_set, get_
 use Rattle.h2_memory_sets.proofs.Parting.{unlike, alike, fails, none_passes, none_false, position_one, one_of}
 
 -- the parts of what a node that isn't loaded is
-away_parts : (l u e : Bool) → (not l && (u && e)) ≡ true → (l ≡ false) × (u ≡ true) × (e ≡ true)
+pub away_parts : (l u e : Bool) → (not l && (u && e)) ≡ true → (l ≡ false) × (u ≡ true) × (e ≡ true)
 away_parts false true true h = (refl, refl, refl)
 away_parts false true false h = absurd (cc)
 away_parts false false e h = absurd (cc)
@@ -32,7 +32,7 @@ below_fails true true e h = absurd (cc)
 below_fails true false e h = refl
 below_fails false u e h = refl
 
-cond_same : (b : Bool) (l : Link) → cond b l l ≡ l
+pub cond_same : (b : Bool) (l : Link) → cond b l l ≡ l
 cond_same true l = refl
 cond_same false l = refl
 
@@ -105,10 +105,11 @@ module _ (xs : List Node) (at c : ℕ) (r : Ref) (stands : stands_of (slice_get 
   pub was_untold : link_of xs at r.key ≡ untold
   was_untold = rw none (cond_same _ untold)
 
-  pub differs_by_load : (spare epoch room failed bad : ℕ) (i : ℕ) → slice_get (let s = set_of (slice_get xs at) in s.refs) i ≡ Some r → is_indirect r ≡ true → DiffersByLoad (forest_with xs spare epoch room failed bad) (forest_with (slice_set xs c (brought (root_of (slice_get xs at)) r.keybits l.node)) spare epoch room failed bad) at c r
-  differs_by_load spare epoch room failed bad i read ind = record {
+  pub differs_by_load : (root_of (slice_get xs at) ≡ c → ⊥) → (spare epoch room failed bad : ℕ) (i : ℕ) → slice_get (let s = set_of (slice_get xs at) in s.refs) i ≡ Some r → is_indirect r ≡ true → DiffersByLoad (forest_with xs spare epoch room failed bad) (forest_with (slice_set xs c (brought (root_of (slice_get xs at)) r.keybits l.node)) spare epoch room failed bad) at c r
+  differs_by_load under spare epoch room failed bad i read ind = record {
     settled = settled_of xs ys spare spare epoch room room failed failed bad bad leaf (omega arith) (omega arith) (λ m st. let off = off_c m (not_fresh m st) in (ap stands_of off ∙ st, ap root_of off, ap low_of off, ap bits_of off));
     fresh = fresh;
+    under = under;
     new = ap stands_of at_c;
     stands = λ m ne st. sym (ap stands_of (off_c m ne)) ∙ st;
     root = ap root_of at_c;
@@ -138,6 +139,7 @@ pub loads_nothing : (xs : List Node) (spare epoch room failed failed' bad bad' a
 loads_nothing xs spare epoch room failed failed' bad bad' at k = record {
   keeps = λ m st ne. record { place = record { stands = st; root = refl; low = refl; bits = refl; belongs = λ t j. refl; writable = λ e. refl }; alike = Alike-refl _; link = λ j. refl };
   link = λ j ne. refl;
+  new = λ m st. inl st;
 }
 
 -- where no node was found, none is loaded
@@ -154,6 +156,9 @@ loadable_in _ xs at c r e l = subst (λ (zs : List Node). IsLoadable zs at r c) 
 pub loadable_within : (xs : List Node) (at c : ℕ) (r : Ref) → IsLoadable xs at r c → c < length xs
 loadable_within xs at c r l = slice_get_within xs c l.node l.read
 
+pub loadable_away : (xs : List Node) (at c : ℕ) (r : Ref) → IsLoadable xs at r c → stands_of (slice_get xs c) ≡ false
+loadable_away xs at c r l = ap stands_of l.read ∙ (away_parts l.node.loaded (is_up at l.node.up) (nat_eq l.node.low r.key) l.away).0
+
 -- the node that was written is the one that was loaded
 pub brought_is : (xs : List Node) (at c : ℕ) (r : Ref) (x y z : Node) (l : IsLoadable xs at r c) → slice_get xs at ≡ Some x → slice_get xs c ≡ Some y → z ≡ brought x.root r.keybits y → slice_set xs c (brought (root_of (slice_get xs at)) r.keybits l.node) ≡ slice_set xs c z
 brought_is xs at c r x y z l at_x at_y z_is =
@@ -167,14 +172,14 @@ pub record Brings (f g : Forest) (at c : ℕ) (q : Ref) : Type 0 where
   pub link : g.link at q.key ≡ loaded c
   pub loaded_there : Loads f g at q.key
 
-brings_new : (xs : List Node) (spare epoch room failed bad at i c : ℕ) (q : Ref) → IsSound (forest_with xs spare epoch room failed bad) → stands_of (slice_get xs at) ≡ true → (l : IsLoadable xs at q c) → position (is_child at q.key) xs ≡ None → slice_get (let s = set_of (slice_get xs at) in s.refs) i ≡ Some q → is_indirect q ≡ true → Brings (forest_with xs spare epoch room failed bad) (forest_with (slice_set xs c (brought (root_of (slice_get xs at)) q.keybits l.node)) spare epoch room failed bad) at c q
-brings_new xs spare epoch room failed bad at i c q sound stands l none read ind =
-    let d = differs_by_load xs at c q stands l none spare epoch room failed bad i read ind in
+brings_new : (xs : List Node) (spare epoch room failed bad at i c : ℕ) (q : Ref) → IsSound (forest_with xs spare epoch room failed bad) → stands_of (slice_get xs at) ≡ true → (l : IsLoadable xs at q c) → position (is_child at q.key) xs ≡ None → (root_of (slice_get xs at) ≡ c → ⊥) → slice_get (let s = set_of (slice_get xs at) in s.refs) i ≡ Some q → is_indirect q ≡ true → Brings (forest_with xs spare epoch room failed bad) (forest_with (slice_set xs c (brought (root_of (slice_get xs at)) q.keybits l.node)) spare epoch room failed bad) at c q
+brings_new xs spare epoch room failed bad at i c q sound stands l none under read ind =
+    let d = differs_by_load xs at c q stands l none under spare epoch room failed bad i read ind in
     record {
       walked = walks _ _ at c i q d sound stands read ind;
       link = d.child;
       loaded_there = loads _ _ at c i q d sound stands read ind;
     }
 
-pub brings : (xs : List Node) (spare epoch room failed bad at i c : ℕ) (q : Ref) (x y z : Node) → IsSound (forest_with xs spare epoch room failed bad) → stands_of (slice_get xs at) ≡ true → IsLoadable xs at q c → position (is_child at q.key) xs ≡ None → slice_get (let s = set_of (slice_get xs at) in s.refs) i ≡ Some q → is_indirect q ≡ true → slice_get xs at ≡ Some x → slice_get xs c ≡ Some y → z ≡ brought x.root q.keybits y → Brings (forest_with xs spare epoch room failed bad) (forest_with (slice_set xs c z) spare epoch room failed bad) at c q
-brings xs spare epoch room failed bad at i c q x y z sound stands l none read ind at_x at_y z_is = subst (λ (zs : List Node). Brings (forest_with xs spare epoch room failed bad) (forest_with zs spare epoch room failed bad) at c q) (brought_is xs at c q x y z l at_x at_y z_is) (brings_new xs spare epoch room failed bad at i c q sound stands l none read ind)
+pub brings : (xs : List Node) (spare epoch room failed bad at i c : ℕ) (q : Ref) (x y z : Node) → IsSound (forest_with xs spare epoch room failed bad) → stands_of (slice_get xs at) ≡ true → IsLoadable xs at q c → position (is_child at q.key) xs ≡ None → (root_of (slice_get xs at) ≡ c → ⊥) → slice_get (let s = set_of (slice_get xs at) in s.refs) i ≡ Some q → is_indirect q ≡ true → slice_get xs at ≡ Some x → slice_get xs c ≡ Some y → z ≡ brought x.root q.keybits y → Brings (forest_with xs spare epoch room failed bad) (forest_with (slice_set xs c z) spare epoch room failed bad) at c q
+brings xs spare epoch room failed bad at i c q x y z sound stands l none under read ind at_x at_y z_is = subst (λ (zs : List Node). Brings (forest_with xs spare epoch room failed bad) (forest_with zs spare epoch room failed bad) at c q) (brought_is xs at c q x y z l at_x at_y z_is) (brings_new xs spare epoch room failed bad at i c q sound stands l none under read ind)

@@ -13,7 +13,7 @@ use Rattle.h2_set.specs.LeafLaws.{outside_holds}
 use Rattle.h2_set.specs.ChangeLaws.{same_or_not}
 use Rattle.h2_memory_sets.specs.declared.node.Node.{Node}
 use Rattle.h2_memory_sets.specs.View.{stands_of, set_of, root_of, low_of, bits_of, leaf_bits_of, is_child, link_to, moved, moved_all, with_set, new_node, parted, forest_with}
-use Rattle.h2_memory_sets.proofs.Making.{DiffersByMake}
+use Rattle.h2_memory_sets.proofs.Made.{DiffersByMake}
 use Rattle.h2_memory_sets.proofs.Nodes.{settled_of, is_there}
 use Rattle.h2_memory_sets.proofs.Parting.{unlike, alike, up_other, up_at_out, up_c_out, up_at_in, up_c_in, tests, fails, first_push, first_none, none_passes, item_at, front_length, at_new, at_here, at_other, field, front_same, front_none}
 
@@ -112,10 +112,11 @@ module _ (xs : List Node) (at : ℕ) (x : Node) (set : RefSet) (s : Split) (ref 
     | inl e ↦ subst (λ z. leaf_bits_of (slice_get ys z) ≡ leaf_bits_of (slice_get xs z)) (sym e) (ap leaf_bits_of (at_new xs at x kept s.moved ref read) ∙ ap leaf_bits_of (sym (slice_get_past xs (length xs) (omega arith))))
   ]
 
-  pub differs_by_make : (spare spare' epoch room room' failed bad : ℕ) → spare' + 1 ≡ spare → room' + 1 ≡ room → DiffersByMake (forest_with xs spare epoch room failed bad) (forest_with (parted xs at x (record { refs = put ref (with_rest s.rest set.refs); capacity = set.capacity }) s.moved ref) spare' epoch room' failed bad) at (length xs) set s ref
-  differs_by_make spare spare' epoch room room' failed bad spare_is room_is = record {
+  pub differs_by_make : (root_of (slice_get xs at) ≡ length xs → ⊥) → (spare spare' epoch room room' failed bad : ℕ) → spare' + 1 ≡ spare → room' + 1 ≡ room → DiffersByMake (forest_with xs spare epoch room failed bad) (forest_with (parted xs at x (record { refs = put ref (with_rest s.rest set.refs); capacity = set.capacity }) s.moved ref) spare' epoch room' failed bad) at (length xs) set s ref
+  differs_by_make under spare spare' epoch room room' failed bad spare_is room_is = record {
     settled = settled_of xs ys spare spare' epoch room room' failed failed bad bad leaf (omega arith) (omega arith) (λ m st. let ne = not_fresh m st in (stays stands_of (λ y. refl) refl m ne ∙ st, stays root_of (λ y. refl) refl m ne, stays low_of (λ y. refl) refl m ne, stays bits_of (λ y. refl) refl m ne));
     fresh = fresh;
+    under = under;
     new = ap stands_of (at_new xs at x kept s.moved ref read);
     stands = λ m ne st. sym (stays stands_of (λ y. refl) refl m ne) ∙ st;
     root = ap root_of (at_new xs at x kept s.moved ref read) ∙ ap root_of (sym read);

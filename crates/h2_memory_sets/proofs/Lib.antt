@@ -2,10 +2,15 @@ pub mod Lists
 pub mod Settled
 pub mod Storing
 pub mod Nodes
+pub mod Made
 pub mod Making
+pub mod Sides
 pub mod Putting
 pub mod Parting
 pub mod Differing
 pub mod Loading
 pub mod Fitting
 pub mod Bringing
+pub mod Rooted
+pub mod Rooting
+pub mod Unloads

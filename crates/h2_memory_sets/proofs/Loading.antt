@@ -16,6 +16,7 @@ use Rattle.h2_memory_sets.proofs.Settled.{Settled, fits_in, child_in, placed, sa
 pub record DiffersByLoad (f g : Forest) (at c : ℕ) (r : Ref) : Type 0 where
   pub settled : Settled f g
   pub fresh : f.stands c ≡ false
+  pub under : f.root at ≡ c → ⊥
   pub new : g.stands c ≡ true
   pub stands : (m : ℕ) → (m ≡ c → ⊥) → g.stands m ≡ true → f.stands m ≡ true
   pub root : g.root c ≡ f.root at
@@ -70,6 +71,7 @@ module _ (f g : Forest) (at c i : ℕ) (r : Ref) (d : DiffersByLoad f g at c r) 
         within = rw (p.low, d.low, p.bits, d.bits) ends;
         fewer = rw (p.bits, d.bits) (fits.falls ind);
         copies = rw (d.settled.copies c, d.settled.copies at, d.settled.writable c, d.settled.uncopied c, d.settled.uncopied at, d.settled.all_writable c) refl;
+        belongs = λ t k. d.settled.none_belong c t k ∙ sym (d.settled.none_belong at t k);
       }
 
   here_child : (k e : ℕ) → g.link at k ≡ loaded e → IsChild g at k e
@@ -118,6 +120,7 @@ module _ (f g : Forest) (at c i : ℕ) (r : Ref) (d : DiffersByLoad f g at c r) 
       let grain : g.leaf_bits (g.root c) ≡ f.leaf_bits (f.root at) = ap g.leaf_bits d.root ∙ d.settled.fixed.leaf_bits (f.root at) in
       record {
         aligned = h.aligned;
+        class = h.class;
         leaf = λ k. h.leaf k ∙ sym grain;
         allowed = λ k. d.settled.fixed.allows (g.root c) q ∙ d.settled.all_allowed (g.root c) q;
         wide = λ k. rw grain (h.wide k);
@@ -130,23 +133,19 @@ module _ (f g : Forest) (at c i : ℕ) (r : Ref) (d : DiffersByLoad f g at c r) 
       let fewer = fits.falls ind in
       let slope = node.slope in
       let top = node.ends in
-      let start = starts in
       let stop = ends in
       record {
         set = d.set;
         inside = rw (d.low, d.bits) (Rising-between 0 r.key (2 ^ 64) (limit r) (refs g c) d.set.rising (λ j q got. (d.fits.each j q got).low) (λ j q got. (d.fits.each j q got).high) (omega arith));
         aligned = rw (d.low, d.bits) fits.aligned;
         ends = rw (d.low, d.bits) (omega (arith, top, stop));
-        class = rw (d.low, d.bits) (elim node.class as (λ _. (r.key + 2 ^ r.keybits ≤ 2 ^ 62) ⊎ (2 ^ 63 ≤ r.key)) [
-          | inl small ↦ inl (omega (arith, small, stop))
-          | inr large ↦ inr (omega (arith, large, start))
-        ]);
         fits = new_fits;
         some = λ _. d.fits.some;
         child = λ k e l. absurd (d.bare k e l);
         named = λ k e l. absurd (d.bare k e l);
         bits = λ j e q got q_ind l. absurd (d.bare q.key e l);
         top = λ _. d.settled.copies c ∙ d.settled.uncopied c;
+        half = λ top. absurd (d.under (sym d.root ∙ top));
         slope = rw (d.settled.copies c, d.settled.uncopied c, d.bits) (omega (arith, fewer, slope));
       }
 
@@ -168,7 +167,14 @@ module _ (f g : Forest) (at c i : ℕ) (r : Ref) (d : DiffersByLoad f g at c r) 
   }
 
   pub loads : Loads f g at r.key
-  loads = record { keeps = keeps; link = λ j ne. d.link at j stands (λ _ q. ne q) }
+  loads = record {
+    keeps = keeps;
+    link = λ j ne. d.link at j stands (λ _ q. ne q);
+    new = λ m st. elim (same_or_not m c) as (λ _. (f.stands m ≡ true) ⊎ (g.link at r.key ≡ loaded m)) [
+      | inl e ↦ inr (d.child ∙ ap loaded (sym e))
+      | inr ne ↦ inl (d.stands m ne st)
+    ];
+  }
 
   pub walks : Walks f g
   walks = record {
@@ -190,6 +196,6 @@ module _ (f g : Forest) (at c i : ℕ) (r : Ref) (d : DiffersByLoad f g at c r) 
     sets = λ m st. d.there m st;
     writable = λ m st. d.settled.writable m;
     copies = λ m st. d.settled.copies m;
-    spare = (let e = d.spare in omega (arith, e));
+    spare = d.spare;
     room = d.room;
   }

@@ -1,14 +1,13 @@
 -- A node that takes over a part of another.
-use Rattle.std.proofs.Common.{◌≡◌, ℕ, ◌+◌, ◌<◌, ◌≤◌, ◌^◌, Bool, true, false, arith, refl, cond, sym, ◌∙◌, ap, List, [], ◌∷◌, length, Some, subst, ◌⊎◌, inl, inr, slice_get, suc}
+use Rattle.std.proofs.Common.{◌≡◌, ℕ, ◌+◌, ◌<◌, ◌≤◌, ◌^◌, true, false, arith, refl, cond, sym, ◌∙◌, ap, List, length, Some, subst, ◌⊎◌, inl, inr, slice_get, suc}
 use Rattle.std.specs.Prelude.{filter, not, count_by}
-use Rattle.std.proofs.lemmas.Bool.{cases_lt}
 use Rattle.std.proofs.lemmas.Nat.{pow_pos}
-use Rattle.std.proofs.lemmas.List.Sums.{length-filter, sum_by-cons}
+use Rattle.std.proofs.lemmas.List.Sums.{length-filter}
 use Rattle.h2_ref.specs.declared.reference.Ref.{Ref}
 use Rattle.h2_set.specs.declared.set.Split.{Split}
-use Rattle.h2_set.specs.Ranges.{Rising, limit, put, lies, is_indirect, IsApart, Apart, Sides}
+use Rattle.h2_set.specs.Ranges.{Rising, limit, put, lies, is_indirect, IsApart, Apart}
 use Rattle.h2_set.specs.RefSet.{RefSet, IsRefSet, with_rest}
-use Rattle.h2_set.specs.Forest.{Forest, refs, Link, loaded, untold, IsSound, IsSoundNode, IsChild, NamesBelow, Fits, MadeFrom, Makes}
+use Rattle.h2_set.specs.Forest.{Forest, refs, loaded, untold, IsSound, IsSoundNode, IsChild, NamesBelow, Fits, MadeFrom, Makes}
 use Rattle.h2_set.specs.ChangeLaws.{same_or_not}
 use Rattle.h2_set.specs.LeafLaws.{Rising-low}
 use Rattle.h2_set.specs.EditLaws.{Rising-put, length-put}
@@ -17,95 +16,9 @@ use Rattle.h2_set.specs.SplitLaws.{lies_in}
 use Rattle.h2_set.specs.MadeLaws.{put_rising, put_fits, PartsNode, parts_node}
 use Rattle.h2_memory_sets.specs.View.{names}
 use Rattle.h2_memory_sets.proofs.Lists.{names_below, below_names, filter_from, filter_keeps, put_there, Rising-within}
-use Rattle.h2_memory_sets.proofs.Settled.{Settled, fits_in, child_in, placed, same_node, same_keeps}
-
--- Two forests of which the second has one node more, with what lay in the range of a split below node at.
-pub record DiffersByMake (f g : Forest) (at c : ℕ) (set : RefSet) (s : Split) (ref : Ref) : Type 0 where
-  pub settled : Settled f g
-  pub fresh : f.stands c ≡ false
-  pub new : g.stands c ≡ true
-  pub stands : (m : ℕ) → (m ≡ c → ⊥) → g.stands m ≡ true → f.stands m ≡ true
-  pub root : g.root c ≡ f.root at
-  pub low : g.low c ≡ s.key
-  pub bits : g.bits c ≡ s.keybits
-  pub moved : g.set c ≡ s.moved
-  pub now : g.set at ≡ record { refs = put ref (with_rest s.rest set.refs); capacity = set.capacity }
-  pub there : (m : ℕ) → f.stands m ≡ true → (m ≡ at → ⊥) → g.set m ≡ f.set m
-  pub link : (m k : ℕ) → f.stands m ≡ true → (m ≡ at → ⊥) → g.link m k ≡ f.link m k
-  -- what is below a key of node at, where its set names the key
-  pub before : ℕ → Link
-  pub before_is : (k : ℕ) → f.link at k ≡ cond (names (refs f at) k) (before k) untold
-  pub after_here : (k : ℕ) → (k < s.key) ⊎ (s.key + 2 ^ s.keybits ≤ k) → g.link at k ≡ cond (names (refs g at) k) (before k) untold
-  pub after_start : g.link at s.key ≡ cond (names (refs g at) s.key) (loaded c) untold
-  pub after_new : (k : ℕ) → s.key ≤ k → k < s.key + 2 ^ s.keybits → g.link c k ≡ cond (names (refs g c) k) (before k) untold
-  -- nothing else is loaded below the two
-  pub only : (k d : ℕ) → (k ≡ s.key → ⊥) → s.key ≤ k → k < s.key + 2 ^ s.keybits → g.link at k ≡ loaded d → ⊥
-  pub only_below : (k d : ℕ) → (k < s.key) ⊎ (s.key + 2 ^ s.keybits ≤ k) → g.link c k ≡ loaded d → ⊥
-  pub spare : g.spare + 1 ≡ f.spare
-  pub room : g.room + 1 ≡ f.room
-  pub failed : g.failed ≡ f.failed
-  pub bad : g.bad ≡ f.bad
-
-same_bool : (a b : Bool) → (a ≡ true → b ≡ true) → (b ≡ true → a ≡ true) → a ≡ b
-same_bool true b to from = sym (to refl)
-same_bool false true to from = from refl
-same_bool false false to from = refl
-
--- where a key lies to a range
-data Lies (key bits k : ℕ) : Type 0 where
-  at_start : k ≡ key → Lies key bits k
-  in_range : (k ≡ key → ⊥) → key ≤ k → k < key + 2 ^ bits → Lies key bits k
-  outside : (k < key) ⊎ (key + 2 ^ bits ≤ k) → Lies key bits k
-
-where_lies : (key bits k : ℕ) → Lies key bits k
-where_lies key bits k = elim (cases_lt k key) as (λ _. Lies key bits k) [
-  | inl lt ↦ outside (inl lt)
-  | inr ge ↦ elim (cases_lt k (key + 2 ^ bits)) as (λ _. Lies key bits k) [
-    | inr past ↦ outside (inr past)
-    | inl within ↦ elim (same_or_not k key) as (λ _. Lies key bits k) [
-      | inl e ↦ at_start e
-      | inr ne ↦ in_range ne ge within
-    ]
-  ]
-]
-
--- a count of the others
-count_not : (p : Ref → Bool) (rs : List Ref) → count_by p rs + count_by (λ q. not (p q)) rs ≡ length rs
-count_not p [] = refl
-count_not p (r ∷ rs) = rw (sum_by-cons, sum_by-cons) (head (p r) (count_not p rs))
-  where
-    head : (b : Bool) → count_by p rs + count_by (λ q. not (p q)) rs ≡ length rs → (cond b 1 0 + count_by p rs) + (cond (not b) 1 0 + count_by (λ q. not (p q)) rs) ≡ suc (length rs)
-    head true e = omega (arith, e)
-    head false e = omega (arith, e)
-
-not_false : (b : Bool) → not b ≡ true → b ≡ false
-not_false true e = absurd (cc)
-not_false false e = refl
-
--- a reference that doesn't lie in the range is apart from it
-off_range : (key bits : ℕ) (q : Ref) → Sides key bits q → lies key bits q ≡ false → (limit q ≤ key) ⊎ (key + 2 ^ bits ≤ q.key)
-off_range key bits q (inl e) miss = let e2 : lies key bits q ≡ true = e in let e3 : lies key bits q ≡ false = miss in absurd (cc)
-off_range key bits q (inr out) miss = out
-
--- one whose key is in the range lies in it
-on_range : (key bits : ℕ) (q : Ref) → Sides key bits q → key ≤ q.key → q.key < key + 2 ^ bits → lies key bits q ≡ true
-on_range key bits q (inl e) lo hi = e
-on_range key bits q (inr (inl before)) lo hi = let pos = pow_pos q.keybits in absurd (omega (arith, before, lo, pos))
-on_range key bits q (inr (inr after)) lo hi = absurd (omega (arith, after, hi))
-
--- a key before or behind the range, of a reference that is apart from it
-off_key : (key bits : ℕ) (q : Ref) → (limit q ≤ key) ⊎ (key + 2 ^ bits ≤ q.key) → (q.key < key) ⊎ (key + 2 ^ bits ≤ q.key)
-off_key key bits q (inl before) = let pos = pow_pos q.keybits in inl (omega (arith, before, pos))
-off_key key bits q (inr after) = inr after
-
-off_lies : (key bits : ℕ) (q : Ref) → (q.key < key) ⊎ (key + 2 ^ bits ≤ q.key) → (b : Bool) → lies key bits q ≡ b → b ≡ false
-off_lies key bits q out false e = refl
-off_lies key bits q (inl before) true e = let it = lies_in key bits q e in absurd (omega (arith, before, it.0))
-off_lies key bits q (inr after) true e = let it = lies_in key bits q e in let pos = pow_pos q.keybits in absurd (omega (arith, after, it.1, pos))
-
-Rising-wide : (low high high' : ℕ) (rs : List Ref) → high ≤ high' → Rising low high rs → Rising low high' rs
-Rising-wide low high high' [] le h = omega (arith, le, h)
-Rising-wide low high high' (r ∷ rs) le h = (h.0, Rising-wide (limit r) high high' rs le h.1)
+use Rattle.h2_memory_sets.proofs.Settled.{fits_in, child_in, placed, same_node, same_all}
+use Rattle.h2_memory_sets.proofs.Made.{DiffersByMake}
+use Rattle.h2_memory_sets.proofs.Sides.{at_start, in_range, outside, same_bool, where_lies, count_not, not_false, off_range, on_range, off_key, off_lies, Rising-wide}
 
 module _ (f : Forest) (at : ℕ) (set : RefSet) (s : Split) (ref leaf : Ref) (sound : IsSound f) (stands : f.stands at ≡ true) (made : MadeFrom f at leaf set s) (is_ind : is_indirect ref ≡ true) (key_is : ref.key ≡ s.key) (bits_is : ref.keybits ≡ s.keybits) where
   node : IsSoundNode f at
@@ -312,6 +225,7 @@ module _ (f : Forest) (at : ℕ) (set : RefSet) (s : Split) (ref leaf : Ref) (so
     ref_fits : Fits g at ref
     ref_fits = fits_in f g d.settled at ref stands (record {
       aligned = rw (key_is, bits_is) made.split.half.aligned;
+      class = rw key_is parts.class;
       leaf = λ miss. let clash : true ≡ false = sym is_ind ∙ miss in absurd (cc);
       allowed = λ miss. let clash : true ≡ false = sym is_ind ∙ miss in absurd (cc);
       wide = λ _. let w = parts.wide in rw bits_is (omega (arith, w));
@@ -337,6 +251,7 @@ module _ (f : Forest) (at : ℕ) (set : RefSet) (s : Split) (ref leaf : Ref) (so
               within = rw (p.low, d.low, p.bits, d.bits) parts.range_high;
               fewer = rw (p.bits, d.bits) parts.fewer;
               copies = rw (d.settled.copies c, d.settled.copies at, d.settled.writable c, d.settled.uncopied c, d.settled.uncopied at, d.settled.all_writable c) refl;
+              belongs = λ t j. d.settled.none_belong c t j ∙ sym (d.settled.none_belong at t j);
             }
 
     here_named : (k e : ℕ) → g.link at k ≡ loaded e → NamesBelow (put ref (filter (λ q. not (lies s.key s.keybits q)) (put leaf (refs f at)))) k
@@ -393,6 +308,7 @@ module _ (f : Forest) (at : ℕ) (set : RefSet) (s : Split) (ref leaf : Ref) (so
         let grain : g.leaf_bits (g.root c) ≡ f.leaf_bits (f.root at) = ap g.leaf_bits d.root ∙ d.settled.fixed.leaf_bits (f.root at) in
         record {
           aligned = h.aligned;
+          class = h.class;
           leaf = λ k. h.leaf k ∙ sym grain;
           allowed = λ k. d.settled.fixed.allows (g.root c) q ∙ d.settled.all_allowed (g.root c) q;
           wide = λ k. rw grain (h.wide k);
@@ -439,6 +355,7 @@ module _ (f : Forest) (at : ℕ) (set : RefSet) (s : Split) (ref leaf : Ref) (so
           within = rw (d.low, d.bits, p.low, p.bits, low_is) end';
           fewer = rw (d.bits, p.bits, bits_is) (parts.shorter m.all_place n.ref m.all_read m.lies_there);
           copies = rw (d.settled.copies c, d.settled.copies e, d.settled.writable e, d.settled.uncopied c, d.settled.uncopied e, d.settled.all_writable e) refl;
+          belongs = λ t j. d.settled.none_belong e t j ∙ sym (d.settled.none_belong c t j);
         }
 
     new_named : (k e : ℕ) → g.link c k ≡ loaded e → NamesBelow (filter (lies s.key s.keybits) (put leaf (refs f at))) k
@@ -457,7 +374,6 @@ module _ (f : Forest) (at : ℕ) (set : RefSet) (s : Split) (ref leaf : Ref) (so
 
     new_node : IsSoundNode g c
     new_node =
-        let low = parts.range_low in
         let high = parts.range_high in
         let fewer = parts.fewer in
         let slope = node.slope in
@@ -466,16 +382,13 @@ module _ (f : Forest) (at : ℕ) (set : RefSet) (s : Split) (ref leaf : Ref) (so
           inside = rw (refs_new, d.low, d.bits) inner_rising;
           aligned = rw (d.low, d.bits) made.split.half.aligned;
           ends = rw (d.low, d.bits) (let e = node.ends in omega (arith, high, e));
-          class = rw (d.low, d.bits) (elim node.class as (λ _. (s.key + 2 ^ s.keybits ≤ 2 ^ 62) ⊎ (2 ^ 63 ≤ s.key)) [
-            | inl small ↦ inl (omega (arith, small, high))
-            | inr large ↦ inr (omega (arith, large, low))
-          ]);
           fits = λ i q read. new_fits i q (rw refs_new at read);
           some = λ top. rw (refs_new, inner_length) (let two = parts.two in omega (arith, two));
           child = new_child;
           named = λ k e l. rw refs_new (new_named k e l);
           bits = λ i e q read ind l. new_bits i e q (rw refs_new at read) ind l;
           top = λ _. d.settled.copies c ∙ d.settled.uncopied c;
+          half = λ top. absurd (d.under (sym d.root ∙ top));
           slope = rw (d.settled.copies c, d.settled.uncopied c, d.bits) (omega (arith, fewer, slope));
         }
 
@@ -504,7 +417,12 @@ module _ (f : Forest) (at : ℕ) (set : RefSet) (s : Split) (ref leaf : Ref) (so
       place = d.settled.place at stands;
       below_moved = below;
       below_kept = kept;
-      others = λ m st off. same_keeps f g d.settled m st (d.there m st off) (λ k. d.link m k st off);
+      copies = d.settled.copies at;
+      others = λ m st off. same_all f g d.settled m st (d.there m st off) (λ k. d.link m k st off);
+      none_new = λ m st. elim (same_or_not m c) as (λ _. (m ≡ c) ⊎ (f.stands m ≡ true)) [
+        | inl e ↦ inl e
+        | inr ne ↦ inr (d.stands m ne st)
+      ];
       spare = d.spare;
       room = d.room;
       failed = d.failed;

@@ -6,11 +6,11 @@ use Rattle.std.proofs.lemmas.Option.{slice_get_within}
 use Rattle.std.proofs.Math.ListN.{length-set}
 use Rattle.h2_ref.specs.declared.reference.Ref.{Ref}
 use Rattle.h2_set.specs.RefSet.{RefSet}
-use Rattle.h2_set.specs.Forest.{IsSound, ReadiesOnly, Walks}
+use Rattle.h2_set.specs.Forest.{IsSound, ReadiesOnly, Unchanged}
 use Rattle.h2_set.specs.ChangeLaws.{same_or_not}
 use Rattle.h2_memory_sets.specs.declared.node.Node.{Node}
 use Rattle.h2_memory_sets.specs.View.{stands_of, set_of, root_of, low_of, bits_of, leaf_bits_of, is_child, link_to, link_of, with_set, new_node, moved_all, parted, forest_with}
-use Rattle.h2_memory_sets.proofs.Settled.{Settled, readies, counts_walk}
+use Rattle.h2_memory_sets.proofs.Settled.{Settled, readies, counts_rise}
 use Rattle.h2_memory_sets.proofs.Storing.{DiffersByStore}
 
 -- a test that passes at the same places of two lists
@@ -59,6 +59,7 @@ settled_of xs ys spare spare' epoch room room' failed failed' bad bad' leaf more
   all_writable = λ m. refl;
   all_allowed = λ m r. refl;
   none_held = λ m. refl;
+  none_belong = λ m t k. refl;
 }
 
 -- where the nodes are the same and there are more spare ones
@@ -111,5 +112,5 @@ parted_is xs zs items at n x a b kept part r n_is at_x at_a at_b zs_is items_is 
     items_is ∙ ap (λ (l : List Node). l ++ new_node at a part r ∷ []) zs_is ∙ ap (λ (y : Node). moved_all at n r (slice_set xs at (with_set b kept)) ++ new_node at y part r ∷ []) a_is ∙ ap (λ (y : Node). moved_all at n r (slice_set xs at (with_set y kept)) ++ new_node at x part r ∷ []) b_is ∙ ap (λ k. moved_all at k r (slice_set xs at (with_set x kept)) ++ new_node at x part r ∷ []) n_is
 
 -- where faults or bad blocks were met, and nothing else
-pub counts_walk_nodes : (xs : List Node) (spare epoch room failed failed' bad bad' : ℕ) → failed ≤ failed' → bad ≤ bad' → IsSound (forest_with xs spare epoch room failed bad) → Walks (forest_with xs spare epoch room failed bad) (forest_with xs spare epoch room failed' bad')
-counts_walk_nodes xs spare epoch room failed failed' bad bad' more_failed more_bad sound = counts_walk _ _ (settled_of xs xs spare spare epoch room room failed failed' bad bad' (λ m. refl) more_failed more_bad (λ m st. (st, refl, refl, refl))) (λ m. refl) (λ m. refl) (λ m k. refl) refl refl sound
+pub unchanged_nodes : (xs : List Node) (spare epoch room failed failed' bad bad' : ℕ) → failed ≤ failed' → bad ≤ bad' → IsSound (forest_with xs spare epoch room failed bad) → Unchanged (forest_with xs spare epoch room failed bad) (forest_with xs spare epoch room failed' bad')
+unchanged_nodes xs spare epoch room failed failed' bad bad' more_failed more_bad sound = counts_rise _ _ (settled_of xs xs spare spare epoch room room failed failed' bad bad' (λ m. refl) more_failed more_bad (λ m st. (st, refl, refl, refl))) (λ m. refl) (λ m. refl) (λ m k. refl) refl refl sound

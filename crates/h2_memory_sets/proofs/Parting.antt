@@ -174,22 +174,22 @@ position_one p xs c y read yes' others = position_first p xs ∙ go xs c read ot
     go (z ∷ zs) zero read others = let same : z ≡ y = (cc) in rw (same, yes') refl
     go (z ∷ zs) (suc c) read others = rw (others 0 z (λ e. omega (arith, e)) refl) (ap after_one (go zs c read (λ i x ne got. others (suc i) x (λ e. ne (omega (arith, e))) got)))
 
-get_append : {X : Type 0} (xs : List X) (z : X) (i : ℕ) → i < length xs → slice_get (xs ++ z ∷ []) i ≡ slice_get xs i
+pub get_append : {X : Type 0} (xs : List X) (z : X) (i : ℕ) → i < length xs → slice_get (xs ++ z ∷ []) i ≡ slice_get xs i
 get_append [] z i lt = absurd (omega (arith, lt))
 get_append (x ∷ xs) z zero lt = refl
 get_append (x ∷ xs) z (suc i) lt = get_append xs z i (omega arith)
 
-get_last : {X : Type 0} (xs : List X) (z : X) → slice_get (xs ++ z ∷ []) (length xs) ≡ Some z
+pub get_last : {X : Type 0} (xs : List X) (z : X) → slice_get (xs ++ z ∷ []) (length xs) ≡ Some z
 get_last [] z = refl
 get_last (x ∷ xs) z = get_last xs z
 
-get_none : {X : Type 0} (xs : List X) (z : X) (i : ℕ) → (i ≡ length xs → ⊥) → length xs ≤ i → slice_get (xs ++ z ∷ []) i ≡ None
+pub get_none : {X : Type 0} (xs : List X) (z : X) (i : ℕ) → (i ≡ length xs → ⊥) → length xs ≤ i → slice_get (xs ++ z ∷ []) i ≡ None
 get_none [] z zero ne le = absurd (ne refl)
 get_none [] z (suc i) ne le = refl
 get_none (x ∷ xs) z zero ne le = absurd (omega (arith, le))
 get_none (x ∷ xs) z (suc i) ne le = get_none xs z i (λ e. ne (ap suc e)) (omega arith)
 
-get_map : {X Y : Type 0} (f : X → Y) (xs : List X) (i : ℕ) (x : X) → slice_get xs i ≡ Some x → slice_get (map f xs) i ≡ Some (f x)
+pub get_map : {X Y : Type 0} (f : X → Y) (xs : List X) (i : ℕ) (x : X) → slice_get xs i ≡ Some x → slice_get (map f xs) i ≡ Some (f x)
 get_map f [] i x read = absurd (none-some x read)
 get_map f (y ∷ ys) zero x read = let e : y ≡ x = (cc) in ap (λ z. Some (f z)) e
 get_map f (y ∷ ys) (suc i) x read = get_map f ys i x read

@@ -3,9 +3,9 @@ use Rattle.std.proofs.Common.{◌≡◌, ℕ, ◌+◌, ◌<◌, ◌≤◌, ◌^�
 use Rattle.h2_ref.specs.declared.reference.Ref.{Ref}
 use Rattle.h2_set.specs.Ranges.{Rising, is_indirect}
 use Rattle.h2_set.specs.RefSet.{RefSet, IsRefSet}
-use Rattle.h2_set.specs.Forest.{Forest, refs, loaded, IsChild, IsSoundNode, IsSound, Fits, NamesBelow, Fixed, InPlace, Keeps, Same, Alike, Alters, ReadiesOnly, Walks}
+use Rattle.h2_set.specs.Forest.{Forest, refs, loaded, IsChild, IsSoundNode, IsSound, Fits, NamesBelow, Fixed, InPlace, Keeps, Same, Alike, Alters, ReadiesOnly, Unchanged}
 use Rattle.h2_set.specs.StayLaws.{Alike-refl, Fixed-refl}
-use Rattle.h2_set.specs.ChangeLaws.{Keeps-refl, Keeps-Stays}
+use Rattle.h2_set.specs.ChangeLaws.{Keeps-refl}
 use Rattle.h2_set.specs.RenewLaws.{Keeps-Renews}
 
 -- every node that stands stays in its place, and none is copied
@@ -18,6 +18,7 @@ pub record Settled (f g : Forest) : Type 0 where
   pub all_writable : (m : ℕ) → f.writable m ≡ true
   pub all_allowed : (m : ℕ) (r : Ref) → f.allows m r ≡ true
   pub none_held : (m : ℕ) → f.held m ≡ false
+  pub none_belong : (m top k : ℕ) → g.belongs m top k ≡ false
 
 -- what is sound of a node but for its range
 pub record Contents (f g : Forest) (m : ℕ) : Type 0 where
@@ -36,6 +37,7 @@ module _ (f g : Forest) (s : Settled f g) where
       let grain : g.leaf_bits (g.root m) ≡ f.leaf_bits (f.root m) = ap g.leaf_bits p.root ∙ s.fixed.leaf_bits (f.root m) in
       record {
         aligned = h.aligned;
+        class = h.class;
         leaf = λ k. h.leaf k ∙ sym grain;
         allowed = λ k. s.fixed.allows (g.root m) r ∙ s.all_allowed (g.root m) r;
         wide = λ k. rw grain (h.wide k);
@@ -55,6 +57,7 @@ module _ (f g : Forest) (s : Settled f g) where
         within = rw (p.low, q.low, p.bits, q.bits) h.within;
         fewer = rw (p.bits, q.bits) h.fewer;
         copies = rw (s.copies c, s.copies m, s.writable c) h.copies;
+        belongs = λ t k'. s.none_belong c t k' ∙ sym (s.none_belong m t k');
       }
 
   -- a node in its place with sound contents is sound
@@ -66,13 +69,13 @@ module _ (f g : Forest) (s : Settled f g) where
         inside = h.inside;
         aligned = rw (p.low, p.bits) node.aligned;
         ends = rw (p.low, p.bits) node.ends;
-        class = rw (p.low, p.bits) node.class;
         fits = h.fits;
         some = h.some;
         child = h.child;
         named = h.named;
         bits = h.bits;
         top = λ top. s.copies m ∙ s.uncopied m;
+        half = λ top. p.bits ∙ node.half (sym p.root ∙ top);
         slope = rw (s.copies m, p.bits) node.slope;
       }
 
@@ -111,12 +114,17 @@ module _ (f g : Forest) (s : Settled f g) where
   }
 
 -- where all is writable, nothing has to be done
-pub alters_nothing : (f : Forest) (at : ℕ) → IsSound f → f.stands at ≡ true → f.writable at ≡ true → ((m : ℕ) → f.copies m ≡ 0) → Alters f f at
+pub alters_nothing : (f : Forest) (at : ℕ) → IsSound f → f.stands at ≡ true → ((m : ℕ) → f.writable m ≡ true) → ((m : ℕ) → f.copies m ≡ 0) → Alters f f at
 alters_nothing f at sound stands writable copies = record {
   sound = sound;
   fixed = Fixed-refl f;
-  writable = writable;
+  writable = writable at;
+  top = writable (f.root at);
+  made = λ m st above. writable m;
   copies = copies at;
+  exact = λ m i r st read off. read;
+  kept = λ m i c r st read link w. read;
+  others = λ m st off. refl;
   room = omega (arith, copies at);
   tree = λ m st root. Keeps-refl f m st;
   above = λ m st root. Keeps-Renews f f m (Keeps-refl f m st);
@@ -144,17 +152,15 @@ readies f g s stands set link spare room failed bad sound = record {
 }
 
 -- where nothing but the two counts has risen
-pub counts_walk : (f g : Forest) → Settled f g → ((m : ℕ) → g.stands m ≡ f.stands m) → ((m : ℕ) → g.set m ≡ f.set m) → ((m k : ℕ) → g.link m k ≡ f.link m k) → g.spare ≡ f.spare → g.room ≡ f.room → IsSound f → Walks f g
-counts_walk f g s stands set link spare room sound = record {
+pub counts_rise : (f g : Forest) → Settled f g → ((m : ℕ) → g.stands m ≡ f.stands m) → ((m : ℕ) → g.set m ≡ f.set m) → ((m k : ℕ) → g.link m k ≡ f.link m k) → g.spare ≡ f.spare → g.room ≡ f.room → IsSound f → Unchanged f g
+counts_rise f g s stands set link spare room sound = record {
   sound = record {
     node = λ m st. let old = sym (stands m) ∙ st in same_node f g s m old (sound.node m old) (set m) (link m);
     held = λ m held. let miss : g.held m ≡ false = s.fixed.held m ∙ s.none_held m in let clash : true ≡ false = sym held ∙ miss in absurd (cc);
   };
   fixed = s.fixed;
-  stays = λ m st. Keeps-Stays f g m (same_keeps f g s m st (set m) (link m));
-  sets = λ m st. set m;
-  writable = λ m st. s.writable m;
-  copies = λ m st. s.copies m;
-  spare = (let e = spare in omega (arith, e));
+  same = λ m st. same_all f g s m st (set m) (link m);
+  none_new = λ m st. sym (stands m) ∙ st;
+  spare = spare;
   room = room;
 }

@@ -1,12 +1,13 @@
 -- The forest that a vector of nodes is.
-use Rattle.std.specs.Prelude.{◌≡◌, ℕ, ◌≤◌, ◌<◌, not, Bool, true, false, ◌&&◌, ◌==◌, if◌then◌else◌, List, [], ◌∷◌, ◌++◌, length, Option, Some, None, slice_get, slice_set, map}
+use Rattle.std.specs.Prelude.{◌≡◌, ℕ, ◌≤◌, ◌<◌, ◌⊎◌, not, Bool, true, false, ◌&&◌, ◌==◌, if◌then◌else◌, List, [], ◌∷◌, ◌++◌, length, Option, Some, None, slice_get, slice_set, map, nat_lt, ◌||◌, ◌^◌}
 use Rattle.std.specs.List.{position}
 use Rattle.h2_ref.specs.declared.reference.Ref.{Ref}
 use Rattle.h2_set.specs.Ranges.{limit, holds, is_indirect, IsAligned}
 use Rattle.h2_set.specs.RefSet.{RefSet, IsRefSet}
 use Rattle.h2_set.specs.Forest.{Link, loaded, untold, Forest}
 use Rattle.h2_memory_sets.specs.declared.node.Node.{Node}
-use Rattle.h2_memory_sets.specs.declared.memory.MemorySets.{MemorySets}
+use Rattle.h2_memory_sets.specs.declared.node.KeyClass.{KeyClass}
+use Rattle.h2_memory_sets.specs.declared.node.KeyClass.TheVariants.{Low, High}
 
 -- the fields of a node, or what stands for them where there is none
 abbrev pub stands_of : Option Node → Bool
@@ -86,10 +87,6 @@ forest_with xs spare epoch room failed bad = record {
   bad = bad;
 }
 
--- the forest that the value is seen as
-abbrev pub forest_of : MemorySets → Forest
-forest_of p = forest_with p.nodes.items p.spare p.epoch p.room p.failed p.bad
-
 -- what is above a node at key low, once node c has what lay in the range of r below node at
 abbrev pub moved_up : ℕ → ℕ → Ref → ℕ → Option ℕ → Option ℕ
 moved_up at c r low None = None
@@ -119,6 +116,7 @@ pub record FitsBelow (top : Ref) (leaf_bits : ℕ) (r : Ref) : Type 0 where
   pub low : top.key ≤ r.key
   pub high : limit r ≤ limit top
   pub aligned : IsAligned r
+  pub class : (r.key < 2 ^ 62) ⊎ (2 ^ 63 ≤ r.key)
   pub fewer : r.keybits < top.keybits
   pub leaf : is_indirect r ≡ false → r.keybits ≡ leaf_bits
   pub wide : is_indirect r ≡ true → leaf_bits ≤ r.keybits
@@ -142,3 +140,44 @@ pub record IsLoadable (xs : List Node) (at : ℕ) (r : Ref) (c : ℕ) : Type 0 w
 -- a node that was loaded, below one with this root and by a reference with these keybits
 abbrev pub brought : ℕ → ℕ → Node → Node
 brought root bits x = record { set = x.set; loaded = true; up = x.up; root = root; low = x.low; bits = bits; leaf_bits = x.leaf_bits }
+
+-- the first key of a tree's range, which is one half of all keys
+abbrev pub first_key : KeyClass → ℕ
+first_key Low = 0
+first_key High = 2 ^ 63
+
+-- the root of a tree, at this place of the vector
+abbrev pub top_node : ℕ → KeyClass → ℕ → Node
+top_node n keys leaf_bits = record { set = record { refs = []; capacity = 4 }; loaded = true; up = None; root = n; low = first_key keys; bits = 63; leaf_bits = leaf_bits }
+
+-- whether nothing is above
+abbrev pub is_bare : Option ℕ → Bool
+is_bare None = true
+is_bare (Some u) = false
+
+-- whether a node is loaded, and nothing is above it
+abbrev pub is_top : Option Node → Bool
+is_top None = false
+is_top (Some x) = x.loaded && is_bare x.up
+
+-- the root of each loaded node is loaded, and nothing is above it
+abbrev pub AllRooted : List Node → Type 0
+AllRooted xs = (i : ℕ) → stands_of (slice_get xs i) ≡ true → is_top (slice_get xs (root_of (slice_get xs i))) ≡ true
+
+-- whether a node stays loaded where all below roots are unloaded whose range starts at a key or after
+abbrev pub stays_loaded : ℕ → Node → Bool
+stays_loaded from x = x.loaded && (is_bare x.up || nat_lt x.low from)
+
+abbrev pub unloaded : ℕ → Node → Node
+unloaded from x = record { set = x.set; loaded = stays_loaded from x; up = x.up; root = x.root; low = x.low; bits = x.bits; leaf_bits = x.leaf_bits }
+
+abbrev pub unloaded_all : ℕ → List Node → List Node
+unloaded_all from xs = map (unloaded from) xs
+
+-- what the block of a node holds, loaded or not, and its first key
+pub record Block : Type 0 where
+  pub set : RefSet
+  pub low : ℕ
+
+abbrev pub block : Node → Block
+block x = record { set = x.set; low = x.low }

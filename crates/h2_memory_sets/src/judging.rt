@@ -1,4 +1,4 @@
-ghost use Rattle.std.specs.Prelude.{◌≡◌, ◌<◌, ◌≤◌, ◌^◌, true, false, IsTrue, IfSome, length, slice_get};
+ghost use Rattle.std.specs.Prelude.{◌≡◌, ◌<◌, ◌≤◌, ◌^◌, ◌-◌, ◌↔◌, ◌⊎◌, true, false, IsTrue, IfSome, IfNone, length, slice_get};
 ghost use Rattle.h2_set.specs.Ranges.{limit, is_indirect, IsAligned};
 ghost use Rattle.h2_memory_sets.specs.View.{leaf_bits_of, brought, FitsBelow, AllFitBelow, IsLoadable};
 
@@ -48,6 +48,16 @@ fn is_aligned(r: &Ref) -> bool
     r.key % range_length(r.keybits) == 0
 }
 
+// Whether a tree may have the key: one below 2^62, or of at least 2^63.
+fn is_classed(key: u64) -> bool
+    ensures { IsTrue result → (key < 2 ^ 62) ⊎ (2 ^ 63 ≤ key) }
+{
+    if key < 1 << 62 {
+        return true;
+    }
+    key >= 1 << 63
+}
+
 // Whether a reference has keybits that it may have in a tree with leaves of these keybits.
 fn is_sized(r: &Ref, leaf_bits: u8) -> bool
     ensures leaf { IsTrue result → is_indirect r.now ≡ false → r.now.keybits ≡ leaf_bits }
@@ -71,6 +81,9 @@ fn fits_below(r: &Ref, top: &Ref, leaf_bits: u8) -> bool
         return false;
     }
     if !is_aligned(r) {
+        return false;
+    }
+    if !is_classed(r.key) {
         return false;
     }
     is_sized(r, leaf_bits)
@@ -101,9 +114,9 @@ fn leaf_bits_of(nodes: &[Node], root: u32) -> u8
     }
 }
 
-/// The node to which a reference in the set of node `at` leads, where it isn't loaded. None where it isn't one
-/// of its tree.
-pub(crate) fn find_loadable(nodes: &[Node], at: u32, r: &Ref) -> Option<usize>
+// The node to which a reference in the set of node `at` leads, where it isn't loaded. None where it isn't one
+// of its tree.
+fn find_loadable(nodes: &[Node], at: u32, r: &Ref) -> Option<usize>
     requires there { at < length nodes.now }
     requires small { length nodes.now < 2 ^ 32 }
     ensures { IfSome result (IsLoadable nodes.now at r.now) }
@@ -117,6 +130,30 @@ pub(crate) fn find_loadable(nodes: &[Node], at: u32, r: &Ref) -> Option<usize>
         Some(_) => None,
         None => Some(c),
     }
+}
+
+/// Counts a load, and tells whether it is the one that is counted down to.
+pub(crate) fn is_due(left: &mut u64) -> bool
+    ensures due { IsTrue result ↔ (left.old ≡ 1) }
+    ensures counts { left.new ≡ left.old - 1 }
+{
+    let due = *left == 1;
+    *left = left.saturating_sub(1);
+    due
+}
+
+/// The node to which a reference leads, unless this load is the one that meets a bad block.
+pub(crate) fn find_unspoiled(nodes: &[Node], at: u32, r: &Ref, spoiled: &mut u64) -> Option<usize>
+    requires there { at < length nodes.now }
+    requires small { length nodes.now < 2 ^ 32 }
+    ensures found { IfSome result (IsLoadable nodes.now at r.now) }
+    ensures spoiled { spoiled.old ≡ 1 → IfSome result (λ c. ⊥) }
+    ensures counts { spoiled.new ≡ spoiled.old - 1 }
+{
+    if is_due(spoiled) {
+        return None;
+    }
+    find_loadable(nodes, at, r)
 }
 
 /// Loads a node, below one with this root and by a reference with these keybits.

@@ -10,6 +10,9 @@ mod judging;
 mod memory;
 mod moving;
 mod node;
+mod roots;
 mod searching;
+mod unloading;
 
 pub use memory::MemorySets;
+pub use node::KeyClass;

@@ -1,11 +1,14 @@
-ghost use Rattle.std.specs.Prelude.{◌≡◌, ◌<◌, ◌≤◌, ◌^◌, ◌⊎◌, ◌+◌, ◌%◌, length, take, IfOk, IfSome};
+ghost use Rattle.std.specs.Prelude.{◌≡◌, ◌<◌, ◌≤◌, ◌^◌, ◌⊎◌, ◌+◌, ◌%◌, length, take, IfOk, IfSome, IfNone};
 ghost use Rattle.h2_num.specs.Causes.{Rose};
 ghost use Rattle.std.specs.Vec.{vec_len, vec_capacity};
+ghost use Rattle.h2_memory_sets.specs.View.{AllRooted};
 
 use crate::adding::{add_node, new_reference, with_left, with_one};
-use crate::judging::{bring_in, find_loadable};
-use crate::node::Node;
+use crate::judging::{bring_in, find_unspoiled, is_due};
+use crate::node::{KeyClass, Node};
+use crate::roots::add_top;
 use crate::searching::find_child;
+use crate::unloading::unload_all;
 use h2_num::{Bytes, NoMemory};
 use h2_ref::{Dirent, Ref, Trouble, Why};
 use h2_set::{NodeId, Set, Sets, Split};
@@ -20,18 +23,25 @@ pub struct MemorySets {
     pub(crate) epoch: u64,
     /// How many blocks can be taken.
     pub(crate) room: u64,
-    /// Which load from now on fails: 1 for the next. None fails where it is 0.
+    /// Which load from now on the disk fails: 1 for the next. It fails none where it is 0.
     pub(crate) fault: u64,
+    /// Which load from now on meets a bad block, counted likewise.
+    pub(crate) spoiled: u64,
+    /// Which call for spare nodes from now on is refused, counted likewise.
+    pub(crate) refused: u64,
     /// Faults of the disk, and bad blocks that were met.
     pub(crate) failed: u64,
     pub(crate) bad: u64,
     ghost small: { length nodes.items + spare < 2 ^ 32 },
     ghost roomy: { vec_len nodes + spare ≤ vec_capacity nodes },
+    ghost rooted: { AllRooted nodes.items },
 }
 
 impl MemorySets {
+    ghost use Rattle.std.specs.Prelude.{OnErr};
     ghost use Rattle.h2_set.specs.Forest.{IsSound};
-    ghost use Rattle.h2_memory_sets.specs.View.{forest_of};
+    ghost use Rattle.h2_memory_sets.specs.Seen.{forest_of, blocks_of, failing_load, spoiled_load, refused_spare};
+    ghost use Rattle.h2_memory_sets.specs.Roots.{AddsRoot, Unloads};
 
     /// A forest with no node, in which this number of blocks can be taken.
     pub fn new(alloc: Global, epoch: u64, room: u64) -> MemorySets
@@ -44,6 +54,8 @@ impl MemorySets {
             epoch,
             room,
             fault: 0,
+            spoiled: 0,
+            refused: 0,
             failed: 0,
             bad: 0,
         }
@@ -56,19 +68,61 @@ impl MemorySets {
         self.room
     }
 
-    /// Lets this load from now on fail: 1 for the next. None fails where it is 0.
+    /// How many nodes can be made without taking memory.
+    pub fn spare(&self) -> u32
+        ensures { let f = forest_of self.now in result ≡ f.spare }
+    {
+        self.spare
+    }
+
+    /// Lets the disk fail this load from now on: 1 for the next. It fails none where it is 0.
     pub fn fail_load(&mut self, which: u64)
-        ensures { forest_of self.new ≡ forest_of self.old }
+        ensures same { forest_of self.new ≡ forest_of self.old }
+        ensures due { failing_load self.new ≡ which }
     {
         self.fault = which;
     }
-}
 
-// Whether the load that is due is the one that fails.
-fn is_due(fault: &mut u64) -> bool {
-    let due = *fault == 1;
-    *fault = fault.saturating_sub(1);
-    due
+    /// Lets this load from now on meet a bad block: 1 for the next. None does where it is 0.
+    pub fn spoil_load(&mut self, which: u64)
+        ensures same { forest_of self.new ≡ forest_of self.old }
+        ensures due { spoiled_load self.new ≡ which }
+    {
+        self.spoiled = which;
+    }
+
+    /// Lets this call from now on for spare nodes be refused, of those that take memory: 1 for the next. None is
+    /// where it is 0.
+    pub fn refuse_spare(&mut self, which: u64)
+        ensures same { forest_of self.new ≡ forest_of self.old }
+        ensures due { refused_spare self.new ≡ which }
+    {
+        self.refused = which;
+    }
+
+    /// Adds the root of a tree: a node with an empty set of capacity 4. After a refusal nothing has changed.
+    pub fn add_root(&mut self, keys: KeyClass, leaf_bits: u8) -> Result<NodeId, NoMemory>
+        requires sound { IsSound (forest_of self.old) }
+        ensures added { IfOk result (λ c. AddsRoot (forest_of self.old) (forest_of self.new) c.0 keys leaf_bits) }
+        ensures err { OnErr result (forest_of self.new ≡ forest_of self.old) }
+    {
+        if self.nodes.len() >= (u32::MAX - self.spare) as usize {
+            return Err(NoMemory);
+        }
+        match self.nodes.reserve(self.spare as usize + 1) {
+            Ok(()) => Ok(NodeId(add_top(&mut self.nodes, keys, leaf_bits))),
+            Err(_) => Err(NoMemory),
+        }
+    }
+
+    /// Unloads the nodes below roots whose range starts at this key or after. `child` loads them again.
+    pub fn unload(&mut self, from: u64)
+        requires sound { IsSound (forest_of self.old) }
+        ensures unloads { Unloads (forest_of self.old) (forest_of self.new) from }
+        ensures blocks { blocks_of self.new ≡ blocks_of self.old }
+    {
+        unload_all(&mut self.nodes, from);
+    }
 }
 
 // A count of one more, which stands still at its last value.
@@ -81,7 +135,8 @@ fn one_more(count: u64) -> u64
 
 // The name that an entry of a directory has in itself; None where there is none.
 fn inline_name(alloc: Global, entry: Dirent) -> Result<Option<Bytes>, NoMemory>
-    ensures { IfOk result (λ o. IfSome o (λ b. b ≡ take entry.len entry.name)) }
+    ensures some { IfOk result (λ o. IfSome o (λ b. b ≡ take entry.len entry.name)) }
+    ensures none { IfOk result (λ o. IfNone o (64 < entry.len)) }
 {
     let all = entry.name.as_slice();
     if entry.len as usize > all.len() {
@@ -94,7 +149,7 @@ fn inline_name(alloc: Global, entry: Dirent) -> Result<Option<Bytes>, NoMemory>
 
 impl Sets for MemorySets {
     ghost use Rattle.std.specs.Prelude.{ℕ};
-    ghost use Rattle.h2_memory_sets.specs.View.{forest_of};
+    ghost use Rattle.h2_memory_sets.specs.Seen.{forest_of};
 
     type Beside = ();
 
@@ -116,7 +171,8 @@ impl Sets for MemorySets {
         self.epoch
     }
 
-    fn child(&mut self, at: NodeId, i: usize) -> Result<NodeId, Trouble> {
+    fn child(&mut self, alloc: Global, at: NodeId, i: usize) -> Result<NodeId, Trouble> {
+        let _ = alloc;
         let r = *self.nodes[at.0 as usize].set.at(i);
         if let Some(c) = find_child(&self.nodes, at.0, r.key) {
             return Ok(NodeId(c as u32));
@@ -125,7 +181,7 @@ impl Sets for MemorySets {
             self.failed = one_more(self.failed);
             return Err(Trouble::Failed);
         }
-        let Some(c) = find_loadable(&self.nodes, at.0, &r) else {
+        let Some(c) = find_unspoiled(&self.nodes, at.0, &r, &mut self.spoiled) else {
             self.bad = one_more(self.bad);
             return Err(Trouble::Bad {
                 place: r.place,
@@ -137,9 +193,13 @@ impl Sets for MemorySets {
         Ok(NodeId(c as u32))
     }
 
-    fn ready(&mut self, n: u32) -> Result<(), NoMemory> {
+    fn ready(&mut self, alloc: Global, n: u32) -> Result<(), NoMemory> {
+        let _ = alloc;
         if n <= self.spare {
             return Ok(());
+        }
+        if is_due(&mut self.refused) {
+            return Err(NoMemory);
         }
         if self.nodes.len() > (u32::MAX - n) as usize {
             return Err(NoMemory);

@@ -1,5 +1,14 @@
 use h2_set::Set;
 
+/// Which keys the leaves of a tree have.
+#[derive(Clone, Copy, Debug, PartialEq, Eq)]
+pub enum KeyClass {
+    /// Keys below 2^62: those of contents, of inodes and of the list of PFSs.
+    Low,
+    /// Keys of at least 2^63: those of a directory's entries.
+    High,
+}
+
 /// A node of a forest.
 #[derive(Drop)]
 pub(crate) struct Node {

@@ -2,11 +2,12 @@ use Rattle.std.proofs.Common.{◌≡◌, Some, None, slice_set, refl, sym, ap, �
 use Rattle.std.specs.List.{position}
 use Rattle.std.proofs.lemmas.Option.{slice_get_read}
 use Rattle.h2_ref.specs.declared.reference.Ref.{Ref}
-use Rattle.h2_set.specs.StayLaws.{Walks-refl}
+use Rattle.h2_set.specs.StayLaws.{Walks-refl, Unchanged-walks}
 use Rattle.h2_set.specs.Forest.{Loads, loaded}
 use Rattle.h2_memory_sets.specs.View.{forest_with, is_child, link_of}
-use Rattle.h2_memory_sets.proofs.Nodes.{counts_walk_nodes, is_there}
-use Rattle.h2_memory_sets.proofs.Bringing.{ref_there, ref_same, loads_nothing, not_loaded, is_loaded, loadable_in, loadable_within, brings}
+use Rattle.h2_memory_sets.proofs.Nodes.{unchanged_nodes, is_there}
+use Rattle.h2_memory_sets.proofs.Bringing.{ref_there, ref_same, loads_nothing, not_loaded, is_loaded, loadable_in, loadable_within, loadable_away, brings}
+use Rattle.h2_memory_sets.proofs.Rooted.{rooted_bring, root_not}
 use Rattle.h2_memory_sets.proofs.memory.MemorySetsSets.child.Goals as goal
 
 pub returns-in-Some-clause-walks : goal.returns-in-Some-clause-walks
@@ -26,7 +27,7 @@ returns-in-Some-clause-loads c = λ r read. let p = c.args.self.now in loads_not
 pub returns-then-is_due-clause-walks : goal.returns-then-is_due-clause-walks
 returns-then-is_due-clause-walks c =
     let p = c.args.self.now in
-    counts_walk_nodes p.nodes.items p.spare p.epoch p.room p.failed c.one_more-self.result p.bad p.bad c.one_more-self.ensures.more (omega arith) c.requires.sound
+    Unchanged-walks _ _ (unchanged_nodes p.nodes.items p.spare p.epoch p.room p.failed c.one_more-self.result p.bad p.bad c.one_more-self.ensures.more (omega arith) c.requires.sound)
 
 pub returns-then-is_due-clause-loads : goal.returns-then-is_due-clause-loads
 returns-then-is_due-clause-loads c = λ r read. let p = c.args.self.now in loads_nothing p.nodes.items p.spare p.epoch p.room p.failed c.one_more-self.result p.bad p.bad _ _
@@ -39,19 +40,19 @@ returns-then-is_due-clause-unloaded c = λ r d read link.
     let none = subst (λ (q : Ref). position (is_child c.args.at.0 q.key) xs ≡ None) same (ap (position (is_child c.args.at.0 c.at.result.now.key)) (sym c.deref.ensures.value) ∙ sym c.find_child.ensures ∙ c.in_default.is) in
     not_loaded xs c.args.at.0 r.key d none link
 
-pub find_loadable-requires-clause-there : goal.find_loadable-requires-clause-there
-find_loadable-requires-clause-there c = rw c.deref-2.ensures.value (is_there _ _ c.requires.stands)
+pub find_unspoiled-requires-clause-there : goal.find_unspoiled-requires-clause-there
+find_unspoiled-requires-clause-there c = rw c.deref-2.ensures.value (is_there _ _ c.requires.stands)
 
-pub returns-in_default-find_loadable-clause-walks : goal.returns-in_default-find_loadable-clause-walks
-returns-in_default-find_loadable-clause-walks c =
+pub returns-in_default-find_unspoiled-clause-walks : goal.returns-in_default-find_unspoiled-clause-walks
+returns-in_default-find_unspoiled-clause-walks c =
     let p = c.args.self.now in
-    counts_walk_nodes p.nodes.items p.spare p.epoch p.room p.failed p.failed p.bad c.one_more-self-in_default-find_loadable.result (omega arith) c.one_more-self-in_default-find_loadable.ensures.more c.requires.sound
+    Unchanged-walks _ _ (unchanged_nodes p.nodes.items p.spare p.epoch p.room p.failed p.failed p.bad c.one_more-self-in_default-find_unspoiled.result (omega arith) c.one_more-self-in_default-find_unspoiled.ensures.more c.requires.sound)
 
-pub returns-in_default-find_loadable-clause-loads : goal.returns-in_default-find_loadable-clause-loads
-returns-in_default-find_loadable-clause-loads c = λ r read. let p = c.args.self.now in loads_nothing p.nodes.items p.spare p.epoch p.room p.failed p.failed p.bad c.one_more-self-in_default-find_loadable.result _ _
+pub returns-in_default-find_unspoiled-clause-loads : goal.returns-in_default-find_unspoiled-clause-loads
+returns-in_default-find_unspoiled-clause-loads c = λ r read. let p = c.args.self.now in loads_nothing p.nodes.items p.spare p.epoch p.room p.failed p.failed p.bad c.one_more-self-in_default-find_unspoiled.result _ _
 
-pub returns-in_default-find_loadable-clause-unloaded : goal.returns-in_default-find_loadable-clause-unloaded
-returns-in_default-find_loadable-clause-unloaded c = λ r d read link.
+pub returns-in_default-find_unspoiled-clause-unloaded : goal.returns-in_default-find_unspoiled-clause-unloaded
+returns-in_default-find_unspoiled-clause-unloaded c = λ r d read link.
     let xs = c.args.self.now.nodes.items in
     let node = slice_get_read xs _ c.args.at.0 c.index.result.now refl (is_there _ _ c.requires.stands) c.index.ensures in
     let same = ref_same xs c.args.at.0 c.args.i c.index.result.now c.at.result.now node c.at.ensures r read in
@@ -63,14 +64,14 @@ index-requires-2 c = let lt = is_there c.args.self.now.nodes.items c.args.at.0 c
 
 pub index_mut-requires : goal.index_mut-requires
 index_mut-requires c =
-    let l = loadable_in _ c.args.self.now.nodes.items c.args.at.0 c.in-Some-find_loadable.c c.at.result.now c.deref-2.ensures.value c.in-Some-find_loadable.ensures in
+    let l = loadable_in _ c.args.self.now.nodes.items c.args.at.0 c.in-Some-find_unspoiled.c c.at.result.now c.deref-2.ensures.value c.in-Some-find_unspoiled.ensures.found in
     let lt = loadable_within _ _ _ _ l in
     let len = c.args.self.now.nodes.ok.0 in
     omega (arith, lt, len)
 
 pub overflow_cast-result-2 : goal.overflow_cast-result-2
 overflow_cast-result-2 c =
-    let l = loadable_in _ c.args.self.now.nodes.items c.args.at.0 c.in-Some-find_loadable.c c.at.result.now c.deref-2.ensures.value c.in-Some-find_loadable.ensures in
+    let l = loadable_in _ c.args.self.now.nodes.items c.args.at.0 c.in-Some-find_unspoiled.c c.at.result.now c.deref-2.ensures.value c.in-Some-find_unspoiled.ensures.found in
     let lt = loadable_within _ _ _ _ l in
     let small = c.args.self.now.small in
     omega (arith, lt, small)
@@ -80,16 +81,16 @@ returns-clause-walks c =
     let p = c.args.self.now in
     let xs = p.nodes.items in
     let at = c.args.at.0 in
-    let k = c.in-Some-find_loadable.c in
+    let k = c.in-Some-find_unspoiled.c in
     let q = c.at.result.now in
     let there = is_there xs at c.requires.stands in
     let node = slice_get_read xs _ at c.index.result.now refl there c.index.ensures in
     let node' = slice_get_read xs _ at c.index-2.result.now refl there c.index-2.ensures in
-    let l = loadable_in _ xs at k q c.deref-2.ensures.value c.in-Some-find_loadable.ensures in
+    let l = loadable_in _ xs at k q c.deref-2.ensures.value c.in-Some-find_unspoiled.ensures.found in
     let y = slice_get_read xs _ k c.index_mut.result.now refl (loadable_within xs at k q l) c.index_mut.ensures.value in
     let none = ap (position (is_child at q.key)) (sym c.deref.ensures.value) ∙ sym c.find_child.ensures ∙ c.in_default.is in
     let read' = ref_there xs at c.args.i c.index.result.now q node c.at.ensures in
-    let b = brings xs p.spare p.epoch p.room p.failed p.bad at c.args.i k q c.index-2.result.now c.index_mut.result.now c.bring_in.new.x c.requires.sound c.requires.stands l none read' (c.requires.indirect.indirect q read') node' y c.bring_in.ensures in
+    let b = brings xs p.spare p.epoch p.room p.failed p.bad at c.args.i k q c.index-2.result.now c.index_mut.result.now c.bring_in.new.x c.requires.sound c.requires.stands l none (root_not xs at k p.rooted c.requires.stands (loadable_away xs at k q l)) read' (c.requires.indirect.indirect q read') node' y c.bring_in.ensures in
     b.walked
 
 pub returns-clause-ok : goal.returns-clause-ok
@@ -97,16 +98,16 @@ returns-clause-ok c = λ r read.
     let p = c.args.self.now in
     let xs = p.nodes.items in
     let at = c.args.at.0 in
-    let k = c.in-Some-find_loadable.c in
+    let k = c.in-Some-find_unspoiled.c in
     let q = c.at.result.now in
     let there = is_there xs at c.requires.stands in
     let node = slice_get_read xs _ at c.index.result.now refl there c.index.ensures in
     let node' = slice_get_read xs _ at c.index-2.result.now refl there c.index-2.ensures in
-    let l = loadable_in _ xs at k q c.deref-2.ensures.value c.in-Some-find_loadable.ensures in
+    let l = loadable_in _ xs at k q c.deref-2.ensures.value c.in-Some-find_unspoiled.ensures.found in
     let y = slice_get_read xs _ k c.index_mut.result.now refl (loadable_within xs at k q l) c.index_mut.ensures.value in
     let none = ap (position (is_child at q.key)) (sym c.deref.ensures.value) ∙ sym c.find_child.ensures ∙ c.in_default.is in
     let read' = ref_there xs at c.args.i c.index.result.now q node c.at.ensures in
-    let b = brings xs p.spare p.epoch p.room p.failed p.bad at c.args.i k q c.index-2.result.now c.index_mut.result.now c.bring_in.new.x c.requires.sound c.requires.stands l none read' (c.requires.indirect.indirect q read') node' y c.bring_in.ensures in
+    let b = brings xs p.spare p.epoch p.room p.failed p.bad at c.args.i k q c.index-2.result.now c.index_mut.result.now c.bring_in.new.x c.requires.sound c.requires.stands l none (root_not xs at k p.rooted c.requires.stands (loadable_away xs at k q l)) read' (c.requires.indirect.indirect q read') node' y c.bring_in.ensures in
     subst (λ (z : Ref). link_of (slice_set xs k c.bring_in.new.x) at z.key ≡ loaded k) (ref_same xs at c.args.i c.index.result.now q node c.at.ensures r read) b.link
 
 pub returns-clause-loads : goal.returns-clause-loads
@@ -114,14 +115,37 @@ returns-clause-loads c = λ r read.
     let p = c.args.self.now in
     let xs = p.nodes.items in
     let at = c.args.at.0 in
-    let k = c.in-Some-find_loadable.c in
+    let k = c.in-Some-find_unspoiled.c in
     let q = c.at.result.now in
     let there = is_there xs at c.requires.stands in
     let node = slice_get_read xs _ at c.index.result.now refl there c.index.ensures in
     let node' = slice_get_read xs _ at c.index-2.result.now refl there c.index-2.ensures in
-    let l = loadable_in _ xs at k q c.deref-2.ensures.value c.in-Some-find_loadable.ensures in
+    let l = loadable_in _ xs at k q c.deref-2.ensures.value c.in-Some-find_unspoiled.ensures.found in
     let y = slice_get_read xs _ k c.index_mut.result.now refl (loadable_within xs at k q l) c.index_mut.ensures.value in
     let none = ap (position (is_child at q.key)) (sym c.deref.ensures.value) ∙ sym c.find_child.ensures ∙ c.in_default.is in
     let read' = ref_there xs at c.args.i c.index.result.now q node c.at.ensures in
-    let b = brings xs p.spare p.epoch p.room p.failed p.bad at c.args.i k q c.index-2.result.now c.index_mut.result.now c.bring_in.new.x c.requires.sound c.requires.stands l none read' (c.requires.indirect.indirect q read') node' y c.bring_in.ensures in
+    let b = brings xs p.spare p.epoch p.room p.failed p.bad at c.args.i k q c.index-2.result.now c.index_mut.result.now c.bring_in.new.x c.requires.sound c.requires.stands l none (root_not xs at k p.rooted c.requires.stands (loadable_away xs at k q l)) read' (c.requires.indirect.indirect q read') node' y c.bring_in.ensures in
     subst (λ (z : Ref). Loads (forest_with xs p.spare p.epoch p.room p.failed p.bad) (forest_with (slice_set xs k c.bring_in.new.x) p.spare p.epoch p.room p.failed p.bad) at z.key) (ref_same xs at c.args.i c.index.result.now q node c.at.ensures r read) b.loaded_there
+
+pub invariant_of-self-2-clause-rooted : goal.invariant_of-self-2-clause-rooted
+invariant_of-self-2-clause-rooted c =
+    let p = c.args.self.now in
+    let xs = p.nodes.items in
+    let at = c.args.at.0 in
+    let k = c.in-Some-find_unspoiled.c in
+    let q = c.at.result.now in
+    let there = is_there xs at c.requires.stands in
+    let node' = slice_get_read xs _ at c.index-2.result.now refl there c.index-2.ensures in
+    let l = loadable_in _ xs at k q c.deref-2.ensures.value c.in-Some-find_unspoiled.ensures.found in
+    let y = slice_get_read xs _ k c.index_mut.result.now refl (loadable_within xs at k q l) c.index_mut.ensures.value in
+    rooted_bring xs at k q c.index-2.result.now c.index_mut.result.now c.bring_in.new.x p.rooted c.requires.stands l node' y c.bring_in.ensures
+
+pub returns-then-is_due-clause-same : goal.returns-then-is_due-clause-same
+returns-then-is_due-clause-same c =
+    let p = c.args.self.now in
+    unchanged_nodes p.nodes.items p.spare p.epoch p.room p.failed c.one_more-self.result p.bad p.bad c.one_more-self.ensures.more (omega arith) c.requires.sound
+
+pub returns-in_default-find_unspoiled-clause-same : goal.returns-in_default-find_unspoiled-clause-same
+returns-in_default-find_unspoiled-clause-same c =
+    let p = c.args.self.now in
+    unchanged_nodes p.nodes.items p.spare p.epoch p.room p.failed p.failed p.bad c.one_more-self-in_default-find_unspoiled.result (omega arith) c.one_more-self-in_default-find_unspoiled.ensures.more c.requires.sound

@@ -1,13 +1,15 @@
 use Rattle.std.proofs.Common.{◌≡◌, ◌≤◌, ◌+◌, ◌-◌, ℕ, List, length, sym, ap, ◌∙◌, subst, arith}
+use Rattle.std.proofs.lemmas.Option.{slice_get_past}
 use Rattle.h2_set.specs.Ranges.{Rising, put}
 use Rattle.h2_set.specs.RefSet.{RefSet, with_rest}
 use Rattle.h2_set.specs.Forest.{Makes}
 use Rattle.h2_memory_sets.specs.declared.node.Node.{Node}
-use Rattle.h2_memory_sets.specs.View.{forest_with, parted}
+use Rattle.h2_memory_sets.specs.View.{forest_with, parted, stands_of, AllRooted}
 use Rattle.h2_memory_sets.proofs.Making.{kept_set, whole_set, makes}
 use Rattle.h2_memory_sets.proofs.Nodes.{is_there}
 use Rattle.h2_memory_sets.proofs.Parting.{item_at}
 use Rattle.h2_memory_sets.proofs.Differing.{differs_by_make}
+use Rattle.h2_memory_sets.proofs.Rooted.{rooted_part, root_not}
 use Rattle.h2_memory_sets.proofs.memory.MemorySetsSets.make.Goals as goal
 
 pub with_left-requires-clause-rising : goal.with_left-requires-clause-rising
@@ -43,7 +45,14 @@ returns-clause-makes c =
     let items : c.add_node.new.nodes.items ≡ parted xs c.args.at.0 it.0 whole c.args.split.moved r = c.add_node.ensures.parted it.0 it.1 ∙ ap (λ (s : RefSet). parted xs c.args.at.0 it.0 s c.args.split.moved r) kept_is in
     let spare : p.spare - 1 + 1 ≡ p.spare = (let one = c.requires.space.0 in omega (arith, one)) in
     let room : p.room - 1 + 1 ≡ p.room = (let one = c.requires.space.1 in omega (arith, one)) in
-    let d = differs_by_make xs c.args.at.0 it.0 c.args.set c.args.split r it.1 n.key n.keybits p.spare (p.spare - 1) p.epoch p.room (p.room - 1) p.failed p.bad spare room in
+    let d = differs_by_make xs c.args.at.0 it.0 c.args.set c.args.split r it.1 n.key n.keybits (root_not xs c.args.at.0 (length xs) p.rooted c.requires.stands (ap stands_of (slice_get_past xs (length xs) (omega arith)))) p.spare (p.spare - 1) p.epoch p.room (p.room - 1) p.failed p.bad spare room in
     let made = makes _ _ _ _ r _ c.requires.sound c.requires.stands c.requires.split.1 n.indirect n.key n.keybits _ _ d in
     let place : length xs ≡ c.len-c.result = sym (c.len-c.ensures ∙ p.nodes.ok.0) in
     subst (λ (ys : List Node). Makes (forest_with xs p.spare p.epoch p.room p.failed p.bad) (forest_with ys (p.spare - 1) p.epoch (p.room - 1) p.failed p.bad) c.args.at.0 c.len-c.result c.args.set c.args.split) (sym items) (subst (λ (k : ℕ). Makes (forest_with xs p.spare p.epoch p.room p.failed p.bad) (forest_with (parted xs c.args.at.0 it.0 whole c.args.split.moved r) (p.spare - 1) p.epoch (p.room - 1) p.failed p.bad) c.args.at.0 k c.args.set c.args.split) place made)
+
+pub invariant_of-self-clause-rooted : goal.invariant_of-self-clause-rooted
+invariant_of-self-clause-rooted c =
+    let p = c.args.self.now in
+    let xs = p.nodes.items in
+    let it = item_at xs c.args.at.0 (is_there _ _ c.requires.stands) in
+    subst AllRooted (sym (c.add_node.ensures.parted it.0 it.1)) (rooted_part xs c.args.at.0 it.0 c.with_one-kept.result c.args.split.moved c.new_reference-r.result p.rooted c.requires.stands it.1)

@@ -1,0 +1,191 @@
+-- A root that is added.
+use Rattle.std.proofs.Common.{◌≡◌, ℕ, ◌+◌, ◌%◌, ◌≤◌, ◌^◌, true, false, arith, refl, sym, ◌∙◌, ap, List, [], ◌∷◌, ◌++◌, length, Some, subst, inl, inr, slice_get}
+use Rattle.std.proofs.lemmas.Option.{none-some, slice_get_past}
+use Rattle.h2_ref.specs.declared.reference.Ref.{Ref}
+use Rattle.h2_set.specs.RefSet.{RefSet}
+use Rattle.h2_set.specs.Forest.{Forest, refs, loaded, untold, IsSound, IsSoundNode, Same}
+use Rattle.h2_set.specs.ChangeLaws.{same_or_not}
+use Rattle.h2_memory_sets.specs.declared.node.KeyClass.{KeyClass}
+use Rattle.h2_memory_sets.specs.declared.node.KeyClass.TheVariants.{Low, High}
+use Rattle.h2_memory_sets.specs.declared.node.Node.{Node}
+use Rattle.h2_memory_sets.specs.View.{stands_of, set_of, root_of, low_of, bits_of, leaf_bits_of, is_child, is_top, link_of, forest_with, first_key, top_node, AllRooted}
+use Rattle.h2_memory_sets.specs.Roots.{AddsRoot}
+use Rattle.h2_memory_sets.proofs.Parting.{first_push, get_last}
+use Rattle.h2_memory_sets.proofs.Rooted.{get_push}
+
+-- what two forests say of a node, but for what is below it
+pub record Agrees (f g : Forest) (m : ℕ) : Type 0 where
+  pub root : g.root m ≡ f.root m
+  pub low : g.low m ≡ f.low m
+  pub bits : g.bits m ≡ f.bits m
+  pub set : g.set m ≡ f.set m
+  pub writable : g.writable m ≡ f.writable m
+  pub copies : g.copies m ≡ f.copies m
+
+-- a node stays sound where no more is loaded below it
+pub still_sound : (f g : Forest) (m : ℕ) → ((n : ℕ) → f.stands n ≡ true → g.stands n ≡ true → Agrees f g n) → f.stands m ≡ true → g.stands m ≡ true → ((k c : ℕ) → g.link m k ≡ loaded c → (f.link m k ≡ loaded c) × (g.stands c ≡ true)) → g.leaf_bits (f.root m) ≡ f.leaf_bits (f.root m) → ((r : Ref) → g.allows (f.root m) r ≡ true) → ((n t j : ℕ) → g.belongs n t j ≡ false) → IsSoundNode f m → IsSoundNode g m
+still_sound f g m agrees old st links leaf allows none node =
+    let p = agrees m old st in
+    let refs_is : refs g m ≡ refs f m = ap (λ (t : RefSet). t.refs) p.set in
+    let grain : g.leaf_bits (g.root m) ≡ f.leaf_bits (f.root m) = ap g.leaf_bits p.root ∙ leaf in
+    record {
+      set = rw p.set node.set;
+      inside = rw (refs_is, p.low, p.bits) node.inside;
+      aligned = rw (p.low, p.bits) node.aligned;
+      ends = rw (p.low, p.bits) node.ends;
+      fits = λ i r read. let h = node.fits i r (rw refs_is at read) in record {
+        aligned = h.aligned;
+        class = h.class;
+        leaf = λ k. h.leaf k ∙ sym grain;
+        allowed = λ k. ap (λ n. g.allows n r) p.root ∙ allows r;
+        wide = λ k. rw grain (h.wide k);
+        some_bits = h.some_bits;
+        falls = λ k. rw p.bits (h.falls k);
+      };
+      some = λ top. rw refs_is (node.some (λ e. top (p.root ∙ e)));
+      child = λ k c at_k.
+          let l = links k c at_k in
+          let h = node.child k c l.0 in
+          let q = agrees c h.stands l.1 in
+          record {
+            stands = l.1;
+            root = q.root ∙ h.root ∙ sym p.root;
+            low = q.low ∙ h.low;
+            above = rw (p.low, q.low) h.above;
+            within = rw (p.low, q.low, p.bits, q.bits) h.within;
+            fewer = rw (p.bits, q.bits) h.fewer;
+            copies = rw (q.copies, p.copies, q.writable) h.copies;
+            belongs = λ t j. none c t j ∙ sym (none m t j);
+          };
+      named = λ k c at_k. rw refs_is (node.named k c (links k c at_k).0);
+      bits = λ i c r read ind at_k.
+          let l = links r.key c at_k in
+          let h = node.child r.key c l.0 in
+          (agrees c h.stands l.1).bits ∙ node.bits i c r (rw refs_is at read) ind l.0;
+      top = λ top. p.copies ∙ node.top (sym p.root ∙ top);
+      half = λ top. p.bits ∙ node.half (sym p.root ∙ top);
+      slope = rw (p.copies, p.bits) node.slope;
+    }
+
+-- the range of a tree
+keys_aligned : (keys : KeyClass) → first_key keys % 2 ^ 63 ≡ 0
+keys_aligned Low = refl
+keys_aligned High = refl
+
+keys_end : (keys : KeyClass) → first_key keys + 2 ^ 63 ≤ 2 ^ 64
+keys_end Low = omega arith
+keys_end High = omega arith
+
+module _ (xs : List Node) (keys : KeyClass) (leaf_bits spare epoch room failed bad : ℕ) where
+  abbrev new : Node
+  new = top_node (length xs) keys leaf_bits
+
+  abbrev ys : List Node
+  ys = xs ++ top_node (length xs) keys leaf_bits ∷ []
+
+  abbrev f : Forest
+  f = forest_with xs spare epoch room failed bad
+
+  abbrev g : Forest
+  g = forest_with (xs ++ top_node (length xs) keys leaf_bits ∷ []) spare epoch room failed bad
+
+  here : slice_get ys (length xs) ≡ Some new
+  here = get_last xs new
+
+  fresh : stands_of (slice_get xs (length xs)) ≡ false
+  fresh = ap stands_of (slice_get_past xs (length xs) (omega arith))
+
+  not_fresh : (m : ℕ) → stands_of (slice_get xs m) ≡ true → m ≡ length xs → ⊥
+  not_fresh m st e = let clash : true ≡ false = sym st ∙ ap (λ z. stands_of (slice_get xs z)) e ∙ fresh in cc
+
+  set_here : set_of (slice_get ys (length xs)) ≡ record { refs = []; capacity = 4 }
+  set_here = ap set_of here
+
+  refs_here : refs g (length xs) ≡ []
+  refs_here = ap (λ (t : RefSet). t.refs) set_here
+
+  link_here : (k : ℕ) → link_of ys (length xs) k ≡ untold
+  link_here k = rw here refl
+
+  link_other : (m k : ℕ) → (m ≡ length xs → ⊥) → link_of ys m k ≡ link_of xs m k
+  link_other m k ne = rw (ap set_of (get_push xs new m ne), first_push (is_child m k) xs new refl) refl
+
+  same : (m : ℕ) → stands_of (slice_get xs m) ≡ true → Same f g m
+  same m st =
+      let off = get_push xs new m (not_fresh m st) in
+      record {
+        place = record { stands = ap stands_of off ∙ st; root = ap root_of off; low = ap low_of off; bits = ap bits_of off; belongs = λ t k. refl; writable = λ e. refl };
+        set = ap set_of off;
+        link = λ k. link_other m k (not_fresh m st);
+        writable = refl;
+        copies = refl;
+      }
+
+  none_loaded : (k c : ℕ) → link_of ys (length xs) k ≡ loaded c → ⊥
+  none_loaded k c e = let it : untold ≡ loaded c = sym (link_here k) ∙ e in cc
+
+  new_node : IsSoundNode g (length xs)
+  new_node =
+      let low = ap low_of here in
+      let bits = ap bits_of here in
+      record {
+        set = rw set_here (record { rising = omega arith; fits = omega arith; known = inl refl });
+        inside = rw (refs_here, low, bits) (omega arith);
+        aligned = rw (low, bits) (keys_aligned keys);
+        ends = rw (low, bits) (keys_end keys);
+        fits = λ i r read. absurd (none-some r (rw refs_here at read));
+        some = λ top. absurd (top (ap root_of here));
+        child = λ k c e. absurd (none_loaded k c e);
+        named = λ k c e. absurd (none_loaded k c e);
+        bits = λ i c r read ind e. absurd (none_loaded r.key c e);
+        top = λ e. refl;
+        half = λ top. bits;
+        slope = rw bits (omega arith);
+      }
+
+  old_node : AllRooted xs → IsSound f → (m : ℕ) → stands_of (slice_get xs m) ≡ true → IsSoundNode g m
+  old_node rooted sound m st =
+      let node = sound.node m st in
+      let s = same m st in
+      let root_there : root_of (slice_get xs m) ≡ length xs → ⊥ = λ e. (let clash : true ≡ false = sym (rooted m st) ∙ ap (λ z. is_top (slice_get xs z)) e ∙ ap is_top (slice_get_past xs (length xs) (omega arith)) in cc) in
+      still_sound f g m
+      (λ n old now. let q = same n old in record { root = q.place.root; low = q.place.low; bits = q.place.bits; set = q.set; writable = refl; copies = refl })
+      st s.place.stands
+      (λ k c e. let was = sym (s.link k) ∙ e in (was, (same c (node.child k c was).stands).place.stands))
+      (ap leaf_bits_of (get_push xs new (root_of (slice_get xs m)) root_there))
+      (λ r. refl) (λ n t j. refl) node
+
+  pub adds_root : AllRooted xs → IsSound f → AddsRoot (forest_with xs spare epoch room failed bad) (forest_with (xs ++ top_node (length xs) keys leaf_bits ∷ []) spare epoch room failed bad) (length xs) keys leaf_bits
+  adds_root rooted sound = record {
+    top = record {
+      sound = record {
+        node = λ m st. elim (same_or_not m (length xs)) as (λ _. IsSoundNode g m) [
+          | inl e ↦ subst (IsSoundNode g) (sym e) new_node
+          | inr ne ↦ old_node rooted sound m (sym (ap stands_of (get_push xs new m ne)) ∙ st)
+        ];
+        held = λ m held. absurd (cc);
+      };
+      stands = ap stands_of here;
+      root = ap root_of here;
+      low = ap low_of here;
+      bits = ap bits_of here;
+      leaf_bits = ap leaf_bits_of here;
+    };
+    fresh = fresh;
+    set = set_here;
+    writable = refl;
+    link = link_here;
+    allows = λ r. refl;
+    held = refl;
+    others = same;
+    others_leaf_bits = λ m ne. ap leaf_bits_of (get_push xs new m ne);
+    others_allow = λ m r. refl;
+    others_held = λ m. refl;
+    none_new = λ m ne. ap stands_of (get_push xs new m ne);
+    name = λ r. refl;
+    epoch = refl;
+    spare = refl;
+    room = refl;
+    failed = refl;
+    bad = refl;
+  }

@@ -1,0 +1,22 @@
+use Rattle.std.proofs.Common.{List, map, sym, ap, ◌∙◌, subst}
+use Rattle.h2_memory_sets.specs.declared.node.Node.{Node}
+use Rattle.h2_memory_sets.specs.View.{AllRooted, block, forest_with}
+use Rattle.h2_memory_sets.specs.Roots.{Unloads}
+use Rattle.h2_memory_sets.proofs.Rooted.{rooted_unload}
+use Rattle.h2_memory_sets.proofs.Unloads.{unloads, blocks_stay, rewritten}
+use Rattle.h2_memory_sets.proofs.memory.MemorySets.unload.Goals as goal
+
+pub invariant_of-self-clause-rooted : goal.invariant_of-self-clause-rooted
+invariant_of-self-clause-rooted c =
+    let p = c.args.self.now in
+    subst AllRooted (sym (rewritten p.nodes.items c.deref_mut.result.now c.unload_all.new.nodes p.nodes.len c.args.from (sym (c.unload_all.auto.nodes ∙ c.deref_mut.ensures.len)) c.deref_mut.ensures.value c.unload_all.ensures)) (rooted_unload c.args.from p.nodes.items p.rooted)
+
+pub returns-clause-unloads : goal.returns-clause-unloads
+returns-clause-unloads c =
+    let p = c.args.self.now in
+    subst (λ (ys : List Node). Unloads (forest_with p.nodes.items p.spare p.epoch p.room p.failed p.bad) (forest_with ys p.spare p.epoch p.room p.failed p.bad) c.args.from) (sym (rewritten p.nodes.items c.deref_mut.result.now c.unload_all.new.nodes p.nodes.len c.args.from (sym (c.unload_all.auto.nodes ∙ c.deref_mut.ensures.len)) c.deref_mut.ensures.value c.unload_all.ensures)) (unloads p.nodes.items c.args.from p.spare p.epoch p.room p.failed p.bad p.rooted c.requires.sound)
+
+pub returns-clause-blocks : goal.returns-clause-blocks
+returns-clause-blocks c =
+    let p = c.args.self.now in
+    ap (λ (ys : List Node). map block ys) (rewritten p.nodes.items c.deref_mut.result.now c.unload_all.new.nodes p.nodes.len c.args.from (sym (c.unload_all.auto.nodes ∙ c.deref_mut.ensures.len)) c.deref_mut.ensures.value c.unload_all.ensures) ∙ blocks_stay c.args.from p.nodes.items

@@ -1,0 +1,53 @@
+-- What adding a root, giving room and unloading do to a forest.
+use Rattle.std.specs.Prelude.{◌≡◌, ℕ, ◌≤◌, ◌<◌, ◌⊎◌, true, false, []}
+use Rattle.h2_ref.specs.declared.reference.Ref.{Ref}
+use Rattle.h2_set.specs.Forest.{Forest, loaded, untold, IsSound, Fixed, InPlace, Same}
+use Rattle.h2_memory_sets.specs.declared.node.KeyClass.{KeyClass}
+use Rattle.h2_memory_sets.specs.View.{first_key}
+
+-- c is the root of a tree with these keys, and with leaves of these keybits
+pub record IsTreeRoot (f : Forest) (c : ℕ) (keys : KeyClass) (grain : ℕ) : Type 0 where
+  pub sound : IsSound f
+  pub stands : f.stands c ≡ true
+  pub root : f.root c ≡ c
+  pub low : f.low c ≡ first_key keys
+  pub bits : f.bits c ≡ 63
+  pub leaf_bits : f.leaf_bits c ≡ grain
+
+-- nothing has changed but that the root c is new, with an empty set of capacity 4
+pub record AddsRoot (f g : Forest) (c : ℕ) (keys : KeyClass) (leaf_bits : ℕ) : Type 0 where
+  pub top : IsTreeRoot g c keys leaf_bits
+  pub fresh : f.stands c ≡ false
+  pub set : g.set c ≡ record { refs = []; capacity = 4 }
+  pub writable : g.writable c ≡ true
+  pub link : (k : ℕ) → g.link c k ≡ untold
+  pub allows : (r : Ref) → g.allows c r ≡ true
+  pub held : g.held c ≡ false
+  pub others : (m : ℕ) → f.stands m ≡ true → Same f g m
+  pub others_leaf_bits : (m : ℕ) → (m ≡ c → ⊥) → g.leaf_bits m ≡ f.leaf_bits m
+  pub others_allow : (m : ℕ) (r : Ref) → g.allows m r ≡ f.allows m r
+  pub others_held : (m : ℕ) → g.held m ≡ f.held m
+  pub none_new : (m : ℕ) → (m ≡ c → ⊥) → g.stands m ≡ f.stands m
+  pub name : (r : Ref) → g.name r ≡ f.name r
+  pub epoch : g.epoch ≡ f.epoch
+  pub spare : g.spare ≡ f.spare
+  pub room : g.room ≡ f.room
+  pub failed : g.failed ≡ f.failed
+  pub bad : g.bad ≡ f.bad
+
+-- nothing has changed but that no node is loaded to which a reference with a key of `from` or more leads
+pub record Unloads (f g : Forest) (from : ℕ) : Type 0 where
+  pub sound : IsSound g
+  pub fixed : Fixed f g
+  pub stays : (m : ℕ) → f.stands m ≡ true → (f.low m < from) ⊎ (f.root m ≡ m) → InPlace f g m
+  pub goes : (m k c : ℕ) → from ≤ k → f.link m k ≡ loaded c → g.stands c ≡ false
+  pub none_new : (m : ℕ) → g.stands m ≡ true → f.stands m ≡ true
+  pub set : (m : ℕ) → g.set m ≡ f.set m
+  pub writable : (m : ℕ) → g.writable m ≡ f.writable m
+  pub copies : (m : ℕ) → g.copies m ≡ f.copies m
+  pub link_before : (m k : ℕ) → k < from → g.link m k ≡ f.link m k
+  pub link_from : (m k : ℕ) → from ≤ k → g.link m k ≡ untold
+  pub spare : g.spare ≡ f.spare
+  pub room : g.room ≡ f.room
+  pub failed : g.failed ≡ f.failed
+  pub bad : g.bad ≡ f.bad

@@ -1,0 +1,24 @@
+-- What a value is seen as.
+use Rattle.std.specs.Prelude.{ℕ, List, map}
+use Rattle.h2_set.specs.Forest.{Forest}
+use Rattle.h2_memory_sets.specs.declared.memory.MemorySets.{MemorySets}
+use Rattle.h2_memory_sets.specs.View.{Block, block, forest_with}
+
+-- the forest that the value is seen as
+abbrev pub forest_of : MemorySets → Forest
+forest_of p = forest_with p.nodes.items p.spare p.epoch p.room p.failed p.bad
+
+-- the blocks of all nodes, loaded or not
+abbrev pub blocks_of : MemorySets → List Block
+blocks_of p = map block p.nodes.items
+
+-- which load from now on the disk fails, which meets a bad block, and which call for spare nodes is refused:
+-- 1 for the next, 0 for none
+abbrev pub failing_load : MemorySets → ℕ
+failing_load p = p.fault
+
+abbrev pub spoiled_load : MemorySets → ℕ
+spoiled_load p = p.spoiled
+
+abbrev pub refused_spare : MemorySets → ℕ
+refused_spare p = p.refused

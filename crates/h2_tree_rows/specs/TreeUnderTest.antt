@@ -1,0 +1,18 @@
+-- A tree in memory, and which leaves it may have.
+use Rattle.std.specs.Prelude.{◌≡◌, ℕ, ◌+◌, ◌%◌, ◌^◌, ◌≤◌, ◌<◌, ◌⊎◌}
+use Rattle.h2_memory_sets.specs.declared.node.KeyClass.{KeyClass}
+use Rattle.h2_memory_sets.specs.declared.memory.MemorySets.{MemorySets}
+use Rattle.h2_memory_sets.specs.View.{first_key}
+use Rattle.h2_memory_sets.specs.Seen.{forest_of}
+use Rattle.h2_memory_sets.specs.Roots.{IsTreeRoot}
+
+-- a key that a leaf with these keybits may have
+pub record IsLeafKey (keys : KeyClass) (key bits : ℕ) : Type 0 where
+  pub aligned : key % 2 ^ bits ≡ 0
+  pub class : (key < 2 ^ 62) ⊎ (2 ^ 63 ≤ key)
+  pub low : first_key keys ≤ key
+  pub high : key + 2 ^ bits ≤ first_key keys + 2 ^ 63
+
+-- node root is the root of a tree with these keys, and with leaves of these keybits
+abbrev pub IsTree : MemorySets → ℕ → KeyClass → ℕ → Type 0
+IsTree sets root keys bits = IsTreeRoot (forest_of sets) root keys bits

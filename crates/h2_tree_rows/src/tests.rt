@@ -1,0 +1,5 @@
+mod orders;
+mod plain_list;
+mod rows;
+mod troubles;
+mod under_test;
