@@ -14,3 +14,4 @@ pub mod CauseLaws
 pub mod InodeLaws
 pub mod PassLaws
 pub mod OneCause
+pub mod OneFault

@@ -35,7 +35,7 @@ not_before : (b : Places) (i j : ℕ) (f : RefFault) → i < j → AreRefs j b �
 not_before b i j f lt decoded refused = none-some f (sym (decoded i lt) ∙ refused)
 
 -- the first refusal is one
-refused_one : (n : ℕ) (b : Places) (at by : ℕ) (f g : RefFault) → IsRefused n b (Set_ref at f) → IsRefused n b (Set_ref by g) → (by ≡ at) × (g ≡ f)
+pub refused_one : (n : ℕ) (b : Places) (at by : ℕ) (f g : RefFault) → IsRefused n b (Set_ref at f) → IsRefused n b (Set_ref by g) → (by ≡ at) × (g ≡ f)
 refused_one n b at by f g (i, lt, is, decoded) (j, below, there, before) = pick (cases_lt i j) (cases_lt j i)
   where
     equal : i ≡ j → (by ≡ at) × (g ≡ f)
@@ -47,13 +47,13 @@ refused_one n b at by f g (i, lt, is, decoded) (j, below, there, before) = pick 
     pick (inr le) (inr ge) = equal (omega arith)
 
 -- where all are decoded, none is refused
-none_refused : (n : ℕ) (b : Places) (at : ℕ) (f : RefFault) → AreRefs n b → IsRefused n b (Set_ref at f) → ⊥
+pub none_refused : (n : ℕ) (b : Places) (at : ℕ) (f : RefFault) → AreRefs n b → IsRefused n b (Set_ref at f) → ⊥
 none_refused n b at f all (i, lt, is, decoded) = not_before b i n f lt all is.1
 
 -- Inodes
 
 -- what must be zero is
-zero_there : (kind : InodeKind) (b : Places) (k : ℕ) → HasZeros kind b → MustBeZero kind b k → b k ≡ 0
+pub zero_there : (kind : InodeKind) (b : Places) (k : ℕ) → HasZeros kind b → MustBeZero kind b k → b k ≡ 0
 zero_there kind b k h (inl gap) = h.before_links k gap.0 gap.1
 zero_there kind b k h (inr (inl gap)) = h.before_name k gap.0 gap.1
 zero_there kind b k h (inr (inr (inl gap))) = h.behind_name k gap.0 gap.1

@@ -1,5 +1,5 @@
-ghost use Rattle.std.specs.Prelude.{◌≡◌, ◌<◌};
-ghost use Rattle.h2_num.specs.Places.{Places, AreBytes, SameBelow};
+ghost use Rattle.std.specs.Prelude.{◌≡◌, ◌⊎◌, ◌<◌};
+ghost use Rattle.h2_num.specs.Places.{Places, places, AreBytes, SameBelow};
 ghost use Rattle.h2_ref.specs.declared.faults.Why.{Why};
 ghost use Rattle.h2_ref.specs.declared.reference.Ref.{Ref};
 ghost use Rattle.h2_ref.specs.Ref.{IsValid, size_of};
@@ -9,6 +9,9 @@ ghost use Rattle.h2_inode.specs.Inode.{IsInode, InodeBytes, NoInode};
 ghost use Rattle.h2_inode.specs.Fault.{IsFaultOf};
 ghost use Rattle.h2_inode.specs.Block.{Passes};
 ghost use Rattle.h2_inode.specs.Cause.{IsCauseOf};
+
+use crate::decoding::decode_inode;
+use crate::layout::INODE_BYTES;
 
 /// A law: an inode has one spelling, bytes spell one inode at most, and which one is seen by their first 1024
 /// alone.
@@ -27,10 +30,19 @@ pub fn passing_law()
         → Passes r a → Passes r b }
 {}
 
-/// A law: bytes that meet a refusal spell no inode. So a refusal comes exactly where there is none.
+/// A law: bytes that meet a refusal spell no inode, and they meet one refusal at most. So a refusal comes
+/// exactly where there is no inode, and which one follows from the bytes.
 pub fn refusal_law()
-    ensures { (b : Places) (fault : InodeFault) → IsFaultOf b fault → NoInode b }
+    ensures refused { (b : Places) (fault : InodeFault) → IsFaultOf b fault → NoInode b }
+    ensures one { (b : Places) (fault other : InodeFault) → IsFaultOf b fault → IsFaultOf b other → other ≡ fault }
 {}
+
+/// A law: a block of 1024 bytes spells an inode, or meets a first refusal.
+pub fn inode_or_refusal_law(b: &[u8; INODE_BYTES])
+    ensures { ((i : Inode) × IsInode i × InodeBytes i (places b.now)) ⊎ ((fault : InodeFault) × IsFaultOf (places b.now) fault) }
+{
+    let _ = decode_inode(b);
+}
 
 /// A law: a block with a cause doesn't pass the reference that names it, and has one cause at most. So what
 /// `judge` answers follows from the reference and the bytes.

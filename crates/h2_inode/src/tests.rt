@@ -1,3 +1,6 @@
+mod changed_inodes;
+mod changed_refs;
+mod changed_sets;
 mod judging;
 
 use super::*;
