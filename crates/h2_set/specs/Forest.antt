@@ -78,10 +78,13 @@ pub record IsChild (f : Forest) (m k c : ℕ) : Type 0 where
   pub within : f.low c + 2 ^ f.bits c ≤ f.low m + 2 ^ f.bits m
   pub fewer : f.bits c < f.bits m
   pub copies : f.copies c ≡ f.copies m + cond (f.writable c) 0 1
+  pub belongs : (top key : ℕ) → f.belongs c top key ≡ f.belongs m top key
 
 -- a reference that may stand in node m
 pub record Fits (f : Forest) (m : ℕ) (r : Ref) : Type 0 where
   pub aligned : IsAligned r
+  -- no key lies from 2^62 up to below 2^63, so that those of one half of all keys lie in 2^62 or 2^63 of them
+  pub class : (r.key < 2 ^ 62) ⊎ (2 ^ 63 ≤ r.key)
   -- a leaf is one that the tree may have, as long as all others
   pub leaf : is_indirect r ≡ false → r.keybits ≡ f.leaf_bits (f.root m)
   pub allowed : is_indirect r ≡ false → f.allows (f.root m) r ≡ true
@@ -104,8 +107,6 @@ pub record IsSoundNode (f : Forest) (m : ℕ) : Type 0 where
   pub inside : Rising (f.low m) (f.low m + 2 ^ f.bits m) (refs f m)
   pub aligned : f.low m % 2 ^ f.bits m ≡ 0
   pub ends : f.low m + 2 ^ f.bits m ≤ 2 ^ 64
-  -- its keys are all below 2^62, or all at least 2^63
-  pub class : (f.low m + 2 ^ f.bits m ≤ 2 ^ 62) ⊎ (2 ^ 63 ≤ f.low m)
   pub fits : (i : ℕ) (r : Ref) → slice_get (refs f m) i ≡ Some r → Fits f m r
   -- an indirect block holds at least one reference
   pub some : (f.root m ≡ m → ⊥) → 0 < length (refs f m)
@@ -113,7 +114,9 @@ pub record IsSoundNode (f : Forest) (m : ℕ) : Type 0 where
   pub named : (k c : ℕ) → f.link m k ≡ loaded c → NamesBelow (refs f m) k
   pub bits : (i c : ℕ) (r : Ref) → slice_get (refs f m) i ≡ Some r → is_indirect r ≡ true → f.link m r.key ≡ loaded c → f.bits c ≡ r.keybits
   pub top : f.root m ≡ m → f.copies m ≡ 0
-  -- a path is no longer than its bits fall
+  -- the range of a root is one half of all keys
+  pub half : f.root m ≡ m → f.bits m ≡ 63
+  -- a path is no longer than its bits fall, and an indirect block has one at least: so there are at most 62 below a root
   pub slope : f.copies m + f.bits m ≤ 63
 
 pub record IsSound (f : Forest) : Type 0 where
@@ -214,12 +217,22 @@ pub record Same (f g : Forest) (m : ℕ) : Type 0 where
   pub writable : g.writable m ≡ f.writable m
   pub copies : g.copies m ≡ f.copies m
 
--- nothing changed but what is loaded at key k of node at
+-- nothing changed but what is loaded at key k of node at, and no other node was loaded
 pub record Loads (f g : Forest) (at k : ℕ) : Type 0 where
   pub keeps : (m : ℕ) → f.stands m ≡ true → (m ≡ at → ⊥) → Keeps f g m
   pub link : (j : ℕ) → (j ≡ k → ⊥) → g.link at j ≡ f.link at j
+  pub new : (m : ℕ) → g.stands m ≡ true → (f.stands m ≡ true) ⊎ (g.link at k ≡ loaded m)
 
--- nothing but loads took place
+-- nothing has changed, but for the two counts
+pub record Unchanged (f g : Forest) : Type 0 where
+  pub sound : IsSound g
+  pub fixed : Fixed f g
+  pub same : (m : ℕ) → f.stands m ≡ true → Same f g m
+  pub none_new : (m : ℕ) → g.stands m ≡ true → f.stands m ≡ true
+  pub spare : g.spare ≡ f.spare
+  pub room : g.room ≡ f.room
+
+-- nothing but loads took place: nodes have been loaded, and all else but the two counts is as before
 pub record Walks (f g : Forest) : Type 0 where
   pub sound : IsSound g
   pub fixed : Fixed f g
@@ -227,16 +240,37 @@ pub record Walks (f g : Forest) : Type 0 where
   pub sets : (m : ℕ) → f.stands m ≡ true → g.set m ≡ f.set m
   pub writable : (m : ℕ) → f.stands m ≡ true → g.writable m ≡ f.writable m
   pub copies : (m : ℕ) → f.stands m ≡ true → g.copies m ≡ f.copies m
-  pub spare : f.spare ≤ g.spare
+  pub spare : g.spare ≡ f.spare
   pub room : g.room ≡ f.room
 
--- node at and all above it are writable now
+-- reference r of node m leads to node at: it names that node or one above it in its tree, or, in another tree, it is
+-- on the way to what the node belongs to
+pub data OnWay (f : Forest) (m : ℕ) (r : Ref) (at : ℕ) : Type 0 where
+  inside : f.root m ≡ f.root at → is_indirect r ≡ true → holds (f.low at) r ≡ true → f.bits at ≤ r.keybits → OnWay f m r at
+  across : (key : ℕ) → (f.root m ≡ f.root at → ⊥) → holds key r ≡ true → f.belongs at (f.root m) key ≡ true → OnWay f m r at
+
+-- node m is node at, or a reference of it leads there
+pub data IsAbove (f : Forest) (m at : ℕ) : Type 0 where
+  itself : m ≡ at → IsAbove f m at
+  by : (i : ℕ) (r : Ref) → slice_get (refs f m) i ≡ Some r → OnWay f m r at → IsAbove f m at
+
+-- Node at and all above it are writable now, the root too, and what is above that. References on the way to it may
+-- name other blocks, those to nodes that weren't writable; nothing else has changed.
 pub record Alters (f g : Forest) (at : ℕ) : Type 0 where
   pub sound : IsSound g
   pub fixed : Fixed f g
   pub writable : g.writable at ≡ true
+  pub top : g.writable (f.root at) ≡ true
+  pub made : (m : ℕ) → f.stands m ≡ true → IsAbove f m at → g.writable m ≡ true
+  -- none of those from the node up to below the root has to be copied any more
   pub copies : g.copies at ≡ 0
   pub room : g.room + f.copies at ≡ f.room
+  -- a reference that doesn't lead to the node is the same
+  pub exact : (m i : ℕ) (r : Ref) → f.stands m ≡ true → slice_get (refs f m) i ≡ Some r → (OnWay f m r at → ⊥) → slice_get (refs g m) i ≡ Some r
+  -- nor does one change that names a node which was writable
+  pub kept : (m i c : ℕ) (r : Ref) → f.stands m ≡ true → slice_get (refs f m) i ≡ Some r → f.link m r.key ≡ loaded c → f.writable c ≡ true → slice_get (refs g m) i ≡ Some r
+  -- what isn't above the node is as writable as before
+  pub others : (m : ℕ) → f.stands m ≡ true → (IsAbove f m at → ⊥) → g.writable m ≡ f.writable m
   pub tree : (m : ℕ) → f.stands m ≡ true → f.root m ≡ f.root at → Keeps f g m
   pub above : (m : ℕ) → f.stands m ≡ true → (f.root m ≡ f.root at → ⊥) → Renews f g m
   pub capacity : (m : ℕ) → f.stands m ≡ true → let s = f.set m in let t = g.set m in t.capacity ≡ s.capacity
@@ -354,7 +388,9 @@ pub record Makes (f g : Forest) (at c : ℕ) (set : RefSet) (s : Split) : Type 0
   -- what was below a key of the range is below the new node, and all else below the old one
   pub below_moved : (k : ℕ) → s.key ≤ k → k < s.key + 2 ^ s.keybits → g.link c k ≡ f.link at k
   pub below_kept : (k : ℕ) → (k < s.key) ⊎ (s.key + 2 ^ s.keybits ≤ k) → g.link at k ≡ f.link at k
-  pub others : (m : ℕ) → f.stands m ≡ true → (m ≡ at → ⊥) → Keeps f g m
+  pub copies : g.copies at ≡ f.copies at
+  pub others : (m : ℕ) → f.stands m ≡ true → (m ≡ at → ⊥) → Same f g m
+  pub none_new : (m : ℕ) → g.stands m ≡ true → (m ≡ c) ⊎ (f.stands m ≡ true)
   pub spare : g.spare + 1 ≡ f.spare
   pub room : g.room + 1 ≡ f.room
   pub failed : g.failed ≡ f.failed

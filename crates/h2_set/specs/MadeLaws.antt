@@ -1,5 +1,5 @@
 -- How the split rule's range parts the set of a node.
-use Rattle.std.proofs.Common.{◌≡◌, ℕ, ◌+◌, ◌<◌, ◌≤◌, ◌^◌, Bool, true, false, arith, refl, cond, sym, ◌∙◌, ap, List, [], ◌∷◌, length, Option, Some, None, subst, ◌⊎◌, inl, inr, slice_get, suc, zero}
+use Rattle.std.proofs.Common.{◌≡◌, ℕ, ◌+◌, ◌<◌, ◌≤◌, ◌^◌, ◌%◌, Bool, true, false, arith, refl, cond, sym, ◌∙◌, ap, List, [], ◌∷◌, length, Option, Some, None, subst, ◌⊎◌, inl, inr, slice_get, suc, zero}
 use Rattle.std.specs.Prelude.{count_by}
 use Rattle.std.proofs.lemmas.Nat.{pow_pos}
 use Rattle.std.proofs.lemmas.Option.{none-some}
@@ -11,7 +11,25 @@ use Rattle.h2_set.specs.Forest.{Forest, refs, Fits, IsSoundNode, MadeFrom}
 use Rattle.h2_set.specs.LeafLaws.{place_above}
 use Rattle.h2_set.specs.EditLaws.{Rising-put, length-put}
 use Rattle.h2_set.specs.PutLaws.{put_from}
-use Rattle.h2_set.specs.SplitLaws.{below_high, in_lies, counted, split_two, split_shorter, split_fewer, split_inside, split_sides, split_few}
+use Rattle.h2_set.specs.PartLaws.{lies_inside}
+use Rattle.h2_set.specs.SplitLaws.{nested, below_high, in_lies, counted, split_two, split_shorter, split_fewer, split_inside, split_sides, split_few}
+
+-- the range of a node lies in one half of all keys
+pub one_half : (f : Forest) (at : ℕ) → IsSoundNode f at → (f.low at + 2 ^ f.bits at ≤ 2 ^ 63) ⊎ (2 ^ 63 ≤ f.low at)
+one_half f at node =
+    let zero_is : 0 % 2 ^ 63 ≡ 0 = refl in
+    elim (nested (f.low at) (f.bits at) 0 63 node.aligned zero_is (omega (arith, node.slope))) as (λ _. (f.low at + 2 ^ f.bits at ≤ 2 ^ 63) ⊎ (2 ^ 63 ≤ f.low at)) [
+      | inl in_it ↦ inl (omega (arith, in_it.1))
+      | inr out ↦ elim out as (λ _. (f.low at + 2 ^ f.bits at ≤ 2 ^ 63) ⊎ (2 ^ 63 ≤ f.low at)) [
+        | inl before ↦ let pos = pow_pos (f.bits at) in absurd (omega (arith, before, pos))
+        | inr behind ↦ inr (omega (arith, behind))
+      ]
+    ]
+
+-- a key of the lower half
+small_key : (q : Ref) → (q.key < 2 ^ 62) ⊎ (2 ^ 63 ≤ q.key) → q.key < 2 ^ 63 → q.key < 2 ^ 62
+small_key q (inl small) lower = small
+small_key q (inr large) lower = absurd (omega (arith, large, lower))
 
 -- a set with one more in its order, in a sound node
 module _ (f : Forest) (at : ℕ) (r : Ref) (node : IsSoundNode f at) (apart : IsApart r (refs f at)) (fits : Fits f at r) (low : f.low at ≤ r.key) (high : limit r ≤ f.low at + 2 ^ f.bits at) where
@@ -34,9 +52,12 @@ module _ (f : Forest) (at : ℕ) (r : Ref) (node : IsSoundNode f at) (apart : Is
   }
 
   pub put_class : IsOneClass (put r (refs f at))
-  put_class = elim node.class as (λ _. IsOneClass (put r (refs f at))) [
-    | inl small ↦ inl (λ i q read. let top = below_high _ _ (put r (refs f at)) i q put_rising read in let pos = pow_pos q.keybits in omega (arith, top, pos, small))
-    | inr large ↦ inr (λ i q read. let from = place_above _ _ (put r (refs f at)) i q put_rising read in omega (arith, from, large))
+  put_class = elim (one_half f at node) as (λ _. IsOneClass (put r (refs f at))) [
+    | inl lower ↦ inl (λ i q read.
+        let top = below_high _ _ (put r (refs f at)) i q put_rising read in
+        let pos = pow_pos q.keybits in
+        small_key q (put_fits i q read).class (omega (arith, top, pos, lower)))
+    | inr upper ↦ inr (λ i q read. let from = place_above _ _ (put r (refs f at)) i q put_rising read in omega (arith, from, upper))
   ]
 
 -- what the range of a split is to the node that is split
@@ -44,6 +65,7 @@ pub record PartsNode (f : Forest) (at : ℕ) (r : Ref) (key bits : ℕ) : Type 0
   pub range_low : f.low at ≤ key
   pub range_high : key + 2 ^ bits ≤ f.low at + 2 ^ f.bits at
   pub fewer : bits < f.bits at
+  pub class : (key < 2 ^ 62) ⊎ (2 ^ 63 ≤ key)
   pub wide : f.leaf_bits (f.root at) < bits
   pub sides : (i : ℕ) (q : Ref) → slice_get (put r (refs f at)) i ≡ Some q → Sides key bits q
   pub shorter : (i : ℕ) (q : Ref) → slice_get (put r (refs f at)) i ≡ Some q → lies key bits q ≡ true → q.keybits < bits
@@ -65,10 +87,16 @@ parts_node f at r set s node made =
     let few = split_few all _ _ rising aligned s.key s.keybits three made.split in
     let it = counted (lies s.key s.keybits) all (omega (arith, two)) in
     let less = shorter it.place it.ref it.read it.holds in
+    let first = (lies_inside s.key s.keybits it.ref it.holds).0 in
+    let top = below_high _ _ all it.place it.ref rising it.read in
     record {
       range_low = inside.0;
       range_high = inside.1;
       fewer = split_fewer all _ _ rising aligned s.key s.keybits three made.split _ _ holds;
+      class = elim (one_half f at node) as (λ _. (s.key < 2 ^ 62) ⊎ (2 ^ 63 ≤ s.key)) [
+        | inl lower ↦ let pos = pow_pos it.ref.keybits in let small = small_key it.ref (fits it.place it.ref it.read).class (omega (arith, top, pos, lower)) in inl (omega (arith, first, small))
+        | inr upper ↦ inr (omega (arith, inside.0, upper))
+      ];
       wide = longer it.ref (is_indirect it.ref) refl (fits it.place it.ref it.read) less;
       sides = split_sides all _ _ rising aligned s.key s.keybits three made.split;
       shorter = shorter;

@@ -10,7 +10,7 @@ use Rattle.h2_set.specs.LeafLaws.{Rising-le, Rising-low, Rising-append, leaves_r
 use Rattle.h2_set.specs.EditLaws.{behind_apart}
 use Rattle.h2_set.specs.ChangeLaws.{put_below}
 
-lies_inside : (key bits : ℕ) (r : Ref) → lies key bits r ≡ true → (key ≤ r.key) × (limit r ≤ key + 2 ^ bits)
+pub lies_inside : (key bits : ℕ) (r : Ref) → lies key bits r ≡ true → (key ≤ r.key) × (limit r ≤ key + 2 ^ bits)
 lies_inside key bits r e = (grind (arith, nat_tests), grind (arith, nat_tests))
 
 not_before : (key bits : ℕ) (r : Ref) → limit r ≤ key → lies key bits r ≡ false

@@ -3,7 +3,7 @@ use Rattle.std.proofs.Common.{◌≡◌, ℕ, ◌+◌, ◌<◌, ◌≤◌, ◌^�
 use Rattle.h2_ref.specs.declared.reference.Ref.{Ref}
 use Rattle.h2_set.specs.Ranges.{Rising, limit, holds, find, leads_on, is_indirect}
 use Rattle.h2_set.specs.RefSet.{RefSet}
-use Rattle.h2_set.specs.Forest.{Link, loaded, told, untold, Forest, refs, HasLeaves, done, one, near, far, LeavesOf, KeepsLeaves, IsChild, IsSoundNode, IsSound, IsAlike, Alike, Below, Fixed, InPlace, Stays, Walks, ReadiesOnly, Reaches, nowhere, here, below}
+use Rattle.h2_set.specs.Forest.{Link, loaded, told, untold, Forest, refs, HasLeaves, done, one, near, far, LeavesOf, KeepsLeaves, IsChild, IsSoundNode, IsSound, IsAlike, Alike, Below, Fixed, InPlace, Stays, Same, Walks, Unchanged, ReadiesOnly, Reaches, nowhere, here, below}
 
 IsAlike-refl : (r : Ref) → IsAlike r r
 IsAlike-refl r = record { kind = refl; key = refl; keybits = refl; radix = refl; dirent = refl; leaf = λ _. refl }
@@ -110,7 +110,7 @@ Stays-trans f g h sound all m a =
     }
 
 pub Walks-refl : (f : Forest) → IsSound f → Walks f f
-Walks-refl f sound = record { sound = sound; fixed = Fixed-refl f; stays = λ m stands. Stays-refl f m stands; sets = λ m stands. refl; writable = λ m stands. refl; copies = λ m stands. refl; spare = omega arith; room = refl }
+Walks-refl f sound = record { sound = sound; fixed = Fixed-refl f; stays = λ m stands. Stays-refl f m stands; sets = λ m stands. refl; writable = λ m stands. refl; copies = λ m stands. refl; spare = refl; room = refl }
 
 pub Walks-trans : (f g h : Forest) → Walks f g → Walks g h → Walks f h
 Walks-trans f g h a b = record {
@@ -120,7 +120,7 @@ Walks-trans f g h a b = record {
   sets = λ m stands. b.sets m (a.stays m stands).place.stands ∙ a.sets m stands;
   writable = λ m stands. b.writable m (a.stays m stands).place.stands ∙ a.writable m stands;
   copies = λ m stands. b.copies m (a.stays m stands).place.stands ∙ a.copies m stands;
-  spare = omega (arith, a.spare, b.spare);
+  spare = b.spare ∙ a.spare;
   room = b.room ∙ a.room;
 }
 
@@ -134,20 +134,32 @@ Reaches-walks {key = key} sound walk stands (nowhere {at = at} miss) = nowhere (
 Reaches-walks sound walk stands (here {at = at} {r = r} i read in_r leaf) = here {r = r} i (ap (λ (s : RefSet). slice_get s.refs i) (walk.sets at stands) ∙ read) in_r leaf
 Reaches-walks {f} sound walk stands (below {at = at} {c = c} {r = r} i read in_r ind link rest) = below {r = r} i (ap (λ (s : RefSet). slice_get s.refs i) (walk.sets at stands) ∙ read) in_r ind ((walk.stays at stands).near r.key c link) (Reaches-walks sound walk (stands_below f sound at r.key c stands link) rest)
 
--- only spare has grown
-pub Readies-walks : (f g : Forest) → ReadiesOnly f g → Walks f g
-Readies-walks f g r = record {
-  sound = r.sound;
-  fixed = r.fixed;
-  stays = λ m stands. let same = r.same m stands in record {
-    place = same.place;
-    alike = subst (λ (s : RefSet). Alike (refs f m) s.refs) (sym same.set) (Alike-refl (refs f m));
-    near = λ k c e. same.link k ∙ e;
-    far = λ k l e. inl (same.link k ∙ e);
-  };
-  sets = λ m stands. (r.same m stands).set;
-  writable = λ m stands. (r.same m stands).writable;
-  copies = λ m stands. (r.same m stands).copies;
-  spare = r.spare;
-  room = r.room;
+-- a node of which nothing has changed stays
+pub Same-Stays : (f g : Forest) (m : ℕ) → Same f g m → Stays f g m
+Same-Stays f g m same = record {
+  place = same.place;
+  alike = subst (λ (s : RefSet). Alike (refs f m) s.refs) (sym same.set) (Alike-refl (refs f m));
+  near = λ k c e. same.link k ∙ e;
+  far = λ k l e. inl (same.link k ∙ e);
 }
+
+-- where nothing has changed, nothing but loads took place
+pub Unchanged-walks : (f g : Forest) → Unchanged f g → Walks f g
+Unchanged-walks f g u = record {
+  sound = u.sound;
+  fixed = u.fixed;
+  stays = λ m stands. Same-Stays f g m (u.same m stands);
+  sets = λ m stands. (u.same m stands).set;
+  writable = λ m stands. (u.same m stands).writable;
+  copies = λ m stands. (u.same m stands).copies;
+  spare = u.spare;
+  room = u.room;
+}
+
+-- where only spare may have grown, and has not, nothing has changed
+pub Readies-unchanged : (f g : Forest) → ReadiesOnly f g → g.spare ≡ f.spare → Unchanged f g
+Readies-unchanged f g r spare = record { sound = r.sound; fixed = r.fixed; same = r.same; none_new = r.none_new; spare = spare; room = r.room }
+
+-- where only spare has grown, the leaves of each node stay
+pub Readies-leaves : (f g : Forest) → IsSound f → ReadiesOnly f g → (at : ℕ) → f.stands at ≡ true → KeepsLeaves f g at
+Readies-leaves f g sound r at stands = leaves_stay_all f g sound (λ m st. Same-Stays f g m (r.same m st)) at stands

@@ -1,7 +1,9 @@
 ghost use Rattle.std.specs.Prelude.{◌≡◌, ◌^◌, ◌<◌, ◌≤◌, ℕ, List, true, Some, IfOk, IfErr, OnErr, OnOk, IsOk, IsTrue, slice_get, take, length};
 ghost use Rattle.h2_ref.specs.declared.reference.Ref.{Ref};
 ghost use Rattle.h2_ref.specs.declared.reference.Dirent.{Dirent};
-ghost use Rattle.h2_set.specs.Forest.{Forest, refs, loaded, IsSound, IsIndirectAt, Walks, HasCause, Alters, Storable, Stores, Loads, MadeFrom, Makes, ReadiesOnly, KeepsBeside};
+ghost use Rattle.h2_ref.specs.declared.faults.Trouble.{Trouble};
+ghost use Rattle.h2_ref.specs.Ref.{IsValid};
+ghost use Rattle.h2_set.specs.Forest.{Forest, refs, loaded, IsSound, IsIndirectAt, Walks, HasCause, Alters, Storable, Stores, Loads, Unchanged, MadeFrom, Makes, ReadiesOnly, KeepsBeside};
 
 use crate::set::{Set, Split};
 use h2_num::{Bytes, NoMemory};
@@ -42,15 +44,17 @@ pub trait Sets {
     fn epoch(&self) -> u64
         ensures { let f = forest self.now in result ≡ f.epoch };
 
-    /// The node that the indirect reference at place `i` of the set leads to, loaded where it wasn't. Trouble only
-    /// where it wasn't loaded: Failed where the disk failed, Bad where the block isn't one of this tree.
-    fn child(&mut self, at: NodeId, i: usize) -> Result<NodeId, Trouble>
+    /// The node that the indirect reference at place `i` of the set leads to, loaded where it wasn't. No other node
+    /// is loaded. Trouble only where it wasn't loaded: Failed where the disk failed, Bad where the block isn't one of
+    /// this tree. After it nothing but the two counts has changed.
+    fn child(&mut self, alloc: Global, at: NodeId, i: usize) -> Result<NodeId, Trouble>
         requires sound { IsSound (forest self.old) }
         requires stands { let f = forest self.old in f.stands at.0 ≡ true }
         requires indirect { IsIndirectAt (refs (forest self.old) at.0) i }
         ensures walks { Walks (forest self.old) (forest self.new) }
         ensures ok { let g = forest self.new in IfOk result (λ c. (r : Ref) → slice_get (refs (forest self.old) at.0) i ≡ Some r → g.link at.0 r.key ≡ loaded c.0) }
         ensures loads { (r : Ref) → slice_get (refs (forest self.old) at.0) i ≡ Some r → Loads (forest self.old) (forest self.new) at.0 r.key }
+        ensures same { OnErr result (Unchanged (forest self.old) (forest self.new)) }
         ensures err { IfErr result (HasCause (forest self.old) (forest self.new)) }
         ensures unloaded { let f = forest self.old in OnErr result ((r : Ref) (c : ℕ) → slice_get (refs f at.0) i ≡ Some r → f.link at.0 r.key ≡ loaded c → ⊥) }
         ensures beside { KeepsBeside (forest self.old) (forest self.new) (beside self.old) (beside self.new) }
@@ -58,7 +62,7 @@ pub trait Sets {
 
     /// Makes the number of spare nodes at least `n`. It isn't refused where it is so already, and after a refusal
     /// nothing has changed.
-    fn ready(&mut self, n: u32) -> Result<(), NoMemory>
+    fn ready(&mut self, alloc: Global, n: u32) -> Result<(), NoMemory>
         requires sound { IsSound (forest self.old) }
         ensures ok { let g = forest self.new in OnOk result (n ≤ g.spare) }
         ensures same { ReadiesOnly (forest self.old) (forest self.new) }
@@ -67,8 +71,10 @@ pub trait Sets {
         ensures beside { KeepsBeside (forest self.old) (forest self.new) (beside self.old) (beside self.new) }
         ensures later { later self.old self.new };
 
-    /// Makes the node and all above it writable, and lowers the room by the number of nodes from it up to below the
-    /// root that weren't. References to them, and those above the root, name other blocks then.
+    /// Makes the node and all above it writable, the root and what is above that too, and lowers the room by the
+    /// number of nodes from it up to below the root that weren't. The references on the way to the node, in its tree
+    /// and from above the root, may name other blocks then, but for those to nodes that were writable. No other
+    /// reference changes.
     fn alter(&mut self, at: NodeId)
         requires sound { IsSound (forest self.old) }
         requires stands { let f = forest self.old in f.stands at.0 ≡ true }
@@ -77,7 +83,7 @@ pub trait Sets {
         ensures beside { KeepsBeside (forest self.old) (forest self.new) (beside self.old) (beside self.new) }
         ensures later { later self.old self.new };
 
-    /// Makes `set` the set of a writable node. What stood below a reference that it lacks is gone.
+    /// Makes `set` the set of a writable node. What stood below a reference that it lacks isn't kept; all else is.
     fn store(&mut self, at: NodeId, set: Set)
         requires sound { IsSound (forest self.old) }
         requires stands { let f = forest self.old in f.stands at.0 ≡ true }
@@ -88,7 +94,7 @@ pub trait Sets {
         ensures later { later self.old self.new };
 
     /// Makes a writable indirect node of what a split of a copy of the set of `at` moved, and gives `at` the rest and
-    /// a reference to it. It lowers the spare nodes and the room by one.
+    /// a reference to it. Nodes that were loaded stay loaded. It lowers the spare nodes and the room by one.
     fn make(&mut self, at: NodeId, set: Set, split: Split) -> NodeId
         requires sound { IsSound (forest self.old) }
         requires stands { let f = forest self.old in f.stands at.0 ≡ true }
@@ -99,14 +105,17 @@ pub trait Sets {
         ensures beside { KeepsBeside (forest self.old) (forest self.new) (beside self.old) (beside self.new) }
         ensures later { later self.old self.new };
 
-    /// The name of a directory's entry. Trouble only from a load or want of memory.
+    /// The name of a directory's entry. Nothing but the two counts changes. Trouble only from a load or want of memory
+    /// in this call, and a name of at most 64 bytes, which stands in its entry, needs no load.
     fn name(&mut self, alloc: Global, r: &Ref) -> Result<Bytes, Trouble>
         requires sound { IsSound (forest self.old) }
+        requires valid { IsValid r.now }
         requires entry { (d : Dirent) × (r.now.dirent ≡ Some d) }
-        ensures walks { Walks (forest self.old) (forest self.new) }
+        ensures same { Unchanged (forest self.old) (forest self.new) }
         ensures told { let f = forest self.old in IfOk result (λ b. (name : List ℕ) → f.name r.now ≡ Some name → b ≡ name) }
         ensures inline { IfOk result (λ b. (d : Dirent) → r.now.dirent ≡ Some d → d.len ≤ 64 → b ≡ take d.len d.name) }
         ensures err { IfErr result (HasCause (forest self.old) (forest self.new)) }
+        ensures unread { IfErr result (λ e. (d : Dirent) → r.now.dirent ≡ Some d → d.len ≤ 64 → e ≡ Trouble.NoMemory) }
         ensures beside { KeepsBeside (forest self.old) (forest self.new) (beside self.old) (beside self.new) }
         ensures later { later self.old self.new };
 

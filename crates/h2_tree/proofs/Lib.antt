@@ -1,12 +1,14 @@
 mod Answering
 mod Climb
 mod Collect
+mod Going
 mod Store
 mod Edit
 mod Parted
 mod Descend
 mod Readied
 mod Only
+mod Paths
 mod Removal
 mod RemoveBelow
 mod Taking

@@ -26,6 +26,7 @@ fn take_leaf(r: Ref, from: u64, to: u64, out: &mut Vec<Ref>) -> Result<(), Troub
 
 // Appends the leaves below a node with keys from `from` to `to`.
 fn collect<N: Sets>(
+    alloc: Global,
     n: &mut N,
     at: NodeId,
     from: u64,
@@ -44,8 +45,8 @@ fn collect<N: Sets>(
     for i in 0..len {
         let r = *n.get(at).at(i);
         if is_indirect(&r) {
-            let child = n.child(at, i)?;
-            collect(n, child, from, to, out)?;
+            let child = n.child(alloc, at, i)?;
+            collect(alloc, n, child, from, to, out)?;
         } else {
             take_leaf(r, from, to, out)?;
         }
@@ -70,6 +71,6 @@ pub fn range<N: Sets>(
     ensures later { N.later n.old n.new }
 {
     let mut out = Vec::new(alloc);
-    collect(n, root, from, to, &mut out)?;
+    collect(alloc, n, root, from, to, &mut out)?;
     Ok(out)
 }

@@ -6,10 +6,16 @@ ghost use Rattle.h2_tree.specs.Changes.{PathUnloaded};
 
 use h2_ref::{Ref, Trouble};
 use h2_set::{NodeId, Sets, is_indirect};
+use std::alloc::Global;
 
 /// The leaf whose range holds the key; None exactly where there is none. Afterwards every node on the key's path is
 /// loaded. Trouble only where one wasn't.
-pub fn lookup<N: Sets>(n: &mut N, root: NodeId, key: u64) -> Result<Option<Ref>, Trouble>
+pub fn lookup<N: Sets>(
+    alloc: Global,
+    n: &mut N,
+    root: NodeId,
+    key: u64,
+) -> Result<Option<Ref>, Trouble>
     requires sound { IsSound (N.forest n.old) }
     requires stands { let f = N.forest n.old in f.stands root.0 ≡ true }
     ensures walks { Walks (N.forest n.old) (N.forest n.new) }
@@ -30,6 +36,6 @@ pub fn lookup<N: Sets>(n: &mut N, root: NodeId, key: u64) -> Result<Option<Ref>,
         if !is_indirect(&found) {
             return Ok(Some(found));
         }
-        at = n.child(at, i)?;
+        at = n.child(alloc, at, i)?;
     }
 }

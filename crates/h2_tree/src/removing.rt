@@ -6,6 +6,7 @@ ghost use Rattle.h2_tree.specs.Changes.{IsFree, LeadsOnly, Removes, TakesOut, Pa
 
 use h2_ref::{Ref, Trouble};
 use h2_set::{NodeId, Sets, is_indirect};
+use std::alloc::Global;
 
 /// What taking a leaf out of a node's tree came to.
 #[derive(Clone, Copy, PartialEq, Eq)]
@@ -25,7 +26,7 @@ fn cut_at<N: Sets>(n: &mut N, at: NodeId, i: usize)
     requires room { let f = N.forest n.old in (f.copies at.0 ≤ 62) × (62 ≤ f.room) }
     requires more { let f = N.forest n.old in (f.root at.0 ≡ at.0) ⊎ (2 ≤ length (refs f at.0)) }
     requires only { let f = N.forest n.old in (leaf : Ref) × LeadsOnly f at.0 i leaf × IsFree f (f.root at.0) leaf.key }
-    ensures removes { let f = N.forest n.old in (leaf : Ref) → LeadsOnly f at.0 i leaf → IsFree f (f.root at.0) leaf.key → Removes f (N.forest n.new) at.0 leaf.key }
+    ensures removes { let f = N.forest n.old in (leaf : Ref) → LeadsOnly f at.0 i leaf → IsFree f (f.root at.0) leaf.key → Removes f (N.forest n.new) at.0 leaf }
     ensures beside { KeepsBeside (N.forest n.old) (N.forest n.new) (N.beside n.old) (N.beside n.new) }
     ensures later { N.later n.old n.new }
 {
@@ -54,7 +55,7 @@ fn cut_unless_sole<N: Sets>(n: &mut N, at: NodeId, i: usize, leaf: Ref) -> Taken
 }
 
 // Takes the leaf with the key out of the tree below a node, unless the node has no other.
-fn take<N: Sets>(n: &mut N, at: NodeId, key: u64) -> Result<Taken, Trouble>
+fn take<N: Sets>(alloc: Global, n: &mut N, at: NodeId, key: u64) -> Result<Taken, Trouble>
     requires sound { IsSound (N.forest n.old) }
     requires stands { let f = N.forest n.old in f.stands at.0 ≡ true }
     requires room { let f = N.forest n.old in (f.copies at.0 ≤ 62) × (62 ≤ f.room) }
@@ -77,8 +78,8 @@ fn take<N: Sets>(n: &mut N, at: NodeId, key: u64) -> Result<Taken, Trouble>
         }
         return Ok(cut_unless_sole(n, at, i, found));
     }
-    let child = n.child(at, i)?;
-    match take(n, child, key)? {
+    let child = n.child(alloc, at, i)?;
+    match take(alloc, n, child, key)? {
         Taken::Sole(leaf) => Ok(cut_unless_sole(n, at, i, leaf)),
         Taken::Out(leaf) => Ok(Taken::Out(leaf)),
         Taken::Nothing => Ok(Taken::Nothing),
@@ -88,14 +89,20 @@ fn take<N: Sets>(n: &mut N, at: NodeId, key: u64) -> Result<Taken, Trouble>
 /// Takes out the leaf with this key, which is answered; None exactly where there is none, and then nothing has
 /// changed. What the leaf names isn't held, and the room is at least 62. Indirect blocks that become empty go.
 /// Trouble only where a node on the key's path isn't loaded.
-pub fn remove<N: Sets>(n: &mut N, root: NodeId, key: u64) -> Result<Option<Ref>, Trouble>
+pub fn remove<N: Sets>(
+    alloc: Global,
+    n: &mut N,
+    root: NodeId,
+    key: u64,
+) -> Result<Option<Ref>, Trouble>
     requires sound { IsSound (N.forest n.old) }
     requires stands { let f = N.forest n.old in f.stands root.0 ≡ true }
     requires top { let f = N.forest n.old in f.root root.0 ≡ root.0 }
     requires room { let f = N.forest n.old in 62 ≤ f.room }
     requires free { IsFree (N.forest n.old) root.0 key }
     ensures answer { IfOk result (λ o. (l : List Ref) → LeavesOf (N.forest n.old) root.0 l → o ≡ at_key key l) }
-    ensures removes { IfOk result (λ o. IfSome o (λ leaf. Removes (N.forest n.old) (N.forest n.new) root.0 key)) }
+    ensures removes { IfOk result (λ o. IfSome o (Removes (N.forest n.old) (N.forest n.new) root.0)) }
+    ensures key { IfOk result (λ o. IfSome o (λ leaf. leaf.key ≡ key)) }
     ensures absent { IfOk result (λ o. IfNone o (Walks (N.forest n.old) (N.forest n.new))) }
     ensures walks { OnErr result (Walks (N.forest n.old) (N.forest n.new)) }
     ensures err { IfErr result (HasCause (N.forest n.old) (N.forest n.new)) }
@@ -103,7 +110,7 @@ pub fn remove<N: Sets>(n: &mut N, root: NodeId, key: u64) -> Result<Option<Ref>,
     ensures beside { KeepsBeside (N.forest n.old) (N.forest n.new) (N.beside n.old) (N.beside n.new) }
     ensures later { N.later n.old n.new }
 {
-    match take(n, root, key)? {
+    match take(alloc, n, root, key)? {
         Taken::Nothing => Ok(None),
         Taken::Out(leaf) => Ok(Some(leaf)),
         Taken::Sole(leaf) => {

@@ -1,5 +1,5 @@
 use Rattle.std.proofs.Common.{◌≡◌, true, false, sym, ◌∙◌}
-use Rattle.h2_set.specs.StayLaws.{Readies-walks}
+use Rattle.h2_set.specs.StayLaws.{Readies-unchanged, Unchanged-walks}
 use Rattle.h2_tree.proofs.Readied.{takes_after, inserts_after, none_after, full_after, not_full}
 use Rattle.h2_tree.proofs.Answering.{always_err}
 use Rattle.h2_tree.proofs.inserting.add.Goals as goal
@@ -22,7 +22,7 @@ place-requires-clause-space g c =
     cc)
 
 pub returns-in_err-ready-clause-walks : goal.returns-in_err-ready-clause-walks
-returns-in_err-ready-clause-walks g c = always_err c.from_residual.result (Readies-walks _ _ c.in_err-ready.ensures.same)
+returns-in_err-ready-clause-walks g c = always_err c.from_residual.result (Unchanged-walks _ _ (Readies-unchanged _ _ c.in_err-ready.ensures.same c.in_err-ready.ensures.err))
 
 pub returns-then-is_full-clause-ok : goal.returns-then-is_full-clause-ok
-returns-then-is_full-clause-ok g c = inserts_after _ _ _ _ c.requires.stands c.in_ok-ready.ensures.same _ c.requires.sound c.part.ensures.inserts
+returns-then-is_full-clause-ok g c = inserts_after _ _ _ _ c.requires.stands c.in_ok-ready.ensures.same _ _ c.requires.sound c.part.ensures.inserts
