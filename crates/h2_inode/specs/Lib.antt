@@ -15,3 +15,5 @@ pub mod InodeLaws
 pub mod PassLaws
 pub mod OneCause
 pub mod OneFault
+pub mod Nodes
+pub mod NodeLaws

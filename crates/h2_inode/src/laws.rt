@@ -1,4 +1,4 @@
-ghost use Rattle.std.specs.Prelude.{◌≡◌, ◌⊎◌, ◌<◌};
+ghost use Rattle.std.specs.Prelude.{◌≡◌, ◌⊎◌, ◌<◌, ℕ, true, List, Option};
 ghost use Rattle.h2_num.specs.Places.{Places, places, AreBytes, SameBelow};
 ghost use Rattle.h2_ref.specs.declared.faults.Why.{Why};
 ghost use Rattle.h2_ref.specs.declared.reference.Ref.{Ref};
@@ -7,7 +7,10 @@ ghost use Rattle.h2_inode.specs.declared.fault.InodeFault.{InodeFault};
 ghost use Rattle.h2_inode.specs.declared.inode.Inode.{Inode};
 ghost use Rattle.h2_inode.specs.Inode.{IsInode, InodeBytes, NoInode};
 ghost use Rattle.h2_inode.specs.Fault.{IsFaultOf};
-ghost use Rattle.h2_inode.specs.Block.{Passes};
+ghost use Rattle.h2_set.specs.RefSet.{RefSet};
+ghost use Rattle.h2_set.specs.Forest.{Forest, HasLeaves, LeavesOf, KeepsLeaves, IsSound, InPlace, GoesWith, Stores};
+ghost use Rattle.h2_inode.specs.Block.{Passes, refs_of_body};
+ghost use Rattle.h2_inode.specs.Nodes.{Fields, HasInode, IsNamed, Brings};
 ghost use Rattle.h2_inode.specs.Cause.{IsCauseOf};
 
 use crate::decoding::decode_inode;
@@ -49,4 +52,17 @@ pub fn inode_or_refusal_law(b: &[u8; INODE_BYTES])
 pub fn cause_law()
     ensures refuses { (r : Ref) (b : Places) (why : Why) → IsValid r → 0 < r.radix → IsCauseOf r b why → Passes r b → ⊥ }
     ensures one { (r : Ref) (b : Places) (why other : Why) → IsCauseOf r b why → IsCauseOf r b other → other ≡ why }
+{}
+
+/// A law of forests with inodes. Which leaf names a root stays where both roots stay. A call that brings one root
+/// keeps the leaves of all trees; one that replaces a set keeps those of another tree of which nothing goes with its
+/// leaves. The leaves of an inode's tree are those below the references of its body.
+pub fn nodes_law()
+    ensures named { (f g : Forest) (top key c : ℕ) → InPlace f g top → InPlace f g c → IsNamed f top key c → IsNamed g top key c }
+    ensures brought { (f g : Forest) (c at : ℕ) → IsSound f → Brings f g c → f.stands at ≡ true → KeepsLeaves f g at }
+    ensures stored { (f g : Forest) (at : ℕ) (s : RefSet) (top : ℕ) → IsSound f → Stores f g at s → (top ≡ f.root at → ⊥)
+        → ((m : ℕ) → f.stands m ≡ true → f.root m ≡ top → GoesWith f m at s → ⊥)
+        → (m : ℕ) → f.stands m ≡ true → f.root m ≡ top → KeepsLeaves f g m }
+    ensures leaves { (f : Forest) (holds : ℕ → Option Fields) (at : ℕ) (i : Inode) (l : List Ref) → HasInode f holds at i
+        → HasLeaves f at (refs_of_body i.body) l → LeavesOf f at l }
 {}
