@@ -22,7 +22,7 @@ named_stays f g top key c above here h = record {
 }
 
 -- a node that is the same stays
-same_stays : (f g : Forest) (m : ℕ) → Same f g m → Stays f g m
+pub same_stays : (f g : Forest) (m : ℕ) → Same f g m → Stays f g m
 same_stays f g m h = record {
   place = h.place;
   alike = subst (λ (s : RefSet). Alike (refs f m) s.refs) (sym h.set) (Alike-refl (refs f m));

@@ -5,7 +5,7 @@ use Rattle.h2_ref.specs.declared.reference.Kind.{Kind}
 use Rattle.h2_ref.specs.declared.reference.Kind.TheVariants.{Inode as Inode_kind, Indirect, Content, Dirent}
 use Rattle.h2_ref.specs.declared.reference.Ref.{Ref}
 use Rattle.h2_set.specs.RefSet.{RefSet}
-use Rattle.h2_set.specs.Forest.{Forest, Reaches, IsSound, Same, LeavesOf}
+use Rattle.h2_set.specs.Forest.{Forest, Reaches, IsSound, Same, Stays, LeavesOf}
 use Rattle.h2_inode.specs.declared.kind.InodeKind.{InodeKind}
 use Rattle.h2_inode.specs.declared.kind.InodeKind.TheVariants.{Directory, File, Pfs}
 use Rattle.h2_inode.specs.declared.inode.Body.{Body}
@@ -128,6 +128,24 @@ pub record Seeks (f g : Forest) (top key c : ℕ) : Type 0 where
   -- a root that is loaded isn't writable
   pub clean : f.stands c ≡ false → g.writable c ≡ false
   pub spare : g.spare ≡ f.spare
+  pub failed : f.failed ≤ g.failed
+  pub bad : f.bad ≤ g.bad
+
+-- Nothing but loads took place, of indirect blocks and of inodes, and all else but the two counts is as before. This
+-- is Walks of h2_set, but that the rules of a new root are its own.
+pub record Visits (f g : Forest) : Type 0 where
+  pub sound : IsSound g
+  pub stays : (m : ℕ) → f.stands m ≡ true → Stays f g m
+  pub sets : (m : ℕ) → f.stands m ≡ true → g.set m ≡ f.set m
+  pub writable : (m : ℕ) → f.stands m ≡ true → g.writable m ≡ f.writable m
+  pub copies : (m : ℕ) → f.stands m ≡ true → g.copies m ≡ f.copies m
+  pub leaf_bits : (m : ℕ) → f.stands m ≡ true → g.leaf_bits m ≡ f.leaf_bits m
+  pub allows : (m : ℕ) (r : Ref) → f.stands m ≡ true → g.allows m r ≡ f.allows m r
+  pub held : (m : ℕ) → g.held m ≡ f.held m
+  pub name : (r : Ref) → g.name r ≡ f.name r
+  pub epoch : g.epoch ≡ f.epoch
+  pub spare : g.spare ≡ f.spare
+  pub room : g.room ≡ f.room
   pub failed : f.failed ≤ g.failed
   pub bad : f.bad ≤ g.bad
 

@@ -4,8 +4,8 @@ use Rattle.std.proofs.Common.{ap, sym, ◌∙◌, arith, subst, inl, inr}
 use Rattle.std.proofs.lemmas.Bool.{cases_lt}
 use Rattle.h2_num.specs.Places.{Places, number_at, from_place}
 use Rattle.h2_ref.specs.declared.faults.RefFault.{RefFault}
-use Rattle.h2_inode.specs.declared.set_decoding.SetFault.TheVariants.{Reference as Set_ref}
-use Rattle.h2_inode.specs.SetBytes.{AreRefs, IsRefused}
+use Rattle.h2_set.specs.declared.set_decoding.SetFault.TheVariants.{Reference as Set_ref}
+use Rattle.h2_set.specs.SetBytes.{AreRefs, IsRefused}
 use Rattle.h2_inode.specs.declared.kind.InodeKind.{InodeKind}
 use Rattle.h2_inode.specs.declared.fault.InodeFault.{InodeFault}
 use Rattle.h2_inode.specs.declared.fault.InodeFault.TheVariants.{Kind, Body, Links, Number, Size, Next, Name, Padding, Reference, Shape}
@@ -13,7 +13,8 @@ use Rattle.h2_inode.specs.Kind.{kind_byte}
 use Rattle.h2_inode.specs.Head.{HasBody, HasLinks, HasNumber, HasSize, HasNext, HasNameOf, MustBeZero, IsFirstPadding}
 use Rattle.h2_inode.specs.Fault.{HasRefs, IsFaultFor, IsFaultOf}
 use Rattle.h2_inode.specs.FaultLaws.{kinds_same}
-use Rattle.h2_inode.specs.OneCause.{refused_one, none_refused, zero_there}
+use Rattle.h2_set.specs.SetFaultLaws.{refused_one, none_refused}
+use Rattle.h2_inode.specs.OneCause.{zero_there}
 
 -- A rule and those behind it: where it doesn't hold, the fault is its own, and else one of theirs.
 data InOrder (Holds : Type 0) (Own Rest : InodeFault → Type 0) : InodeFault → Type 0 where

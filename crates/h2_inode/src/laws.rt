@@ -8,9 +8,9 @@ ghost use Rattle.h2_inode.specs.declared.inode.Inode.{Inode};
 ghost use Rattle.h2_inode.specs.Inode.{IsInode, InodeBytes, NoInode};
 ghost use Rattle.h2_inode.specs.Fault.{IsFaultOf};
 ghost use Rattle.h2_set.specs.RefSet.{RefSet};
-ghost use Rattle.h2_set.specs.Forest.{Forest, HasLeaves, LeavesOf, KeepsLeaves, IsSound, InPlace, GoesWith, Stores};
+ghost use Rattle.h2_set.specs.Forest.{Forest, HasLeaves, LeavesOf, KeepsLeaves, IsSound, InPlace, GoesWith, Stores, Walks};
 ghost use Rattle.h2_inode.specs.Block.{Passes, refs_of_body};
-ghost use Rattle.h2_inode.specs.Nodes.{Fields, HasInode, IsNamed, Brings};
+ghost use Rattle.h2_inode.specs.Nodes.{Fields, HasInode, IsInodeLeaf, IsNamed, Brings, Seeks, Visits};
 ghost use Rattle.h2_inode.specs.Cause.{IsCauseOf};
 
 use crate::decoding::decode_inode;
@@ -65,4 +65,15 @@ pub fn nodes_law()
         → (m : ℕ) → f.stands m ≡ true → f.root m ≡ top → KeepsLeaves f g m }
     ensures leaves { (f : Forest) (holds : ℕ → Option Fields) (at : ℕ) (i : Inode) (l : List Ref) → HasInode f holds at i
         → HasLeaves f at (refs_of_body i.body) l → LeavesOf f at l }
+{}
+
+/// A law of loads, of indirect blocks and of inodes: they chain, and keep the leaves of all trees, the leaves of
+/// inodes under loaded paths, and which roots those name.
+pub fn visits_law()
+    ensures sets { (f g : Forest) → Walks f g → Visits f g }
+    ensures inodes { (f g : Forest) (top key c : ℕ) → Seeks f g top key c → Visits f g }
+    ensures chained { (f g h : Forest) → Visits f g → Visits g h → Visits f h }
+    ensures trees { (f g : Forest) (at : ℕ) → IsSound f → Visits f g → f.stands at ≡ true → KeepsLeaves f g at }
+    ensures leaves { (f g : Forest) (top : ℕ) (leaf : Ref) → IsSound f → Visits f g → IsInodeLeaf f top leaf → IsInodeLeaf g top leaf }
+    ensures names { (f g : Forest) (top key c : ℕ) → Visits f g → f.stands top ≡ true → IsNamed f top key c → IsNamed g top key c }
 {}

@@ -25,8 +25,6 @@ mod layout;
 mod limits;
 mod nodes;
 mod pfs_name;
-mod set_decoding;
-mod set_encoding;
 
 pub use block_check::check_of;
 pub use decoding::decode_inode;
