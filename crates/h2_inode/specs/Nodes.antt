@@ -1,11 +1,12 @@
 -- A forest with inodes: what the root of an inode's tree holds beside its set, which leaf names it, and what each
 -- call over inodes changes.
-use Rattle.std.specs.Prelude.{◌≡◌, ◌⊎◌, ◌↔◌, ℕ, ◌+◌, ◌≤◌, true, false, List, [], slice_get, Option, Some, None}
+use Rattle.std.specs.Prelude.{◌≡◌, ◌⊎◌, ◌↔◌, ℕ, ◌+◌, ◌^◌, ◌<◌, ◌≤◌, true, false, List, [], slice_get, Option, Some, None}
 use Rattle.h2_ref.specs.declared.reference.Kind.{Kind}
 use Rattle.h2_ref.specs.declared.reference.Kind.TheVariants.{Inode as Inode_kind, Indirect, Content, Dirent}
 use Rattle.h2_ref.specs.declared.reference.Ref.{Ref}
-use Rattle.h2_set.specs.RefSet.{RefSet}
-use Rattle.h2_set.specs.Forest.{Forest, Reaches, IsSound, Same, Stays, LeavesOf}
+use Rattle.h2_set.specs.Ranges.{Rising, IsAligned, is_indirect}
+use Rattle.h2_set.specs.RefSet.{RefSet, IsRefSet}
+use Rattle.h2_set.specs.Forest.{Forest, refs, Reaches, IsSound, InPlace, Same, Stays, GoesBelow, GoesWith, LeavesOf}
 use Rattle.h2_inode.specs.declared.kind.InodeKind.{InodeKind}
 use Rattle.h2_inode.specs.declared.kind.InodeKind.TheVariants.{Directory, File, Pfs}
 use Rattle.h2_inode.specs.declared.inode.Body.{Body}
@@ -55,18 +56,23 @@ leaf_keybits Directory = 0
 leaf_keybits File = 14
 leaf_keybits Pfs = 0
 
+-- which leaves an inode's tree may have; one whose body is bytes has no set, and may have none
+abbrev pub MayHave : InodeKind → Body → Ref → Type 0
+MayHave kind (Refs s) r = r.kind ≡ leaf_kind kind
+MayHave kind (Bytes bytes) r = ⊥
+
 -- the tree of a root has the keys and the leaves of such an inode
-pub record IsTreeOf (f : Forest) (at : ℕ) (kind : InodeKind) : Type 0 where
+pub record IsTreeOf (f : Forest) (at : ℕ) (kind : InodeKind) (body : Body) : Type 0 where
   pub low : f.low at ≡ keys_from kind
   pub bits : f.bits at ≡ 63
   pub leaf_bits : f.leaf_bits at ≡ leaf_keybits kind
-  pub allows : (r : Ref) → (f.allows at r ≡ true) ↔ (r.kind ≡ leaf_kind kind)
+  pub allows : (r : Ref) → (f.allows at r ≡ true) ↔ MayHave kind body r
 
 -- node at is the root of the inode
 pub record HasInode (f : Forest) (holds : ℕ → Option Fields) (at : ℕ) (i : Inode) : Type 0 where
   pub stands : f.stands at ≡ true
   pub root : f.root at ≡ at
-  pub tree : IsTreeOf f at i.kind
+  pub tree : IsTreeOf f at i.kind i.body
   pub fields : holds at ≡ Some (fields_of i)
   pub set : f.set at ≡ set_of i.body
 
@@ -104,6 +110,28 @@ pub record IsAsTold (f : Forest) (holds : ℕ → Option Fields) (c : ℕ) (told
 pub record IsPlantable (i : Inode) : Type 0 where
   pub inode : IsInode i
   pub wide : (j : ℕ) (r : Ref) → slice_get (refs_of_body i.body) j ≡ Some r → r.kind ≡ Indirect → leaf_keybits i.kind ≤ r.keybits
+
+-- a reference that the root of an inode with references may have
+pub record FitsIn (kind : InodeKind) (r : Ref) : Type 0 where
+  pub aligned : IsAligned r
+  pub class : (r.key < 2 ^ 62) ⊎ (2 ^ 63 ≤ r.key)
+  pub leaf : is_indirect r ≡ false → r.keybits ≡ leaf_keybits kind
+  pub allowed : is_indirect r ≡ false → r.kind ≡ leaf_kind kind
+  pub wide : is_indirect r ≡ true → leaf_keybits kind ≤ r.keybits
+  pub some_bits : is_indirect r ≡ true → 0 < r.keybits
+  pub falls : is_indirect r ≡ true → r.keybits < 63
+
+-- A set that the root of an inode may be given with a new body. This is Storable of h2_set, but that what fits is told
+-- by the kind: a body of bytes, whose tree may have no leaf, may be replaced by references.
+pub record Replaceable (f : Forest) (at : ℕ) (kind : InodeKind) (s : RefSet) : Type 0 where
+  pub capacity : s.capacity ≡ 4
+  pub set : IsRefSet s
+  pub inside : Rising (keys_from kind) (keys_from kind + 2 ^ 63) s.refs
+  pub fits : (i : ℕ) (r : Ref) → slice_get s.refs i ≡ Some r → FitsIn kind r
+  -- each indirect reference stood there before
+  pub stood : (i : ℕ) (r : Ref) → slice_get s.refs i ≡ Some r → is_indirect r ≡ true → (j : ℕ) × (slice_get (refs f at) j ≡ Some r)
+  -- what goes isn't held
+  pub free : (m : ℕ) → f.stands m ≡ true → GoesWith f m at s → f.held m ≡ false
 
 -- What the calls change
 
@@ -156,6 +184,26 @@ pub record Plants (f g : Forest) (top key c : ℕ) : Type 0 where
   pub named : IsNamed g top key c
   pub writable : g.writable c ≡ true
   pub spare : g.spare + 1 ≡ f.spare
+  pub failed : g.failed ≡ f.failed
+  pub bad : g.bad ≡ f.bad
+
+-- The set of root at is s now, and what stands below references that it lacks is gone. This is Stores of h2_set, but
+-- that the leaves which the tree may have are those of the new body.
+pub record Replaces (f g : Forest) (at : ℕ) (s : RefSet) : Type 0 where
+  pub sound : IsSound g
+  pub leaf_bits : (m : ℕ) → f.stands m ≡ true → g.leaf_bits m ≡ f.leaf_bits m
+  pub allows : (m : ℕ) (r : Ref) → f.stands m ≡ true → (m ≡ at → ⊥) → g.allows m r ≡ f.allows m r
+  pub held : (m : ℕ) → g.held m ≡ f.held m
+  pub name : (r : Ref) → g.name r ≡ f.name r
+  pub epoch : g.epoch ≡ f.epoch
+  pub set : g.set at ≡ s
+  pub place : InPlace f g at
+  pub copies : g.copies at ≡ f.copies at
+  pub link : (i : ℕ) (r : Ref) → slice_get s.refs i ≡ Some r → is_indirect r ≡ true → g.link at r.key ≡ f.link at r.key
+  pub others : (m : ℕ) → f.stands m ≡ true → (m ≡ at → ⊥) → (GoesBelow f m at s → ⊥) → (GoesWith f m at s → ⊥) → Same f g m
+  pub none_new : (m : ℕ) → g.stands m ≡ true → f.stands m ≡ true
+  pub spare : g.spare ≡ f.spare
+  pub room : g.room ≡ f.room
   pub failed : g.failed ≡ f.failed
   pub bad : g.bad ≡ f.bad
 

@@ -6,7 +6,7 @@ use Rattle.h2_set.specs.RefSet.{RefSet}
 use Rattle.h2_set.specs.Forest.{Forest, KeepsLeaves, IsSound, Walks, Unchanged, KeepsBeside, Reaches, nowhere, here, below}
 use Rattle.h2_set.specs.StayLaws.{Stays-trans, leaves_stay_all, stands_below}
 use Rattle.h2_inode.specs.declared.inode.Inode.{Inode}
-use Rattle.h2_inode.specs.Nodes.{Fields, held_by, leaf_kind, HasInode, IsInodeLeaf, IsNamed, Seeks, Visits}
+use Rattle.h2_inode.specs.Nodes.{Fields, held_by, MayHave, HasInode, IsInodeLeaf, IsNamed, Seeks, Visits}
 use Rattle.h2_inode.specs.NodeLaws.{named_stays, same_stays}
 
 -- What loads
@@ -129,7 +129,7 @@ visits_inode fields f g old new at i h beside is =
         low = place.low ∙ is.tree.low;
         bits = place.bits ∙ is.tree.bits;
         leaf_bits = h.leaf_bits at is.stands ∙ is.tree.leaf_bits;
-        allows = λ r. subst (λ x. (x ≡ true) ↔ (r.kind ≡ leaf_kind i.kind)) (sym (h.allows at r is.stands)) (is.tree.allows r);
+        allows = λ r. subst (λ x. (x ≡ true) ↔ MayHave i.kind i.body r) (sym (h.allows at r is.stands)) (is.tree.allows r);
       };
       fields = ap fields (beside.same at is.stands place.stands) ∙ is.fields;
       set = h.sets at is.stands ∙ is.set;

@@ -8,9 +8,10 @@ ghost use Rattle.h2_inode.specs.declared.inode.Inode.{Inode};
 ghost use Rattle.h2_inode.specs.Inode.{IsInode, InodeBytes, NoInode};
 ghost use Rattle.h2_inode.specs.Fault.{IsFaultOf};
 ghost use Rattle.h2_set.specs.RefSet.{RefSet};
-ghost use Rattle.h2_set.specs.Forest.{Forest, HasLeaves, LeavesOf, KeepsLeaves, IsSound, InPlace, GoesWith, Stores, Walks};
+ghost use Rattle.h2_set.specs.Forest.{Forest, HasLeaves, LeavesOf, KeepsLeaves, IsSound, InPlace, Stores, Walks};
 ghost use Rattle.h2_inode.specs.Block.{Passes, refs_of_body};
-ghost use Rattle.h2_inode.specs.Nodes.{Fields, HasInode, IsInodeLeaf, IsNamed, Brings, Seeks, Visits};
+ghost use Rattle.h2_inode.specs.Nodes.{Fields, HasInode, IsInodeLeaf, IsNamed, Brings, Seeks, Visits, Replaces};
+ghost use Rattle.h2_inode.specs.NodeLaws.{NoneGoes};
 ghost use Rattle.h2_inode.specs.Cause.{IsCauseOf};
 
 use crate::decoding::decode_inode;
@@ -61,8 +62,9 @@ pub fn nodes_law()
     ensures named { (f g : Forest) (top key c : ℕ) → InPlace f g top → InPlace f g c → IsNamed f top key c → IsNamed g top key c }
     ensures brought { (f g : Forest) (c at : ℕ) → IsSound f → Brings f g c → f.stands at ≡ true → KeepsLeaves f g at }
     ensures stored { (f g : Forest) (at : ℕ) (s : RefSet) (top : ℕ) → IsSound f → Stores f g at s → (top ≡ f.root at → ⊥)
-        → ((m : ℕ) → f.stands m ≡ true → f.root m ≡ top → GoesWith f m at s → ⊥)
-        → (m : ℕ) → f.stands m ≡ true → f.root m ≡ top → KeepsLeaves f g m }
+        → NoneGoes f at s top → (m : ℕ) → f.stands m ≡ true → f.root m ≡ top → KeepsLeaves f g m }
+    ensures replaced { (f g : Forest) (at : ℕ) (s : RefSet) (top : ℕ) → IsSound f → Replaces f g at s → (top ≡ f.root at → ⊥)
+        → NoneGoes f at s top → (m : ℕ) → f.stands m ≡ true → f.root m ≡ top → KeepsLeaves f g m }
     ensures leaves { (f : Forest) (holds : ℕ → Option Fields) (at : ℕ) (i : Inode) (l : List Ref) → HasInode f holds at i
         → HasLeaves f at (refs_of_body i.body) l → LeavesOf f at l }
 {}

@@ -33,10 +33,9 @@ pub use fault::InodeFault;
 pub use inode::{Body, Inode};
 pub use judging::judge;
 pub use kind::InodeKind;
-pub use laws::{cause_law, inode_law, inode_or_refusal_law, nodes_law, passing_law, refusal_law};
+pub use laws::{
+    cause_law, inode_law, inode_or_refusal_law, nodes_law, passing_law, refusal_law, visits_law,
+};
 pub use layout::INODE_BYTES;
 pub use nodes::Nodes;
 pub use pfs_name::PfsName;
-
-#[cfg(test)]
-mod tests;

@@ -1,9 +1,9 @@
 ghost use Rattle.std.specs.Prelude.{◌≡◌, ◌≤◌, ℕ, true, false, Option, Some, IfOk, IfErr, OnErr};
 ghost use Rattle.h2_ref.specs.declared.reference.Ref.{Ref};
-ghost use Rattle.h2_set.specs.Forest.{IsSound, Storable, Stores, Unchanged, HasCause, KeepsBeside};
+ghost use Rattle.h2_set.specs.Forest.{IsSound, Unchanged, HasCause, KeepsBeside};
 ghost use Rattle.h2_inode.specs.declared.inode.Inode.{Inode};
 ghost use Rattle.h2_inode.specs.Inode.{IsInode};
-ghost use Rattle.h2_inode.specs.Nodes.{Fields, held_by, set_of, HasInode, IsInodeLeaf, IsUnloaded, Told, IsAsTold, IsPlantable, Seeks, Plants, KeepsOthersBeside};
+ghost use Rattle.h2_inode.specs.Nodes.{Fields, held_by, set_of, HasInode, IsInodeLeaf, IsUnloaded, Told, IsAsTold, IsPlantable, Replaceable, Seeks, Plants, Replaces, KeepsOthersBeside};
 
 use crate::inode::Inode;
 use h2_ref::{Ref, Trouble};
@@ -12,10 +12,11 @@ use std::alloc::Global;
 
 /// A forest of sets whose roots are those of inodes, but for the super-root.
 ///
-/// An inode is the set of its root, and what the root holds beside it (`Fields`); where its body is bytes, it has
-/// no set, which counts as an empty one. Which leaf names a root is told by the forest: the root belongs to that
-/// leaf (`IsNamed`). What the block of an inode holds may be told by its reference (`Told`): so a load brings what was
-/// told. Each call has one relation between the forest before and after it, in which all that it doesn't name stays.
+/// An inode is the set of its root, and what the root holds beside it (`Fields`). Where its body is bytes, it has no
+/// set, which counts as an empty one, and its tree may have no leaf. Which leaf names a root is told by the forest:
+/// the root belongs to that leaf (`IsNamed`). What the block of an inode holds may be told by its reference (`Told`),
+/// and a load brings what was told. Each call has one relation between the forest before and after it, in which all
+/// that it doesn't name stays.
 pub trait Nodes: Sets {
     /// What a root holds of an inode, by what is kept beside its set: None for the super-root, which is none's.
     ghost fields: { Self.Beside → Option Fields };
@@ -44,13 +45,14 @@ pub trait Nodes: Sets {
         requires { (i : Inode) × HasInode (Self.forest self.now) (held_by fields (Self.beside self.now)) at.0 i }
         ensures { HasInode (Self.forest self.now) (held_by fields (Self.beside self.now)) at.0 result.now };
 
-    /// Replaces the inode of a writable root. Its kind and its number stay, and its set changes as by `store`.
+    /// Replaces the inode of a writable root. Its kind and its number stay, and its set changes as by `store`; where
+    /// the body is bytes, before or after, its set counts as an empty one.
     fn set_inode(&mut self, at: NodeId, inode: Inode)
         requires sound { IsSound (Self.forest self.old) }
         requires kept { (i : Inode) × HasInode (Self.forest self.old) (held_by fields (Self.beside self.old)) at.0 i × (inode.kind ≡ i.kind) × (inode.number ≡ i.number) }
         requires writable { let f = Self.forest self.old in f.writable at.0 ≡ true }
-        requires storable { Storable (Self.forest self.old) at.0 (set_of inode.body) }
-        ensures stores { Stores (Self.forest self.old) (Self.forest self.new) at.0 (set_of inode.body) }
+        requires replaceable { Replaceable (Self.forest self.old) at.0 inode.kind (set_of inode.body) }
+        ensures replaces { Replaces (Self.forest self.old) (Self.forest self.new) at.0 (set_of inode.body) }
         ensures inode { HasInode (Self.forest self.new) (held_by fields (Self.beside self.new)) at.0 inode }
         ensures beside { KeepsOthersBeside (Self.forest self.old) (Self.forest self.new) at.0 (Self.beside self.old) (Self.beside self.new) }
         ensures later { Self.later self.old self.new };

@@ -1,6 +1,6 @@
 use super::changed_refs::{Slot, fault_of as ref_fault_of, number, spelling};
 use super::judging::{judged_spelling, to_block};
-use crate::{InodeFault, decode_inode};
+use h2_inode::{InodeFault, decode_inode};
 use h2_ref::{Kind, Why};
 
 // Inodes of every kind and body.

@@ -1,8 +1,6 @@
-use super::changed_inodes::FEW;
 use super::{directory, pfs};
-use crate::{check_of, judge};
+use h2_inode::{check_of, judge};
 use h2_ref::{Check, Dirent, Kind, Ref, RefFault, Why};
-use std::test::Fail;
 
 // XXH64 of the blocks below, by the public definition, worked out by another program.
 const DIRECTORY_CHECK: u64 = 0x222F_A156_459B_DA72;
@@ -11,10 +9,10 @@ const SET_CHECK: u64 = 0x85BF_2A40_D3CB_E053;
 
 const ZEROS_CHECK: u64 = 0x594E_DC66_332C_45EC;
 
-const NAME_CHECK: u64 = 0xBC27_61F5_0D83_7ED8;
+pub const NAME_CHECK: u64 = 0xBC27_61F5_0D83_7ED8;
 
-// The least key of the name of 65 times `a`.
-const NAME_KEY: u64 = 0xE276_D6B4_4CD4_0000;
+/// The least key of the name of 65 times `a`.
+pub const NAME_KEY: u64 = 0xE276_D6B4_4CD4_0000;
 
 /// A reference to a block of 2^radix bytes at 4 MiB.
 pub fn to_block(kind: Kind, key: u64, keybits: u8, radix: u8, check: u64) -> Ref {
@@ -30,8 +28,8 @@ pub fn to_block(kind: Kind, key: u64, keybits: u8, radix: u8, check: u64) -> Ref
     }
 }
 
-// The entry of a file with a name of so many bytes.
-fn to_name(key: u64, len: u16, check: u64) -> Ref {
+/// The entry of a file with a name of so many bytes.
+pub fn to_name(key: u64, len: u16, check: u64) -> Ref {
     Ref {
         dirent: Some(Dirent {
             number: 7,
@@ -43,8 +41,8 @@ fn to_name(key: u64, len: u16, check: u64) -> Ref {
     }
 }
 
-// What is judged of the block; None where that may not be asked.
-fn judged(r: &Ref, b: &[u8]) -> Option<Option<Why>> {
+/// What is judged of the block; None where that may not be asked.
+pub fn judged(r: &Ref, b: &[u8]) -> Option<Option<Why>> {
     if r.kind == Kind::MapNode {
         return None;
     }
@@ -176,33 +174,4 @@ fn names_are_judged(rt: HostRuntime) {
     assert_eq!(rt; judged(&to_name(NAME_KEY, 66, NAME_CHECK), &b), bad);
     b[1023] = 1;
     assert_eq!(rt; judged_spelling(&to_name(NAME_KEY, 65, 0), &b), bad);
-}
-
-#[test]
-fn each_changed_byte_of_a_name_block_is_told(rt: HostRuntime) -> Result<(), Fail> {
-    let r = to_name(NAME_KEY, 65, NAME_CHECK);
-    let mut whole = [0; 1024];
-    for at in 0..65usize {
-        whole[at] = b'a';
-    }
-    for at in 0..1024usize {
-        let mut b = whole;
-        for value in FEW {
-            if value != whole[at] {
-                b[at] = value;
-                // Another name has other keys, and no byte may stand behind it.
-                assert_eq!(rt;
-                    judged_spelling(&r, &b),
-                    Some(Some(Why::Name)),
-                    "byte {at} is {value}"
-                );
-            }
-        }
-        let other = Why::Check {
-            want: r.check,
-            got: check_of(Kind::Dirent, &b),
-        };
-        assert_eq!(rt; judged(&r, &b), Some(Some(other)), "byte {at}");
-    }
-    Ok(())
 }

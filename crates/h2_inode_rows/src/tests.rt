@@ -1,9 +1,10 @@
 mod changed_inodes;
+mod changed_names;
 mod changed_refs;
 mod changed_sets;
 mod judging;
 
-use super::*;
+use h2_inode::{InodeFault, InodeKind, check_of, decode_inode, encode_inode};
 use h2_ref::{Check, Kind, RefFault};
 use std::test::Fail;
 
