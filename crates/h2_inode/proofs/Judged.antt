@@ -13,9 +13,9 @@ use Rattle.h2_ref.specs.declared.reference.Kind.{Kind}
 use Rattle.h2_ref.specs.declared.reference.Kind.TheVariants.{Inode as Inode_kind, Indirect, Dirent as Entry_kind}
 use Rattle.h2_ref.specs.declared.reference.Ref.{Ref}
 use Rattle.h2_ref.specs.Ref.{IsValid, size_of}
-use Rattle.h2_inode.specs.declared.set_decoding.SetFault.{SetFault}
+use Rattle.h2_set.specs.declared.set_decoding.SetFault.{SetFault}
 use Rattle.h2_inode.specs.declared.inode.Inode.{Inode}
-use Rattle.h2_inode.specs.SetBytes.{IsSetAt, IsFaultOf}
+use Rattle.h2_set.specs.SetBytes.{IsSetAt, IsFaultOf}
 use Rattle.h2_inode.specs.Inode.{IsInode, InodeBytes}
 use Rattle.h2_inode.specs.Block.{HasCheck, IsArranged, IsNameOf, PassesAs, Passes, name_len}
 use Rattle.h2_inode.specs.Cause.{IsInodeCause, IsSetCause, IsNameCause, IsSpellingCause, IsCauseOf}

@@ -4,10 +4,10 @@ use Rattle.std.proofs.Common.{ap, refl, arith, subst}
 use Rattle.std.proofs.lemmas.List.{get_or-drop}
 use Rattle.h2_num.specs.Places.{Places, places, from_place}
 use Rattle.h2_ref.specs.declared.reference.Ref.{Ref}
-use Rattle.h2_inode.specs.declared.set_decoding.SetFault.{SetFault}
-use Rattle.h2_inode.specs.declared.set_decoding.SetFault.TheVariants.{Reference as RefusedRef, Shape as Unshaped}
-use Rattle.h2_inode.specs.SetBytes.{SetBytes, IsSetAt, AreRefs, IsFaultOf}
-use Rattle.h2_inode.specs.SetBytesLaws.{set_one, set_decoded}
+use Rattle.h2_set.specs.declared.set_decoding.SetFault.{SetFault}
+use Rattle.h2_set.specs.declared.set_decoding.SetFault.TheVariants.{Reference as RefusedRef, Shape as Unshaped}
+use Rattle.h2_set.specs.SetBytes.{SetBytes, IsSetAt, AreRefs, IsFaultOf}
+use Rattle.h2_set.specs.SetBytesLaws.{set_one, set_decoded}
 use Rattle.h2_inode.specs.declared.kind.InodeKind.{InodeKind}
 use Rattle.h2_inode.specs.Inode.{IsPartOf, IsRootSet}
 use Rattle.h2_inode.specs.Fault.{IsRefsFault, in_body, LiesInBody}

@@ -8,7 +8,7 @@ use Rattle.h2_ref.specs.declared.reference.Check.TheVariants.{Xx}
 use Rattle.h2_ref.specs.declared.reference.Dirent.{Dirent}
 use Rattle.h2_ref.specs.declared.reference.Ref.{Ref}
 use Rattle.h2_set.specs.Ranges.{lies}
-use Rattle.h2_inode.specs.SetBytes.{IsSetAt}
+use Rattle.h2_set.specs.SetBytes.{IsSetAt}
 use Rattle.h2_dirkey.specs.Key.{IsNameUnder}
 use Rattle.h2_dirkey.specs.Block.{NameBytes}
 use Rattle.h2_inode.specs.declared.inode.Body.{Body}

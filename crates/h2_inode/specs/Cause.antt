@@ -9,12 +9,12 @@ use Rattle.h2_ref.specs.declared.reference.Kind.TheVariants.{Empty, Inode as Ino
 use Rattle.h2_ref.specs.declared.reference.Check.TheVariants.{Xx}
 use Rattle.h2_ref.specs.declared.reference.Ref.{Ref}
 use Rattle.h2_ref.specs.Ref.{size_of}
-use Rattle.h2_inode.specs.declared.set_decoding.SetFault.{SetFault}
-use Rattle.h2_inode.specs.declared.set_decoding.SetFault.TheVariants.{Reference as Set_ref, Shape as Set_shape}
+use Rattle.h2_set.specs.declared.set_decoding.SetFault.{SetFault}
+use Rattle.h2_set.specs.declared.set_decoding.SetFault.TheVariants.{Reference as Set_ref, Shape as Set_shape}
 use Rattle.h2_inode.specs.declared.fault.InodeFault.{InodeFault}
 use Rattle.h2_inode.specs.declared.fault.InodeFault.TheVariants.{Kind as Bad_kind, Body, Links, Number, Size, Next, Name, Padding, Reference, Shape}
 use Rattle.h2_inode.specs.declared.inode.Inode.{Inode}
-use Rattle.h2_inode.specs.SetBytes.{IsSetAt, IsFaultOf as IsSetFaultOf}
+use Rattle.h2_set.specs.SetBytes.{IsSetAt, IsFaultOf as IsSetFaultOf}
 use Rattle.h2_inode.specs.Inode.{IsInode, InodeBytes}
 use Rattle.h2_inode.specs.Fault.{IsFaultOf}
 use Rattle.h2_inode.specs.Block.{HasCheck, IsArranged, IsNameOf}

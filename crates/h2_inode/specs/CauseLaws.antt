@@ -1,7 +1,6 @@
 -- A block that doesn't pass for a cause doesn't pass at all.
 use Rattle.std.specs.Prelude.{◌≡◌, ◌<◌, ℕ, zero, suc, ◌^◌, ◌==◌, if◌then◌else◌, List}
 use Rattle.std.proofs.Common.{ap, sym, ◌∙◌, arith, subst}
-use Rattle.std.proofs.lemmas.Option.{none-some}
 use Rattle.h2_num.specs.Places.{Places}
 use Rattle.h2_ref.specs.declared.faults.Why.{Why}
 use Rattle.h2_ref.specs.declared.reference.Kind.{Kind}
@@ -9,11 +8,10 @@ use Rattle.h2_ref.specs.declared.reference.Kind.TheVariants.{Empty, Inode as Ino
 use Rattle.h2_ref.specs.declared.reference.Ref.{Ref}
 use Rattle.h2_ref.specs.Ref.{IsValid, FitsRow, method_number, size_of}
 use Rattle.h2_ref.specs.Table.{row_of}
-use Rattle.h2_inode.specs.declared.set_decoding.SetFault.{SetFault}
-use Rattle.h2_inode.specs.declared.set_decoding.SetFault.TheVariants.{Reference as Set_ref, Shape as Set_shape}
 use Rattle.h2_inode.specs.declared.inode.Inode.{Inode}
-use Rattle.h2_inode.specs.SetBytes.{IsSetAt, IsFaultOf as IsSetFaultOf}
-use Rattle.h2_inode.specs.SetBytesLaws.{set_one, set_decoded}
+use Rattle.h2_set.specs.SetBytes.{IsSetAt}
+use Rattle.h2_set.specs.SetBytesLaws.{set_one}
+use Rattle.h2_set.specs.SetFaultLaws.{no_set_fault}
 use Rattle.h2_inode.specs.Inode.{IsInode, InodeBytes}
 use Rattle.h2_inode.specs.FaultLaws.{fault_refuses}
 use Rattle.h2_inode.specs.Block.{HasCheck, IsArranged, IsNameOf, PassesAs, Passes}
@@ -65,11 +63,6 @@ has_check_as MapLeaf r b p = absurd p
 no_inode_there : (number : ℕ) (b : Places) (why : Why) (i : Inode) → IsInode i → InodeBytes i b → i.number ≡ number → IsInodeCause number b why → ⊥
 no_inode_there number b why i rules bytes is (no_inode fault h) = fault_refuses b fault h i rules bytes
 no_inode_there number b why i rules bytes is (other_number other h there isnt) = isnt (sym there.number_at_8 ∙ bytes.number_at_8 ∙ is)
-
--- where a set stands there is no fault of one
-pub no_set_fault : (n : ℕ) (refs : List Ref) (b : Places) (fault : SetFault) → IsSetAt n refs b → IsSetFaultOf n b fault → ⊥
-no_set_fault n refs b (Set_ref at fault) set (j, lt, refused, decoded) = none-some fault (sym (set_decoded n refs b set.held set.bytes j lt) ∙ refused.1)
-no_set_fault n refs b Set_shape set (decoded, nothing) = nothing refs set
 
 no_set_there : (r : Ref) (b : Places) (why : Why) (refs : List Ref) → IsSetAt 32 refs b → IsArranged r refs → IsSetCause r b why → ⊥
 no_set_there r b why refs set arranged (no_set fault h) = no_set_fault 32 refs b fault set h

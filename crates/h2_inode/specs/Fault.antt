@@ -2,9 +2,9 @@
 use Rattle.std.specs.Prelude.{◌≡◌, ◌<◌, ℕ, ◌+◌, List}
 use Rattle.h2_num.specs.Places.{Places, number_at, from_place}
 use Rattle.h2_ref.specs.declared.reference.Ref.{Ref}
-use Rattle.h2_inode.specs.declared.set_decoding.SetFault.{SetFault}
-use Rattle.h2_inode.specs.declared.set_decoding.SetFault.TheVariants.{Reference as RefusedRef, Shape as Unshaped}
-use Rattle.h2_inode.specs.SetBytes.{SetBytes, AreRefs, IsRefused}
+use Rattle.h2_set.specs.declared.set_decoding.SetFault.{SetFault}
+use Rattle.h2_set.specs.declared.set_decoding.SetFault.TheVariants.{Reference as RefusedRef, Shape as Unshaped}
+use Rattle.h2_set.specs.SetBytes.{SetBytes, AreRefs, IsRefused}
 use Rattle.h2_inode.specs.declared.kind.InodeKind.{InodeKind}
 use Rattle.h2_inode.specs.declared.fault.InodeFault.{InodeFault}
 use Rattle.h2_inode.specs.declared.fault.InodeFault.TheVariants.{Kind, Reference, Shape}

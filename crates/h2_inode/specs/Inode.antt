@@ -4,7 +4,7 @@ use Rattle.h2_num.specs.Places.{Places, places, number_at, from_place, ZeroIn}
 use Rattle.h2_ref.specs.declared.reference.Kind.TheVariants.{Inode as Inode_kind, Indirect, Content, Dirent}
 use Rattle.h2_ref.specs.declared.reference.Ref.{Ref}
 use Rattle.h2_set.specs.Ranges.{Rising}
-use Rattle.h2_inode.specs.SetBytes.{IsHeld, SetBytes}
+use Rattle.h2_set.specs.SetBytes.{IsHeld, SetBytes}
 use Rattle.h2_inode.specs.declared.kind.InodeKind.{InodeKind}
 use Rattle.h2_inode.specs.declared.kind.InodeKind.TheVariants.{Directory, File, Pfs}
 use Rattle.h2_inode.specs.declared.inode.Body.{Body}

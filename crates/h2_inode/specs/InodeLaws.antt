@@ -5,7 +5,7 @@ use Rattle.std.proofs.lemmas.Bool.{cases_lt}
 use Rattle.std.proofs.lemmas.List.{ext_get_or}
 use Rattle.h2_num.specs.Places.{Places, AreBytes, SameBelow, from_place}
 use Rattle.h2_num.specs.PlaceLaws.{number_bytes, number_same, zero_bytes, zeros_same}
-use Rattle.h2_inode.specs.SetBytesLaws.{SetBytes-same, set_one, set_spelling}
+use Rattle.h2_set.specs.SetBytesLaws.{SetBytes-same, set_one, set_spelling}
 use Rattle.h2_inode.specs.declared.kind.InodeKind.{InodeKind}
 use Rattle.h2_inode.specs.declared.kind.InodeKind.TheVariants.{Directory, File, Pfs}
 use Rattle.h2_inode.specs.declared.inode.Body.{Body}

@@ -1,10 +1,6 @@
 pub mod Kind
 pub mod Limits
 pub mod Head
-pub mod SetBytes
-pub mod Valid
-pub mod Front
-pub mod SetBytesLaws
 pub mod Inode
 pub mod Fault
 pub mod FaultLaws
@@ -14,3 +10,7 @@ pub mod CauseLaws
 pub mod InodeLaws
 pub mod PassLaws
 pub mod OneCause
+pub mod OneFault
+pub mod Nodes
+pub mod NodeLaws
+pub mod VisitLaws

@@ -1,8 +1,6 @@
 -- A block has one first cause at most.
-use Rattle.std.specs.Prelude.{◌≡◌, ◌⊎◌, ◌<◌, ◌≤◌, ℕ, ◌+◌, ◌*◌, Some, refl}
+use Rattle.std.specs.Prelude.{◌≡◌, ℕ, ◌+◌, refl}
 use Rattle.std.proofs.Common.{ap, sym, ◌∙◌, arith, subst, inl, inr}
-use Rattle.std.proofs.lemmas.Bool.{cases_lt}
-use Rattle.std.proofs.lemmas.Option.{none-some, same_Some}
 use Rattle.h2_num.specs.Places.{Places, from_place}
 use Rattle.h2_ref.specs.declared.faults.RefFault.{RefFault}
 use Rattle.h2_ref.specs.declared.faults.Why.{Why}
@@ -10,14 +8,12 @@ use Rattle.h2_ref.specs.declared.faults.Why.TheVariants.{Reference as Bad_ref, I
 use Rattle.h2_ref.specs.declared.reference.Kind.{Kind as RefKind}
 use Rattle.h2_ref.specs.declared.reference.Kind.TheVariants.{Empty, Inode as Inode_kind, Indirect, Content, Dirent as Entry_kind, MapNode, MapLeaf}
 use Rattle.h2_ref.specs.declared.reference.Ref.{Ref}
-use Rattle.h2_ref.specs.Fault.{first_fault}
-use Rattle.h2_inode.specs.declared.set_decoding.SetFault.{SetFault}
-use Rattle.h2_inode.specs.declared.set_decoding.SetFault.TheVariants.{Reference as Set_ref, Shape as Set_shape}
+use Rattle.h2_set.specs.declared.set_decoding.SetFault.TheVariants.{Reference as Set_ref}
 use Rattle.h2_inode.specs.declared.kind.InodeKind.{InodeKind}
 use Rattle.h2_inode.specs.declared.fault.InodeFault.{InodeFault}
 use Rattle.h2_inode.specs.declared.fault.InodeFault.TheVariants.{Kind, Body, Links, Number, Size, Next, Name, Padding, Reference, Shape}
 use Rattle.h2_inode.specs.Kind.{kind_byte}
-use Rattle.h2_inode.specs.SetBytes.{slot, AreRefs, IsRefused, IsFaultOf as IsSetFaultOf}
+use Rattle.h2_set.specs.SetBytes.{AreRefs, IsRefused}
 use Rattle.h2_inode.specs.Head.{HasZeros, MustBeZero, IsHeadFault}
 use Rattle.h2_inode.specs.Fault.{IsFaultOf, HasRefs}
 use Rattle.h2_inode.specs.FaultLaws.{kinds_same, fault_refuses}
@@ -26,34 +22,12 @@ use Rattle.h2_inode.specs.Cause.IsInodeCause.{no_inode, other_number}
 use Rattle.h2_inode.specs.Cause.IsSetCause.{no_set, unarranged}
 use Rattle.h2_inode.specs.Cause.IsNameCause.{no_name}
 use Rattle.h2_inode.specs.Cause.IsCauseOf.{other_check, misspelled}
-use Rattle.h2_inode.specs.CauseLaws.{no_set_fault}
-
--- References: the first that is refused
-
--- where all before a place are decoded, none of them is refused
-not_before : (b : Places) (i j : ℕ) (f : RefFault) → i < j → AreRefs j b → first_fault (slot b i) ≡ Some f → ⊥
-not_before b i j f lt decoded refused = none-some f (sym (decoded i lt) ∙ refused)
-
--- the first refusal is one
-refused_one : (n : ℕ) (b : Places) (at by : ℕ) (f g : RefFault) → IsRefused n b (Set_ref at f) → IsRefused n b (Set_ref by g) → (by ≡ at) × (g ≡ f)
-refused_one n b at by f g (i, lt, is, decoded) (j, below, there, before) = pick (cases_lt i j) (cases_lt j i)
-  where
-    equal : i ≡ j → (by ≡ at) × (g ≡ f)
-    equal e = (there.0 ∙ ap (λ k. 128 * k) (sym e) ∙ sym is.0, same_Some g f (sym there.1 ∙ ap (λ k. first_fault (slot b k)) (sym e) ∙ is.1))
-
-    pick : (i < j) ⊎ (j ≤ i) → (j < i) ⊎ (i ≤ j) → (by ≡ at) × (g ≡ f)
-    pick (inl less) c = absurd (not_before b i j f less before is.1)
-    pick (inr le) (inl less) = absurd (not_before b j i g less decoded there.1)
-    pick (inr le) (inr ge) = equal (omega arith)
-
--- where all are decoded, none is refused
-none_refused : (n : ℕ) (b : Places) (at : ℕ) (f : RefFault) → AreRefs n b → IsRefused n b (Set_ref at f) → ⊥
-none_refused n b at f all (i, lt, is, decoded) = not_before b i n f lt all is.1
+use Rattle.h2_set.specs.SetFaultLaws.{no_set_fault, refused_one, none_refused, set_fault_one}
 
 -- Inodes
 
 -- what must be zero is
-zero_there : (kind : InodeKind) (b : Places) (k : ℕ) → HasZeros kind b → MustBeZero kind b k → b k ≡ 0
+pub zero_there : (kind : InodeKind) (b : Places) (k : ℕ) → HasZeros kind b → MustBeZero kind b k → b k ≡ 0
 zero_there kind b k h (inl gap) = h.before_links k gap.0 gap.1
 zero_there kind b k h (inr (inl gap)) = h.before_name k gap.0 gap.1
 zero_there kind b k h (inr (inr (inl gap))) = h.behind_name k gap.0 gap.1
@@ -118,14 +92,8 @@ inode_cause_one number b v w (other_number i rules bytes isnt) (other_number j l
 
 -- Sets
 
-set_fault_one : (n : ℕ) (b : Places) (f g : SetFault) → IsSetFaultOf n b f → IsSetFaultOf n b g → why_of_set g ≡ why_of_set f
-set_fault_one n b (Set_ref at f) (Set_ref by g) h k = let e = refused_one n b at by f g h k in ap (λ x. Bad_ref x g) e.0 ∙ ap (Bad_ref at) e.1
-set_fault_one n b (Set_ref at f) Set_shape h k = absurd (none_refused n b at f k.0 h)
-set_fault_one n b Set_shape (Set_ref by g) h k = absurd (none_refused n b by g h.0 k)
-set_fault_one n b Set_shape Set_shape h k = refl
-
 set_cause_one : (r : Ref) (b : Places) (v w : Why) → IsSetCause r b v → IsSetCause r b w → w ≡ v
-set_cause_one r b v w (no_set f h) (no_set g k) = set_fault_one 32 b f g h k
+set_cause_one r b v w (no_set f h) (no_set g k) = ap why_of_set (set_fault_one 32 b f g h k)
 set_cause_one r b v w (no_set f h) (unarranged refs there isnt) = absurd (no_set_fault 32 refs b f there h)
 set_cause_one r b v w (unarranged refs there isnt) (no_set f h) = absurd (no_set_fault 32 refs b f there h)
 set_cause_one r b v w (unarranged refs there isnt) (unarranged others here differs) = refl

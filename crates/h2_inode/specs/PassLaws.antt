@@ -10,7 +10,7 @@ use Rattle.h2_ref.specs.declared.reference.Ref.{Ref}
 use Rattle.h2_ref.specs.Ref.{IsValid, size_of}
 use Rattle.h2_dirkey.specs.BlockLaws.{NameBytes-same}
 use Rattle.h2_inode.specs.declared.inode.Inode.{Inode}
-use Rattle.h2_inode.specs.SetBytesLaws.{SetBytes-same}
+use Rattle.h2_set.specs.SetBytesLaws.{SetBytes-same}
 use Rattle.h2_inode.specs.InodeLaws.{InodeBytes-same}
 use Rattle.h2_inode.specs.Block.{HasCheck, IsInodeBlock, IsSetBlock, IsNameBlock, PassesAs, Passes}
 use Rattle.h2_inode.specs.CauseLaws.{block_bytes, valid_size}

@@ -1,15 +1,14 @@
 ghost use Rattle.std.specs.Prelude.{◌≡◌, ◌↔◌, ◌≤◌, ◌<◌, ℕ, All, drop, length, slice_index, IsTrue, IfOk, IfErr};
 ghost use Rattle.h2_num.specs.Places.{places, from_place};
-ghost use Rattle.h2_inode.specs.SetBytes.{SetBytes, IsSetAt};
+ghost use Rattle.h2_set.specs.SetBytes.{SetBytes, IsSetAt};
 ghost use Rattle.h2_inode.specs.Inode.{IsLeafOf, IsPartOf, IsRootSet, keys_from, keys_end};
 ghost use Rattle.h2_inode.specs.Fault.{IsRefsFault, LiesInBody, in_body};
 
 use crate::fault::InodeFault;
 use crate::kind::InodeKind;
 use crate::layout::{BODY_BYTES, CONTENTS_AT, INODE_BYTES};
-use crate::set_decoding::{SetFault, decode_set};
 use h2_ref::{Kind, Ref};
-use h2_set::Set;
+use h2_set::{Set, SetFault, decode_set};
 
 /// Where the keys of every tree but a directory's end.
 const KEYS_END: u64 = 1 << 62;

@@ -8,8 +8,8 @@ use crate::layout::{
     BODY_AT, BODY_BYTES, CONTENTS_AT, INODE_BYTES, KIND_AT, LINKS_AT, NAME_AT, NAME_LEN_AT,
     NEXT_AT, NUMBER_AT, SIZE_AT,
 };
-use crate::set_encoding::encode_set;
 use h2_num::{put_bytes, put8, put16, put32, put64};
+use h2_set::encode_set;
 
 /// The number of a body.
 fn body_byte(body: &Body) -> u8

@@ -3,7 +3,7 @@ ghost use Rattle.h2_num.specs.Places.{places};
 ghost use Rattle.h2_ref.specs.declared.reference.Ref.{Ref};
 ghost use Rattle.h2_ref.specs.Ref.{IsValid, size_of};
 ghost use Rattle.h2_inode.specs.declared.inode.Inode.{Inode};
-ghost use Rattle.h2_inode.specs.SetBytes.{IsSetAt};
+ghost use Rattle.h2_set.specs.SetBytes.{IsSetAt};
 ghost use Rattle.h2_inode.specs.Inode.{IsInode, InodeBytes};
 ghost use Rattle.h2_inode.specs.Block.{HasCheck, IsArranged, IsNameOf, Passes, name_len};
 ghost use Rattle.h2_inode.specs.Cause.{why_of, why_of_set, IsInodeCause, IsSetCause, IsNameCause, IsSpellingCause, IsCauseOf};
@@ -14,9 +14,9 @@ use crate::decoding::decode_inode;
 use crate::fault::InodeFault;
 use crate::inode::Inode;
 use crate::layout::INODE_BYTES;
-use crate::set_decoding::{SetFault, decode_set};
 use h2_dirkey::{NAME_BLOCK_BYTES, is_key_of, name_matches};
 use h2_ref::{Check, Kind, Ref, Why};
+use h2_set::{SetFault, decode_set};
 
 /// A fault of an inode's bytes, as one of the block.
 fn why_of(fault: InodeFault) -> Why

@@ -5,6 +5,9 @@
 //! that spell none meet a first refusal, which the bytes tell (`specs/Head`, `specs/Fault`). When a block passes
 //! the reference that names it is one definition for all kinds of files and directories (`Passes` in
 //! `specs/Block`).
+//!
+//! [`Nodes`] is a forest of sets whose roots are those of inodes (`specs/Nodes`): which leaf names a root, what a
+//! root holds beside its set, and one relation for each call.
 #![tactic(auto)]
 
 mod arrangement;
@@ -20,9 +23,8 @@ mod kind;
 mod laws;
 mod layout;
 mod limits;
+mod nodes;
 mod pfs_name;
-mod set_decoding;
-mod set_encoding;
 
 pub use block_check::check_of;
 pub use decoding::decode_inode;
@@ -31,9 +33,9 @@ pub use fault::InodeFault;
 pub use inode::{Body, Inode};
 pub use judging::judge;
 pub use kind::InodeKind;
-pub use laws::{cause_law, inode_law, passing_law, refusal_law};
+pub use laws::{
+    cause_law, inode_law, inode_or_refusal_law, nodes_law, passing_law, refusal_law, visits_law,
+};
 pub use layout::INODE_BYTES;
+pub use nodes::Nodes;
 pub use pfs_name::PfsName;
-
-#[cfg(test)]
-mod tests;

@@ -1,6 +1,5 @@
 mod Holding
 mod Least
 mod Filtered
-mod Front
-mod BytesOf
-mod Shape
+mod Slots
+mod Fronts

@@ -12,3 +12,7 @@ pub mod PutLaws
 pub mod SplitLaws
 pub mod RenewLaws
 pub mod MadeLaws
+pub mod ValidLaws
+pub mod SetBytesLaws
+pub mod SetFaultLaws
+pub mod Front

@@ -1,7 +1,10 @@
-ghost use Rattle.std.specs.Prelude.{◌≡◌, ◌+◌, ◌^◌, ◌<◌, ◌≤◌, ℕ, List, true, Some, length, slice_get, count_by};
+ghost use Rattle.std.specs.Prelude.{◌≡◌, ◌+◌, ◌*◌, ◌^◌, ◌<◌, ◌≤◌, ℕ, List, true, Some, length, slice_get, count_by};
+ghost use Rattle.h2_num.specs.Places.{Places, AreBytes, SameBelow};
 ghost use Rattle.h2_ref.specs.declared.reference.Ref.{Ref};
 ghost use Rattle.h2_set.specs.Ranges.{lies, AllAligned, Rising, Sides};
 ghost use Rattle.h2_set.specs.RefSet.{HoldsAll, IsSplitOf};
+ghost use Rattle.h2_set.specs.SetBytes.{IsFaultOf, IsSetAt, SetBytes};
+ghost use Rattle.h2_set.specs.declared.set_decoding.SetFault.{SetFault};
 
 /// A law of the split rule, over three or more references with aligned, disjoint ranges in order. Its range lies in
 /// each aligned range that holds all of them and has fewer keybits than that; each reference lies in it or apart from
@@ -19,4 +22,20 @@ pub fn split_law()
         → IsSplitOf rs key bits → 2 ≤ count_by (lies key bits) rs }
     ensures few { (rs : List Ref) (low high key bits : ℕ) → Rising low high rs → AllAligned rs → 3 ≤ length rs
         → IsSplitOf rs key bits → count_by (lies key bits) rs < length rs }
+{}
+
+/// A law of sets in bytes, wherever in a block they begin: a set has one spelling, bytes spell one set at most, and
+/// which one is seen by 128 bytes for each reference that it has room for. Bytes that meet a refusal spell no set, and
+/// they meet one refusal at most.
+pub fn set_bytes_law()
+    ensures one_spelling { (capacity : ℕ) (refs : List Ref) (a b : Places) → AreBytes a → AreBytes b
+        → SetBytes capacity refs a → SetBytes capacity refs b → SameBelow (128 * capacity) a b }
+    ensures one_value { (capacity : ℕ) (refs others : List Ref) (b : Places) → IsSetAt capacity refs b
+        → IsSetAt capacity others b → others ≡ refs }
+    ensures local { (capacity : ℕ) (refs : List Ref) (a b : Places) → SameBelow (128 * capacity) a b
+        → SetBytes capacity refs a → SetBytes capacity refs b }
+    ensures refused { (capacity : ℕ) (refs : List Ref) (b : Places) (fault : SetFault) → IsFaultOf capacity b fault
+        → IsSetAt capacity refs b → ⊥ }
+    ensures one_refusal { (capacity : ℕ) (b : Places) (fault other : SetFault) → IsFaultOf capacity b fault
+        → IsFaultOf capacity b other → other ≡ fault }
 {}

@@ -1,10 +1,8 @@
-ghost use Rattle.std.specs.Prelude.{◌≡◌, ℕ, ◌+◌, ◌%◌, ◌<◌, ◌≤◌, ◌^◌, ◌⊎◌, ◌↔◌, [], length, slice_get, slice_set, ◌-◌, ◌++◌, replicate, take, filter, not, IsTrue, Some, IfSome, IfNone};
+ghost use Rattle.std.specs.Prelude.{◌≡◌, ℕ, ◌+◌, ◌%◌, ◌<◌, ◌≤◌, ◌^◌, ◌⊎◌, ◌↔◌, [], length, slice_get, slice_set, filter, not, IsTrue, Some, IfSome, IfNone};
 ghost use Rattle.std.specs.List.{position, remove};
 ghost use Rattle.h2_ref.specs.declared.reference.Ref.{Ref};
 ghost use Rattle.h2_set.specs.Ranges.{holds, IsPlaceOf, NoneHolds, put, limit, IsApart, IsAligned, AllAligned, IsOneClass, Rising, lies};
 ghost use Rattle.h2_set.specs.RefSet.{RefSet, IsRefSet, IsSplitOf, Takes, Splits, rest_of, with_rest};
-ghost use Rattle.h2_set.specs.SetBytes.{slots_of};
-ghost use Rattle.h2_ref.specs.Ref.{empty_ref};
 
 use crate::range::holds;
 use crate::conditions::{are_aligned, are_one_class, ends_in_keys, is_apart};
@@ -199,26 +197,6 @@ impl Set {
         }
     }
 
-    /// The references, and then empty ones up to the capacity.
-    pub(crate) fn slots(&self) -> ArrayVec<Ref, 32>
-        ensures items { result.items ≡ slots_of self.now }
-        ensures len { length result.items ≡ self.now.capacity }
-    {
-        slots_with(&self.refs, self.capacity)
-    }
-
-    /// The set of the first n of these references.
-    pub(crate) fn of_front(refs: &[Ref], n: usize, capacity: u8) -> Set
-        requires within { n ≤ length refs.now }
-        requires set { IsRefSet (record { refs = take n refs.now; capacity = capacity }) }
-        ensures { result ≡ record { refs = take n refs.now; capacity = capacity } }
-    {
-        Set {
-            refs: front_of(refs, n),
-            capacity,
-        }
-    }
-
     /// An equal set.
     pub fn copy(&self) -> Set
         ensures same { result ≡ self.now }
@@ -229,32 +207,6 @@ impl Set {
             capacity: self.capacity,
         }
     }
-}
-
-// References, and then empty ones up to a number.
-fn slots_with(refs: &[Ref], number: u8) -> ArrayVec<Ref, 32>
-    requires { (length refs.now ≤ number) × (number ≤ 32) }
-    ensures items { result.items ≡ refs.now ++ replicate (number - length refs.now) empty_ref }
-    ensures len { length result.items ≡ number }
-{
-    let mut slots = copy_of(refs);
-    let missing = number as usize - refs.len();
-    for _ in 0..missing {
-        slots.push(Ref::empty());
-    }
-    slots
-}
-
-// The first n references.
-fn front_of(refs: &[Ref], n: usize) -> ArrayVec<Ref, 32>
-    requires { (n ≤ length refs.now) × (n ≤ 32) }
-    ensures { result.items ≡ take n refs.now }
-{
-    let mut front = ArrayVec::new();
-    for i in 0..n {
-        front.push(refs[i]);
-    }
-    front
 }
 
 fn copy_of(refs: &[Ref]) -> ArrayVec<Ref, 32>

@@ -1,7 +1,0 @@
-use Rattle.h2_num.specs.Places.{places}
-use Rattle.h2_inode.specs.SetBytes.{AreRefs}
-use Rattle.h2_inode.specs.Front.{EmptyFrom}
-use Rattle.h2_inode.proofs.set_decoding.check_rest.Given as goal
-
-abbrev pub invariant-loop-i : goal.invariant-loop-i
-invariant-loop-i l = record { decoded : AreRefs l.i (places l.b); empty : EmptyFrom l.from l.i (places l.b) }
