@@ -12,7 +12,6 @@ mod layout;
 mod leaf;
 mod node;
 mod part;
-mod places;
 mod planning;
 
 pub use fault::MapFault;
