@@ -6,3 +6,7 @@ pub mod NodeLaws
 pub mod FaultLaws
 pub mod InImage
 pub mod Plan
+pub mod FirstBad
+pub mod InImageLaws
+pub mod FirstBadLaws
+pub mod Reading

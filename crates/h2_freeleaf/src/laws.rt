@@ -1,10 +1,13 @@
-ghost use Rattle.std.specs.Prelude.{◌≡◌, ℕ, List};
+ghost use Rattle.std.specs.Prelude.{◌≡◌, ◌≤◌, ℕ, List};
 ghost use Rattle.h2_num.specs.Places.{Places, AreBytes, SameBelow};
 ghost use Rattle.h2_codes.specs.declared.code.Code.{Code};
 ghost use Rattle.h2_ref.specs.declared.reference.Ref.{Ref};
 ghost use Rattle.h2_freeleaf.specs.Leaf.{IsLeaf, LeafBytes, NoLeaf};
 ghost use Rattle.h2_freeleaf.specs.Node.{IsNode, NodeBytes, NoNode};
 ghost use Rattle.h2_freeleaf.specs.Fault.{IsLeafFault, IsNodeFault};
+ghost use Rattle.h2_header.specs.declared.header.Header.{Header};
+ghost use Rattle.h2_freeleaf.specs.InImage.{AreCodesOf, SameMap};
+ghost use Rattle.h2_freeleaf.specs.FirstBad.{IsFirstBad};
 ghost use Rattle.h2_freeleaf.specs.declared.fault.MapFault.{MapFault};
 
 use h2_codes::layout_law;
@@ -39,3 +42,17 @@ pub fn refusal_law()
     ensures no_node { (at : ℕ) (b : Places) (f : MapFault) → IsNodeFault at b f → NoNode b }
     ensures one_of_node { (at : ℕ) (b : Places) (f g : MapFault) → IsNodeFault at b f → IsNodeFault at b g → g ≡ f }
 {}
+
+/// A law: an image has one list of codes at most under a header of up to 512 zones, which depends on the bytes of
+/// the map's blocks alone. Where the map has a bad block there are none, and then one fault is the first.
+pub fn map_law()
+    ensures one_list { (image : Places) (h : Header) (s t : List (List Code)) → h.zones ≤ 512
+        → AreCodesOf image h s → AreCodesOf image h t → t ≡ s }
+    ensures local { (h : Header) (s : List (List Code)) (a b : Places) → SameMap h.zones h.map_number a b
+        → AreCodesOf a h s → AreCodesOf b h s }
+    ensures no_codes { (image : Places) (h : Header) (s : List (List Code)) (f : MapFault) → IsFirstBad image h f
+        → AreCodesOf image h s → ⊥ }
+    ensures one_fault { (image : Places) (h : Header) (f g : MapFault) → IsFirstBad image h f → IsFirstBad image h g → g ≡ f }
+{
+    layout_law();
+}
