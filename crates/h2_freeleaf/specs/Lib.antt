@@ -10,3 +10,6 @@ pub mod FirstBad
 pub mod InImageLaws
 pub mod FirstBadLaws
 pub mod Reading
+pub mod LeastPlace
+pub mod ChunkCode
+pub mod ChunkCodeLaws

@@ -16,7 +16,7 @@ mod planning;
 mod reading;
 
 pub use fault::{MapFault, MapRead};
-pub use laws::{leaf_law, map_law, node_law, refusal_law};
+pub use laws::{code_law, leaf_law, map_law, node_law, refusal_law};
 pub use layout::{LEAF_SEGMENTS, MAP_BYTES, NODE_REFS};
 pub use leaf::{decode_leaf, encode_leaf};
 pub use node::{decode_node, encode_node};
