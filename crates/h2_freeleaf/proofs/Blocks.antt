@@ -82,9 +82,11 @@ pub leads_leaf : (zones number : ℕ) (segments : List (List Code)) (zone : ℕ)
 leads_leaf zones number segments zone leaf block image len is valid bytes h = record {
   leaf = leaf;
   is_zone = is;
-  check = has_check 0 number zone block image len h;
-  valid = valid;
-  bytes = LeafBytes-same leaf (places block) (from_place image (node_place 0 zone (turn_of number))) valid (stands_there (node_place 0 zone (turn_of number)) block image len h) bytes;
+  leads = record {
+    check = has_check 0 number zone block image len h;
+    valid = valid;
+    bytes = LeafBytes-same leaf (places block) (from_place image (node_place 0 zone (turn_of number))) valid (stands_there (node_place 0 zone (turn_of number)) block image len h) bytes;
+  };
 }
 
 -- the zones of the eight blocks below a node

@@ -38,7 +38,7 @@ counted_same a b same c = record {
   free = number_same 64 4 128 a b (omega arith) same ∙ c.free;
 }
 
-fault_same : (at : ℕ) (a b : Places) (f : MapFault) → SameBelow 128 a b → IsPartFault at a f → IsPartFault at b f
+pub fault_same : (at : ℕ) (a b : Places) (f : MapFault) → SameBelow 128 a b → IsPartFault at a f → IsPartFault at b f
 fault_same at a b _ same (bad_count wrong) = bad_count (λ c. wrong (counted_same b a (λ k lt. sym (same k lt)) c))
 fault_same at a b _ same (bad_tail k counted low high wrong zeros) =
     bad_tail k (counted_same a b same counted) low high (λ e. wrong (sym (same k high) ∙ e)) (λ j from to. let below : j < 128 = omega arith in same j below ∙ zeros j from to)

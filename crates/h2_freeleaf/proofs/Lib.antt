@@ -2,3 +2,5 @@ pub mod Parts
 pub mod Leaves
 pub mod Nodes
 pub mod Blocks
+pub mod BlockReads
+pub mod Filling

@@ -6,3 +6,10 @@ pub mod NodeLaws
 pub mod FaultLaws
 pub mod InImage
 pub mod Plan
+pub mod FirstBad
+pub mod InImageLaws
+pub mod FirstBadLaws
+pub mod Reading
+pub mod LeastPlace
+pub mod ChunkCode
+pub mod ChunkCodeLaws

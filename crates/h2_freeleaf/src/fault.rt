@@ -17,3 +17,14 @@ pub enum MapFault {
     /// The reference whose first byte is at this place can't be taken.
     Reference(u64),
 }
+
+/// Why the freemap of an image isn't read.
+#[derive(Clone, Copy, Debug, PartialEq, Eq)]
+pub enum MapRead {
+    /// A block is bad: the first one in the order of keys, where a node comes before what is under it.
+    Fault(MapFault),
+    /// The disk failed, and its count of faults rose.
+    Disk,
+    /// Memory was wanting.
+    NoMemory,
+}

@@ -12,15 +12,16 @@ mod layout;
 mod leaf;
 mod node;
 mod part;
-mod places;
 mod planning;
+mod reading;
 
-pub use fault::MapFault;
-pub use laws::{leaf_law, node_law, refusal_law};
+pub use fault::{MapFault, MapRead};
+pub use laws::{code_law, leaf_law, map_law, node_law, refusal_law};
 pub use layout::{LEAF_SEGMENTS, MAP_BYTES, NODE_REFS};
 pub use leaf::{decode_leaf, encode_leaf};
 pub use node::{decode_node, encode_node};
 pub use planning::{MapPlan, plan};
+pub use reading::read_map;
 
 #[cfg(test)]
 mod tests;

@@ -9,20 +9,14 @@ ghost use Rattle.h2_freeleaf.specs.Plan.{BeginsBlock, IsEight, IsLevel, IsPlan, 
 use crate::layout::{LEAF_SEGMENTS, MAP_BYTES, NODE_REFS};
 use crate::leaf::encode_leaf;
 use crate::node::encode_node;
-use crate::places::{blocks_of, map_kind, map_place, top_level, turn_of, zones_under};
 use h2_check::crc32c;
 use h2_codes::Segment;
 use h2_freemap::Freemap;
 use h2_geom::ZONE_BYTES;
+use h2_header::{map_keybits, map_kind, map_place, top_level, turn_of, zones_under};
 use h2_num::{Bytes, NoMemory};
 use h2_ref::{Check, Ref};
 use std::alloc::Global;
-
-/// The base-2 logarithm of the bytes of a zone, which are the keys of a leaf.
-const ZONE_BITS: u8 = 25;
-
-/// The base-2 logarithm of the references of a node.
-const NODE_BITS: u8 = 3;
 
 /// The base-2 logarithm of the bytes of a leaf or of a node.
 const MAP_RADIX: u8 = 10;
@@ -37,6 +31,15 @@ pub struct MapPlan {
     pub top: [Ref; 8],
 }
 
+/// How many blocks of a level the map of a volume has, by its zones.
+fn blocks_of(zones: u32, level: u32) -> u32
+    requires level { level ≤ 2 }
+    requires zones { zones ≤ 512 }
+    ensures { result ≡ blocks_of zones level }
+{
+    (zones + zones_under(level) - 1) / zones_under(level)
+}
+
 /// The reference to the block of a level that begins with a zone.
 fn map_ref(level: u32, zone: u32, number: u64, block: &[u8; MAP_BYTES]) -> Ref
     requires level { level ≤ 2 }
@@ -47,7 +50,7 @@ fn map_ref(level: u32, zone: u32, number: u64, block: &[u8; MAP_BYTES]) -> Ref
     Ref {
         kind: map_kind(level),
         key: ZONE_BYTES * zone as u64,
-        keybits: ZONE_BITS + NODE_BITS * level as u8,
+        keybits: map_keybits(level),
         place: map_place(level, zone, turn_of(number)),
         radix: MAP_RADIX,
         id: number,

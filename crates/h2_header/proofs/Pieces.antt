@@ -1,14 +1,14 @@
 -- References in the bytes of a block, read one after the other.
-use Rattle.std.proofs.Common.{◌≡◌, ◌≢◌, ◌<◌, ◌≤◌, ◌+◌, ◌*◌, ◌-◌, ◌↔◌, ℕ, Bool, true, false, List, length, drop, take, refl, sym, ap, subst, ◌∙◌, arith, inl, inr, get_or-set_other, get_or-set_same, length-set}
-use Rattle.std.specs.Prelude.{Option, Some, None, Result, Ok, Err, MatchOption, IfOk, OnErr, IfNone, IfSome, IsTrue, slice_index, slice_index_or, slice_set, All}
+use Rattle.std.proofs.Common.{◌≡◌, ◌≢◌, ◌<◌, ◌≤◌, ◌+◌, ◌*◌, ◌-◌, ◌↔◌, ℕ, Bool, false, List, length, drop, take, refl, sym, ap, subst, ◌∙◌, arith, inl, inr, get_or-set_other, get_or-set_same, length-set}
+use Rattle.std.specs.Prelude.{Option, Some, None, Result, Ok, Err, MatchOption, IfOk, OnErr, IfNone, IfSome, IsTrue, slice_index, slice_index_or, slice_set}
 use Rattle.std.specs.List.{AllWithin, AllAdjacentBelow}
 use Rattle.std.specs.Result.{result_ok}
 use Rattle.std.proofs.lemmas.Bool.{cases_lt, both_ways}
 use Rattle.std.specs.Array.{IsFirstChunk}
-use Rattle.std.proofs.lemmas.List.{get_or-take, get_or-drop, get_or_default}
+use Rattle.std.proofs.lemmas.List.{get_or-take, get_or-drop}
 use Rattle.h2_num.specs.Places.{Places, places, from_place, SameBelow, number_at}
 use Rattle.h2_ref.specs.Ref.{empty_ref, IsValid, NoRef, RefBytes}
-use Rattle.h2_ref.specs.Set.{RefsBytes, MayFollow, IsSet}
+use Rattle.h2_ref.specs.Set.{RefsBytes, MayFollow}
 use Rattle.h2_ref.specs.RefLaws.{RefBytes-same}
 use Rattle.h2_ref.specs.Spelling.{one_value}
 use Rattle.h2_ref.specs.declared.reference.Ref.{Ref}

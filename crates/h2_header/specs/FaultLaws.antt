@@ -1,20 +1,20 @@
 -- A block meets a refusal exactly where it is no header of its slot, and one refusal at most.
-use Rattle.std.specs.Prelude.{◌≡◌, ◌≢◌, ◌⊎◌, ◌<◌, ◌≤◌, ℕ, zero, suc, ◌+◌, ◌*◌, ◌^◌, List, length, slice_index_or, refl}
+use Rattle.std.specs.Prelude.{◌≡◌, ◌<◌, ◌≤◌, ℕ, ◌+◌, ◌*◌, List, length, slice_index_or, refl}
 use Rattle.std.proofs.Common.{ap, sym, ◌∙◌, subst, arith, inl, inr}
 use Rattle.std.proofs.lemmas.Bool.{cases_lt}
 use Rattle.h2_num.specs.Places.{Places, number_at, from_place, ZeroIn}
 use Rattle.h2_geom.specs.Geometry.{IsZoneCount}
 use Rattle.h2_ref.specs.declared.reference.Ref.{Ref}
-use Rattle.h2_ref.specs.Ref.{empty_ref, IsValid, RefBytes}
+use Rattle.h2_ref.specs.Ref.{empty_ref}
 use Rattle.h2_ref.specs.Spelling.{one_value}
 use Rattle.h2_ref.specs.Set.{MayFollow, RefsBytes}
 use Rattle.h2_header.specs.declared.fault.HeadFault.{HeadFault}
-use Rattle.h2_header.specs.declared.fault.HeadFault.TheVariants.{Magic, Version, Check, Field}
+use Rattle.h2_header.specs.declared.fault.HeadFault.TheVariants.{Field}
 use Rattle.h2_header.specs.declared.header.Header.{Header}
 use Rattle.h2_header.specs.Map.{IsMap, IsMapSlot}
 use Rattle.h2_header.specs.Header.{IsRoot, IsHeaderAt, NoHeaderAt}
 use Rattle.h2_header.specs.Reading.{IsFirstNonzero, IsFirstRoot, IsFirstMap}
-use Rattle.h2_header.specs.Fault.{IsNumberOf, IsNextPfs, ref_bytes, IsRootAt, IsMapAt, IsWrongField, zones, number, map_number, next_pfs, gap, root, map, tail, NoneWrong, IsFirstWrong, HasMagic, stored_check, computed_check, IsHeadFault, bad_magic, bad_version, bad_check, bad_field}
+use Rattle.h2_header.specs.Fault.{IsNumberOf, IsNextPfs, ref_bytes, IsRootAt, IsMapAt, IsWrongField, zones, number, map_number, next_pfs, gap, root, map, tail, NoneWrong, IsFirstWrong, IsHeadFault, bad_magic, bad_version, bad_check, bad_field}
 
 -- A header has no wrong field
 

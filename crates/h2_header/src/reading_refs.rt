@@ -8,7 +8,8 @@ ghost use Rattle.h2_header.specs.Fault.{IsMapAt, IsRootAt, ref_bytes};
 ghost use Rattle.h2_header.specs.Reading.{IsBefore, IsFirstMap, IsFirstRoot};
 
 use crate::layout::{MAP_AT, ROOT_AT};
-use crate::rules::{is_map_slot, is_root_ref};
+use crate::map_blocks::is_map_slot;
+use crate::rules::is_root_ref;
 use h2_ref::{REF_BYTES, Ref, decode, may_follow};
 
 /// The valid reference number i of those that begin at a place; None where there is none.

@@ -1,4 +1,3 @@
-use Rattle.std.proofs.Common.{refl}
 use Rattle.h2_num.specs.Places.{places}
 use Rattle.h2_header.specs.FaultLaws.{wrong_root, none_before_map, wrong_map, wrong_tail}
 use Rattle.h2_header.proofs.Found.{fields_found}

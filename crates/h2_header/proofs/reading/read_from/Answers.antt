@@ -1,7 +1,6 @@
-use Rattle.std.proofs.Common.{rules, ◌≡◌, ◌≢◌, sym, ◌∙◌, subst}
+use Rattle.std.proofs.Common.{sym, ◌∙◌}
 use Rattle.h2_num.specs.Places.{places}
-use Rattle.h2_header.specs.declared.fault.HeadFault.TheVariants.{Version, Check}
-use Rattle.h2_header.specs.Fault.{HasMagic, IsHeadFault, bad_magic, bad_version, bad_check, bad_field, stored_check, computed_check}
+use Rattle.h2_header.specs.Fault.{bad_field}
 use Rattle.h2_header.specs.FaultLaws.{fault-none}
 use Rattle.h2_header.proofs.Found.{header_found, no_magic, other_version, other_check}
 use Rattle.h2_header.proofs.reading.read_from.Goals as goal
