@@ -4,3 +4,4 @@ pub mod VolumeFormat
 pub mod MapLaws
 pub mod VolumeLaws
 pub mod NewVolumeLaws
+pub mod NewLeafLaws

@@ -39,7 +39,7 @@ pub data IsPart (image : Places) (zones : ℕ) (segments : List (List Code)) (r 
   is_empty : r ≡ empty_ref → IsPart image zones segments r
 
 -- the level of the blocks that a header names
-top_most : (zones : ℕ) → top_level zones ≤ 2
+pub top_most : (zones : ℕ) → top_level zones ≤ 2
 top_most zones = elim (cases_lt 8 zones) [
   | inl more ↦ elim (cases_lt 64 zones) [ | inl most ↦ grind arith | inr few ↦ grind arith ]
   | inr few ↦ grind arith
