@@ -3,7 +3,8 @@ use Rattle.std.proofs.Common.{ℕ, ◌≡◌, ◌⊎◌, ◌+◌, ◌-◌, ◌*�
 use Rattle.std.specs.Option.{IfSome}
 use Rattle.std.proofs.lemmas.Bool.{cases_lt}
 use Rattle.h2_num.specs.declared.block.Block.{Block}
-use Rattle.h2_codes.specs.declared.code.Code.TheVariants.{Free, Reserved}
+use Rattle.h2_geom.specs.Geometry.{IsReserved, chunks_of}
+use Rattle.h2_codes.specs.declared.code.Code.TheVariants.{Free, Reserved, Used}
 use Rattle.h2_freemap.specs.declared.size.Size.TheVariants.{Small}
 use Rattle.h2_freemap.specs.declared.cursor.Cursor.{Cursor}
 use Rattle.h2_freemap.specs.Space.{Space, chunk_count, code_of}
@@ -11,7 +12,8 @@ use Rattle.h2_freemap.specs.Free.{free_of, IsLowestFree}
 use Rattle.h2_freemap.specs.Taking.{HasNoRoom, GoesTo, at_cursor, at_lowest, Takes}
 use Rattle.h2_freemap.specs.Need.{blocks_left, need_of_one}
 use Rattle.h2_freemap.specs.Made.{IsFresh}
-use Rattle.h2_image.specs.NewVolume.{directory_place, pfs_place}
+use Rattle.h2_freemap.specs.Consistent.{IsConsistent}
+use Rattle.h2_image.specs.NewVolume.{inode_chunk, directory_place, pfs_place, IsNewCode, AreNewSegments}
 
 -- the lowest free chunk of a new volume is the one behind its first reserved segment
 lowest_is : (zones : ℕ) (x : Space) (c : ℕ) → 4 ≤ zones → IsFresh zones x → IsLowestFree x c → c ≡ 256
@@ -65,6 +67,37 @@ second_need zones x y b some fresh t =
     let used : t.at.used ≡ 0 = first.1 in
     let left : blocks_left Small y.small ≡ (16384 - (t.at.used + 1024)) / 1024 = ap (blocks_left Small) t.cursor in
     omega arith
+
+-- Their codes
+
+new_code_at : (x y z : Space) (a b : Block) → 4 ≤ x.zones → IsFresh x.zones x → Takes Small x y a → Takes Small y z b → (chunk : ℕ) → chunk < chunks_of x.zones → IsNewCode chunk (code_of z chunk)
+new_code_at x y z a b some fresh t u chunk lt = record {
+  reserved = λ here. same (λ e. reserved_is_other here e) ∙ (fresh.codes chunk lt).reserved here;
+  used = λ is. subst (λ (n : ℕ). code_of z n ≡ Used) (second_chunk ∙ sym is) u.code.changed;
+  free = λ not_reserved other. same other ∙ (fresh.codes chunk lt).free not_reserved;
+}
+  where
+    first : (t.at.chunk ≡ 256) × (t.at.used ≡ 0)
+    first = first_at x.zones x t.at some fresh t.goes_to
+
+    second : (u.at.chunk ≡ t.at.chunk) × (u.at.used ≡ 1024)
+    second = second_at y t.at u.at t.cursor first.1 u.goes_to
+
+    second_chunk : u.at.chunk ≡ inode_chunk
+    second_chunk = second.0 ∙ first.0
+
+    same : (chunk ≡ inode_chunk → ⊥) → code_of z chunk ≡ code_of x chunk
+    same other = u.code.others chunk (λ e. other (e ∙ second_chunk)) ∙ t.code.others chunk (λ e. other (e ∙ first.0))
+
+    reserved_is_other : IsReserved chunk → chunk ≡ inode_chunk → ⊥
+    reserved_is_other here is = absurd (omega arith)
+
+pub new_segments : (x y z : Space) (a b : Block) → 4 ≤ x.zones → IsFresh x.zones x → Takes Small x y a → Takes Small y z b → IsConsistent z → AreNewSegments z.zones z.segments
+new_segments x y z a b some fresh t u consistent = record {
+  count = consistent.segment_count;
+  each = consistent.segments;
+  codes = λ chunk lt. new_code_at x y z a b some fresh t u chunk (subst (λ (n : ℕ). chunk < chunks_of n) (u.code.zones ∙ t.code.zones) lt);
+}
 
 -- the geometry of so many zones
 pub zones_are : (r : Option ℕ) (g zones : ℕ) → IfSome r (λ (z : ℕ). z ≡ zones) → r ≡ Some g → g ≡ zones

@@ -1,19 +1,16 @@
--- The header of a planned volume keeps the rules of headers.
-use Rattle.std.proofs.Common.{◌≡◌, ◌≤◌, ℕ, zero, suc, ◌+◌, List, refl, sym, subst, inl, arith}
-use Rattle.std.specs.Prelude.{All, nat_lt, nat_le, true, false, if◌then◌else◌, ◌<◌, ◌*◌}
-use Rattle.std.proofs.lemmas.Bool.{lt-ltb, le-ltb, le-leb, cond-true}
+-- The header of a new volume keeps the rules of headers.
+use Rattle.std.proofs.Common.{ℕ, zero, suc, List, refl, inl, arith}
+use Rattle.std.specs.Prelude.{All}
 use Rattle.h2_num.specs.Places.{Places}
 use Rattle.h2_check.specs.XxhLaws.{xxh64_of-lt}
+use Rattle.h2_ref.specs.declared.reference.Ref.{Ref}
 use Rattle.h2_ref.specs.Ref.{IsValid}
 use Rattle.h2_ref.specs.Set.{IsSet}
-use Rattle.h2_header.specs.declared.header.Header.{Header}
-use Rattle.h2_header.specs.Map.{IsMapEntry, IsMapSlot, IsMap, top_level, zones_under}
+use Rattle.h2_header.specs.Map.{IsMap}
 use Rattle.h2_header.specs.RootLaws.{empty_root_ref}
 use Rattle.h2_header.specs.Header.{IsRootRef, IsRoot, IsHeader}
-use Rattle.h2_checkpoint.specs.declared.piece.Piece.{Piece}
-use Rattle.h2_image.specs.NewVolume.{pfs_place, IsZoneCount, inode_ref, map_slot, new_root, new_map, new_header}
-use Rattle.h2_image.specs.VolumeLaws.{slot_in_map}
-use Rattle.h2_cmd.specs.Planning.{block_at, IsPlanned}
+use Rattle.h2_geom.specs.Geometry.{IsZoneCount}
+use Rattle.h2_image.specs.NewVolume.{pfs_place, inode_ref, new_root, new_header}
 
 pfs_valid : (pfs : Places) → IsValid (inode_ref pfs_place pfs)
 pfs_valid pfs = record {
@@ -45,34 +42,11 @@ root_valid pfs = record { length_is = refl; each = each; set = set }
     set (suc (suc zero)) d lt = inl refl
     set (suc (suc (suc k))) d lt = absurd (omega arith)
 
-slot_valid : (zones : ℕ) (leaves : ℕ → Places) → IsZoneCount zones → (slot : ℕ) → IsMapSlot zones 1 slot (map_slot zones leaves slot)
-slot_valid zones leaves count slot =
-    let most : zones ≤ 8 = count.high in
-    let top : nat_le zones 8 ≡ true = le-leb zones 8 most in
-    let level : top_level zones ≡ 0 = cond-true (nat_le zones 8) 0 (if nat_le zones 64 then 1 else 2) top in
-    subst (λ l. IsMapEntry l zones 1 (zones_under l * slot) (map_slot zones leaves slot)) (sym level) (record {
-      used = λ lt.
-          let below : slot < zones = omega arith in
-          let is : nat_lt slot zones ≡ true = lt-ltb slot zones below in
-          rw is (record { kind = refl; key = omega arith; keybits = refl; place = omega arith; id = refl });
-      unused = λ le.
-          let behind : zones ≤ slot = omega arith in
-          let isnt : nat_lt slot zones ≡ false = le-ltb slot zones behind in
-          rw isnt refl;
-    })
-
-map_valid : (zones : ℕ) (leaves : ℕ → Places) → IsZoneCount zones → All IsValid (new_map zones leaves) → IsMap zones 1 (new_map zones leaves)
-map_valid zones leaves count valid = record {
-  length_is = refl;
-  valid = valid;
-  slots = λ slot d lt. subst (IsMapSlot zones 1 slot) (sym (slot_in_map zones leaves slot d lt)) (slot_valid zones leaves count slot);
-}
-
-new_header_valid : (zones : ℕ) (pfs : Places) (leaves : ℕ → Places) → IsZoneCount zones → All IsValid (new_map zones leaves) → IsHeader (new_header zones pfs leaves)
-new_header_valid zones pfs leaves count valid = record {
+pub new_header_valid : (zones : ℕ) (pfs : Places) (map : List Ref) → IsZoneCount zones → IsMap zones 1 map → IsHeader (new_header zones pfs map)
+new_header_valid zones pfs map count is = record {
   ranges = record {
-    zones_low = count.low;
-    zones_high = let most : zones ≤ 8 = count.high in omega arith;
+    zones_low = count.0;
+    zones_high = count.1;
     number_low = omega arith;
     number_high = omega arith;
     map_number = refl;
@@ -80,10 +54,5 @@ new_header_valid zones pfs leaves count valid = record {
     next_high = omega arith;
   };
   root = root_valid pfs;
-  map = map_valid zones leaves count valid;
+  map = is;
 }
-
-pub planned_header_valid : (zones : ℕ) (pieces : List Piece) (h : Header) → IsPlanned zones pieces h → IsHeader h
-planned_header_valid zones pieces h p =
-    subst IsHeader (sym p.header) (new_header_valid zones (block_at pieces 1) (λ zone. block_at pieces (zone + 2)) p.zone_count
-    (subst (λ (x : Header). All IsValid x.map) p.header p.map_valid))

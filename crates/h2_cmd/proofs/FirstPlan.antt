@@ -1,9 +1,12 @@
 -- A planned volume as the first plan of the law of checkpoints.
-use Rattle.std.proofs.Common.{◌≡◌, ◌<◌, ℕ, zero, suc, ◌+◌, List, [], ◌∷◌, length, refl, sym, ap, subst, ◌∙◌, inl, inr, arith}
-use Rattle.h2_num.specs.Places.{Places, places, from_place, SameBelow, InRange, Holds}
+use Rattle.std.proofs.Common.{◌≡◌, ◌⊎◌, ◌<◌, ◌≤◌, ◌^◌, ℕ, zero, suc, ◌+◌, List, [], ◌∷◌, length, refl, sym, ap, subst, ◌∙◌, inl, inr, arith}
+use Rattle.std.specs.Prelude.{map, slice_index_or}
+use Rattle.h2_num.specs.Places.{Places, places, SameBelow, InRange, Holds}
 use Rattle.h2_header.specs.declared.header.Header.{Header}
-use Rattle.h2_header.specs.Header.{HeadBytes}
-use Rattle.h2_geom.specs.Places.{leaf_place}
+use Rattle.h2_header.specs.Map.{top_level}
+use Rattle.h2_header.specs.Header.{IsHeader, HeadBytes}
+use Rattle.h2_geom.specs.Places.{node_place}
+use Rattle.h2_freeleaf.specs.Plan.{AllStand, places_of}
 use Rattle.h2_checkpoint.specs.declared.piece.Piece.{Piece}
 use Rattle.h2_checkpoint.specs.Slots.{IsSlot, InSlot}
 use Rattle.h2_checkpoint.specs.Queue.{Entry, entry_of, IsAmong, InEntries, AreApart, overlay_all}
@@ -11,119 +14,114 @@ use Rattle.h2_checkpoint.specs.Checkpoint as checkpoint
 use Rattle.h2_checkpoint.specs.Steps.{queue_of}
 use Rattle.h2_checkpoint.specs.Making.{IsFirstPlan}
 use Rattle.h2_checkpoint.specs.OverlayLaws.{overlay_holds, overlay_others}
-use Rattle.h2_image.specs.NewVolume.{directory_place, pfs_place, InNewBlocks, directory_block, pfs_block, leaf_block, IsNewVolume}
+use Rattle.h2_image.specs.NewVolume.{directory_place, pfs_place, InNewMap, InNewBlocks, directory_block, pfs_block, IsNewVolume}
 use Rattle.h2_image.specs.VolumeFormat.{volume, HasNoHeader}
-use Rattle.h2_image.specs.VolumeLaws.{directory_same, leaf_same, pfs_names_same, new_header_same}
-use Rattle.h2_image.specs.NewVolumeLaws.{new_volume_off_slots}
-use Rattle.h2_cmd.specs.Planning.{piece_at, block_at, IsBlockAt, IsPlanned}
-use Rattle.h2_cmd.proofs.FirstHeader.{planned_header_valid}
+use Rattle.h2_image.specs.VolumeLaws.{directory_same, pfs_names_same, new_header_same}
+use Rattle.h2_image.specs.NewVolumeLaws.{top_most, new_volume_off_slots}
+use Rattle.h2_cmd.specs.Planning.{piece_of, pieces_of, IsPlanned}
+use Rattle.h2_cmd.proofs.FirstHeader.{new_header_valid}
+use Rattle.h2_cmd.proofs.MapPlaces.{InPlaces, PlacesApart, copy_apart, in_copy}
 
--- Pieces by their index
+-- Writes as pieces
 
-among_at : (pieces : List Piece) (i : ℕ) → i < length pieces → IsAmong (queue_of pieces) (entry_of (piece_at pieces i))
-among_at [] i lt = absurd (omega arith)
-among_at (p ∷ pieces) zero lt = inl refl
-among_at (p ∷ pieces) (suc i) lt = inr (among_at pieces i (omega arith))
+-- each of the writes has 1024 bytes
+abbrev pub AreSmall : List (ℕ × List ℕ) → Type 0
+AreSmall writes = (i : ℕ) (d : ℕ × List ℕ) → i < length writes → length (slice_index_or writes i d).1 ≡ 1024
 
--- the byte belongs to the piece with an index
-record IsIn (pieces : List Piece) (k : ℕ) : Type 0 where
-  index : ℕ
-  below : index < length pieces
-  inside : InRange (piece_at pieces index).at (length (piece_at pieces index).bytes) k
+first_small : (w : ℕ × List ℕ) (writes : List (ℕ × List ℕ)) → AreSmall (w ∷ writes) → length w.1 ≡ 1024
+first_small w writes small = small 0 w (omega arith)
 
-in_piece : (pieces : List Piece) (k : ℕ) → InEntries (queue_of pieces) k → IsIn pieces k
-in_piece [] k q = absurd q.1
-in_piece (p ∷ pieces) k (e, inl is, r) = record { index = 0; below = omega arith; inside = subst (λ (z : Entry). InRange z.at (length z.bytes) k) is r }
-in_piece (p ∷ pieces) k (e, inr m, r) = later (in_piece pieces k (e, m, r))
-  where
-    later : IsIn pieces k → IsIn (p ∷ pieces) k
-    later i = record { index = suc i.index; below = (let lt : i.index < length pieces = i.below in omega arith); inside = i.inside }
+others_small : (w : ℕ × List ℕ) (writes : List (ℕ × List ℕ)) → AreSmall (w ∷ writes) → AreSmall writes
+others_small w writes small i d lt = small (suc i) d (omega arith)
 
-apart_at : (pieces : List Piece) → ((i j k : ℕ) → i < j → j < length pieces → InRange (piece_at pieces i).at (length (piece_at pieces i).bytes) k → InRange (piece_at pieces j).at (length (piece_at pieces j).bytes) k → ⊥)
-    → AreApart (queue_of pieces)
-apart_at [] h = tt
-apart_at (p ∷ pieces) h = (λ k r q. first k r (in_piece pieces k q), apart_at pieces (λ i j k lt below r s. h (suc i) (suc j) k (omega arith) (omega arith) r s))
-  where
-    first : (k : ℕ) → InRange p.at (length p.bytes) k → IsIn pieces k → ⊥
-    first k r i = h 0 (suc i.index) k (omega arith) (let lt : i.index < length pieces = i.below in omega arith) r i.inside
+-- a byte of the pieces belongs to one of the places
+in_writes : (writes : List (ℕ × List ℕ)) (k : ℕ) → AreSmall writes → InEntries (queue_of (map piece_of writes)) k → InPlaces (places_of writes) k
+in_writes [] k small q = absurd q.1
+in_writes (w ∷ writes) k small (e, inl is, r) = inl (subst (λ (n : ℕ). InRange w.0 n k) (first_small w writes small) (subst (λ (z : Entry). InRange z.at (length z.bytes) k) is r))
+in_writes (w ∷ writes) k small (e, inr m, r) = inr (in_writes writes k (others_small w writes small) (e, m, r))
+
+writes_apart : (writes : List (ℕ × List ℕ)) → AreSmall writes → PlacesApart (places_of writes) → AreApart (queue_of (map piece_of writes))
+writes_apart [] small apart = tt
+writes_apart (w ∷ writes) small apart = (
+  (λ k r q. apart.0 k (subst (λ (n : ℕ). InRange w.0 n k) (first_small w writes small) r) (in_writes writes k (others_small w writes small) q)),
+  writes_apart writes (others_small w writes small) apart.1,
+)
+
+writes_stand : (writes : List (ℕ × List ℕ)) (image : Places) → ((e : Entry) → IsAmong (queue_of (map piece_of writes)) e → Holds e.at e.bytes image) → AllStand writes image
+writes_stand [] image all i d lt = absurd (omega arith)
+writes_stand (w ∷ writes) image all zero d lt = all (entry_of (piece_of w)) (inl refl)
+writes_stand (w ∷ writes) image all (suc i) d lt = writes_stand writes image (λ e m. all e (inr m)) i d (omega arith)
 
 module _ (zones : ℕ) (pieces : List Piece) (h : Header) (p : IsPlanned zones pieces h) where
-  -- where each piece lies
-  unfoldable pub place_of : ℕ → ℕ
-  place_of zero = directory_place
-  place_of (suc zero) = pfs_place
-  place_of (suc (suc zone)) = leaf_place zone 0
+  pub small : AreSmall p.writes
+  small = p.first_copy.sizes
 
-  pub lies_at : (i : ℕ) → i < zones + 2 → IsBlockAt (place_of i) (piece_at pieces i)
-  unfolding place_of
-  lies_at zero lt = p.inodes.directory_at
-  lies_at (suc zero) lt = p.inodes.pfs_at
-  lies_at (suc (suc zone)) lt =
-      let e : zone + 2 ≡ suc (suc zone) = omega arith in
-      subst (λ (x : ℕ). IsBlockAt (leaf_place zone 0) (piece_at pieces x)) e (p.leaves zone (omega arith)).place
-
-  lies_in : (i k : ℕ) → i < zones + 2 → InRange (piece_at pieces i).at (length (piece_at pieces i).bytes) k → InRange (place_of i) 1024 k
-  lies_in i k lt r = subst (λ (x : ℕ). InRange x 1024 k) (lies_at i lt).at_is (subst (λ (x : ℕ). InRange (piece_at pieces i).at x k) (lies_at i lt).long r)
-
-  in_blocks : (i k : ℕ) → i < zones + 2 → InRange (place_of i) 1024 k → InNewBlocks zones k
-  unfolding place_of
-  in_blocks zero k lt r = inl r
-  in_blocks (suc zero) k lt r = inr (inl r)
-  in_blocks (suc (suc zone)) k lt r = inr (inr (zone, omega arith, r))
+  pub in_map : (k : ℕ) → InPlaces (places_of p.writes) k → InNewMap zones k
+  in_map k i = in_copy zones k (subst (λ (xs : List ℕ). InPlaces xs k) p.first_copy.order i)
 
   -- a byte of the queue belongs to a block of the new volume
   pub queue_in_blocks : (k : ℕ) → InEntries (queue_of pieces) k → InNewBlocks zones k
-  queue_in_blocks k q = found (in_piece pieces k q)
+  queue_in_blocks k q = found (subst (λ (xs : List Piece). InEntries (queue_of xs) k) p.pieces_are q)
     where
-      found : IsIn pieces k → InNewBlocks zones k
-      found i =
-          let n : length pieces ≡ zones + 2 = p.count in
-          let lt : i.index < length pieces = i.below in
-          in_blocks i.index k (omega arith) (lies_in i.index k (omega arith) i.inside)
+      found : InEntries (queue_of (pieces_of p.directory p.pfs p.writes)) k → InNewBlocks zones k
+      found (e, inl is, r) = inl (subst (λ (n : ℕ). InRange directory_place n k) p.inodes.directory_long (subst (λ (z : Entry). InRange z.at (length z.bytes) k) is r))
+      found (e, inr (inl is), r) = inr (inl (subst (λ (n : ℕ). InRange pfs_place n k) p.inodes.pfs_long (subst (λ (z : Entry). InRange z.at (length z.bytes) k) is r)))
+      found (e, inr (inr m), r) = inr (inr (in_map k (in_writes p.writes k small (e, m, r))))
 
-  places_apart : (i j k : ℕ) → i < j → j < zones + 2 → InRange (place_of i) 1024 k → InRange (place_of j) 1024 k → ⊥
-  unfolding place_of
-  places_apart zero zero k lt below r s = absurd (omega arith)
-  places_apart zero (suc zero) k lt below r s = let a = r.0 in let b = r.1 in let c = s.0 in let d = s.1 in absurd (omega arith)
-  places_apart zero (suc (suc zone)) k lt below r s = let a = r.0 in let b = r.1 in let c = s.0 in let d = s.1 in absurd (omega arith)
-  places_apart (suc zero) zero k lt below r s = absurd (omega arith)
-  places_apart (suc zero) (suc zero) k lt below r s = absurd (omega arith)
-  places_apart (suc zero) (suc (suc zone)) k lt below r s = let a = r.0 in let b = r.1 in let c = s.0 in let d = s.1 in absurd (omega arith)
-  places_apart (suc (suc zone)) zero k lt below r s = absurd (omega arith)
-  places_apart (suc (suc zone)) (suc zero) k lt below r s = absurd (omega arith)
-  places_apart (suc (suc zone)) (suc (suc other)) k lt below r s = let a = r.0 in let b = r.1 in let c = s.0 in let d = s.1 in absurd (omega arith)
+  -- the inodes lie in a chunk that isn't reserved
+  off_map : (place k : ℕ) → (place ≡ directory_place) ⊎ (place ≡ pfs_place) → InRange place 1024 k → InNewMap zones k → ⊥
+  off_map place k which r m = lies m.level m.zone (let up : m.level ≤ top_level zones = m.in_levels in let top : top_level zones ≤ 2 = top_most zones in omega arith) m.inside which
+    where
+      lies : (level zone : ℕ) → level ≤ 2 → InRange (node_place level zone 0) 1024 k → (place ≡ directory_place) ⊎ (place ≡ pfs_place) → ⊥
+      lies level zone le s (inl is) = let a = r.0 in let b = r.1 in let c = s.0 in let d = s.1 in absurd (omega arith)
+      lies level zone le s (inr is) = let a = r.0 in let b = r.1 in let c = s.0 in let d = s.1 in absurd (omega arith)
 
   pub pieces_apart : AreApart (queue_of pieces)
-  pieces_apart = apart_at pieces (λ i j k lt below r s.
-      let n : length pieces ≡ zones + 2 = p.count in
-      places_apart i j k lt (omega arith) (lies_in i k (omega arith) r) (lies_in j k (omega arith) s))
+  pieces_apart = subst (λ (xs : List Piece). AreApart (queue_of xs)) (sym p.pieces_are) (
+    (λ k r q. first k (subst (λ (n : ℕ). InRange directory_place n k) p.inodes.directory_long r) q),
+    ((λ k r q. second k (subst (λ (n : ℕ). InRange pfs_place n k) p.inodes.pfs_long r) q), writes_apart p.writes small (subst PlacesApart (sym p.first_copy.order) (copy_apart zones))),
+  )
+    where
+      second : (k : ℕ) → InRange pfs_place 1024 k → InEntries (queue_of (map piece_of p.writes)) k → ⊥
+      second k r q = off_map pfs_place k (inr refl) r (in_map k (in_writes p.writes k small q))
+
+      first : (k : ℕ) → InRange directory_place 1024 k → InEntries (entry_of (record { at = pfs_place; bytes = p.pfs }) ∷ queue_of (map piece_of p.writes)) k → ⊥
+      first k r (e, inl is, s) =
+          let there : InRange pfs_place 1024 k = subst (λ (n : ℕ). InRange pfs_place n k) p.inodes.pfs_long (subst (λ (z : Entry). InRange z.at (length z.bytes) k) is s) in
+          let a = r.0 in let b = r.1 in let c = there.0 in let d = there.1 in absurd (omega arith)
+      first k r (e, inr m, s) = off_map directory_place k (inl refl) r (in_map k (in_writes p.writes k small (e, m, s)))
 
   blocks_off_slots : (s k : ℕ) → IsSlot s → InNewBlocks zones k → InSlot s k → ⊥
   blocks_off_slots s k slot (inl r) i = let a = r.0 in let b = r.1 in let c = i.0 in let d = i.1 in absurd (omega arith)
   blocks_off_slots s k slot (inr (inl r)) i = let a = r.0 in let b = r.1 in let c = i.0 in let d = i.1 in absurd (omega arith)
-  blocks_off_slots s k slot (inr (inr (zone, lt, r))) i = let a = r.0 in let b = r.1 in let c = i.0 in let d = i.1 in absurd (omega arith)
-
-  -- the bytes of a piece that stands in an image, as a block of the image
-  stands_at : (image : Places) (i place : ℕ) → i < zones + 2 → IsBlockAt place (piece_at pieces i) → ((e : Entry) → IsAmong (queue_of pieces) e → Holds e.at e.bytes image)
-      → SameBelow 1024 (block_at pieces i) (from_place image place)
-  stands_at image i place lt b all k k_lt =
-      let n : length pieces ≡ zones + 2 = p.count in
-      let long : length (piece_at pieces i).bytes ≡ 1024 = b.long in
-      ap (λ (x : ℕ). image (x + k)) (sym b.at_is) ∙ all (entry_of (piece_at pieces i)) (among_at pieces i (omega arith)) k (omega arith)
+  blocks_off_slots s k slot (inr (inr m)) i = lies m.level m.zone (let up : m.level ≤ top_level zones = m.in_levels in let top : top_level zones ≤ 2 = top_most zones in omega arith) m.inside
+    where
+      lies : (level zone : ℕ) → level ≤ 2 → InRange (node_place level zone 0) 1024 k → ⊥
+      lies level zone le r = let a = r.0 in let b = r.1 in let c = i.0 in let d = i.1 in absurd (omega arith)
 
   -- where all pieces stand in an image, the new volume stands under the header
   pub stands_new : (image : Places) → ((e : Entry) → IsAmong (queue_of pieces) e → Holds e.at e.bytes image) → IsNewVolume image h zones
-  stands_new image all =
-      let directory = stands_at image 0 directory_place (omega arith) p.inodes.directory_at all in
-      let pfs = stands_at image 1 pfs_place (omega arith) p.inodes.pfs_at all in
-      let leaf : (zone : ℕ) → zone < zones → SameBelow 1024 (block_at pieces (zone + 2)) (leaf_block image zone) = λ zone lt. stands_at image (zone + 2) (leaf_place zone 0) (omega arith) (p.leaves zone lt).place all in
+  stands_new image stand =
+      let all : (e : Entry) → IsAmong (queue_of (pieces_of p.directory p.pfs p.writes)) e → Holds e.at e.bytes image = subst (λ (xs : List Piece). (e : Entry) → IsAmong (queue_of xs) e → Holds e.at e.bytes image) p.pieces_are stand in
+      let long_directory : length p.directory ≡ 1024 = p.inodes.directory_long in
+      let long_pfs : length p.pfs ≡ 1024 = p.inodes.pfs_long in
+      let directory : SameBelow 1024 (places p.directory) (directory_block image) = λ k lt. all (record { at = directory_place; bytes = p.directory }) (inl refl) k (omega arith) in
+      let pfs : SameBelow 1024 (places p.pfs) (pfs_block image) = λ k lt. all (record { at = pfs_place; bytes = p.pfs }) (inr (inl refl)) k (omega arith) in
       record {
         count = p.zone_count;
-        header = p.header ∙ sym (new_header_same zones (block_at pieces 1) (pfs_block image) (λ zone. block_at pieces (zone + 2)) (leaf_block image) pfs leaf);
-        directory = directory_same (block_at pieces 0) (directory_block image) directory p.inodes.directory;
-        pfs = pfs_names_same (block_at pieces 0) (directory_block image) (block_at pieces 1) (pfs_block image) directory pfs p.inodes.pfs;
-        leaves = λ zone lt. leaf_same zone (block_at pieces (zone + 2)) (leaf_block image zone) (leaf zone lt) (p.leaves zone lt).leaf;
+        header = p.header ∙ sym (new_header_same zones (places p.pfs) (pfs_block image) h.map pfs);
+        directory = directory_same (places p.directory) (directory_block image) directory p.inodes.directory_is;
+        pfs = pfs_names_same (places p.directory) (directory_block image) (places p.pfs) (pfs_block image) directory pfs p.inodes.pfs_is;
+        map = record { segments = p.segments; are_new = p.are_new; mapped = p.first_copy.mapped image (writes_stand p.writes image (λ e m. all e (inr (inr m)))) };
       }
+
+  -- over any image they do
+  over : (image : Places) → IsNewVolume (overlay_all (queue_of pieces) image) h zones
+  over image = stands_new (overlay_all (queue_of pieces) image) (overlay_holds (queue_of pieces) image pieces_apart)
+
+  -- the header keeps the rules of headers
+  pub planned_header_valid : IsHeader h
+  planned_header_valid = subst IsHeader (sym p.header) (new_header_valid zones (places p.pfs) h.map p.zone_count (over (λ k. 0)).map.mapped.map)
 
   -- the checkpoint that the pieces and the header freeze over an image
   abbrev pub frozen_over : Places → List ℕ → checkpoint.Frozen volume
@@ -140,7 +138,7 @@ module _ (zones : ℕ) (pieces : List Piece) (h : Header) (p : IsPlanned zones p
           next = one;
           checkpoint = record { stands = stands; off_slots = λ s k slot owns. new_volume_off_slots (overlay_all (queue_of pieces) image) h zones stands s k slot owns };
           long = long;
-          spelled = record { valid = planned_header_valid zones pieces h p; spelled = spelled; in_turn = refl };
+          spelled = record { valid = planned_header_valid; spelled = spelled; in_turn = refl };
           queue = holds;
           queue_off = λ k q owns. owns;
           off_slots = λ s k slot q. blocks_off_slots s k slot (queue_in_blocks k q);

@@ -1,6 +1,6 @@
 pub mod Decimals
 pub mod Inodes
-pub mod Segments
+pub mod MapPlaces
 pub mod Planned
 pub mod FirstHeader
 pub mod FirstPlan

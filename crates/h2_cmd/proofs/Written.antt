@@ -1,37 +1,65 @@
 -- What the law of checkpoints says of a planned volume that is written.
-use Rattle.std.proofs.Common.{◌≡◌, ◌⊎◌, ◌<◌, ◌≤◌, ◌^◌, ℕ, zero, suc, ◌+◌, List, [], length, subst, inl, inr, arith}
-use Rattle.std.specs.Prelude.{All}
-use Rattle.std.proofs.lemmas.List.{get_or_default}
+use Rattle.std.proofs.Common.{◌≡◌, ◌⊎◌, ◌<◌, ◌≤◌, ◌^◌, ℕ, zero, suc, ◌+◌, List, [], ◌∷◌, length, sym, ap, subst, ◌∙◌, inl, inr, arith}
+use Rattle.std.specs.Prelude.{All, map, slice_index_or}
+use Rattle.std.proofs.lemmas.List.{length-map}
 use Rattle.h2_num.specs.Places.{Places, places, InRange}
 use Rattle.h2_disk.specs.Trace.{IsDurable}
 use Rattle.h2_header.specs.declared.header.Header.{Header}
+use Rattle.h2_header.specs.Map.{top_level}
 use Rattle.h2_header.specs.Header.{HeadBytes}
+use Rattle.h2_freeleaf.specs.Plan.{places_of, map_places}
 use Rattle.h2_checkpoint.specs.declared.piece.Piece.{Piece}
 use Rattle.h2_checkpoint.specs.Stands.{DiskState}
 use Rattle.h2_checkpoint.specs.Steps as steps
 use Rattle.h2_checkpoint.specs.Making.{IsNoneOrMade, MakesSafely, Makes}
+use Rattle.h2_image.specs.NewVolume.{map_block_count, InNewMap}
 use Rattle.h2_image.specs.VolumeFormat.{volume, HasNoHeader, IsFormatted}
 use Rattle.h2_image.specs.VolumeLaws.{volume_lawful}
-use Rattle.h2_cmd.specs.Planning.{piece_at, IsPlanned}
+use Rattle.h2_image.specs.NewVolumeLaws.{top_most}
+use Rattle.h2_cmd.specs.Planning.{piece_of, pieces_of, IsPlanned}
 use Rattle.h2_cmd.specs.Formatting.{SameElsewhere, MakesVolume, CutsFormat}
-use Rattle.h2_cmd.proofs.FirstPlan.{place_of, lies_at, queue_in_blocks, frozen_over, first_plan}
+use Rattle.h2_cmd.proofs.MapPlaces.{InPlaces, copy_count}
+use Rattle.h2_cmd.proofs.FirstPlan.{AreSmall, small, in_map, queue_in_blocks, frozen_over, first_plan}
+
+-- blocks of 1024 bytes of which each byte lies on the disk
+writes_fit : (writes : List (ℕ × List ℕ)) → AreSmall writes → ((k : ℕ) → InPlaces (places_of writes) k → k < 2 ^ 34) → (i : ℕ) (d : Piece) → i < length (map piece_of writes)
+    → (slice_index_or (map piece_of writes) i d).at + length (slice_index_or (map piece_of writes) i d).bytes ≤ 2 ^ 34
+writes_fit [] small below i d lt = absurd (omega arith)
+writes_fit (w ∷ writes) small below zero d lt =
+    let long : length w.1 ≡ 1024 = small 0 w (omega arith) in
+    let last : w.0 + 1023 < 2 ^ 34 = below (w.0 + 1023) (inl (omega arith, omega arith)) in
+    omega arith
+writes_fit (w ∷ writes) small below (suc i) d lt = writes_fit writes (λ j e j_lt. small (suc j) e (omega arith)) (λ k inside. below k (inr inside)) i d (omega arith)
 
 module _ (zones : ℕ) (pieces : List Piece) (h : Header) (p : IsPlanned zones pieces h) where
-  place_below : (i : ℕ) → i < zones + 2 → place_of zones pieces h p i + 1024 ≤ 2 ^ 34
-  unfolding place_of
-  place_below zero lt = omega arith
-  place_below (suc zero) lt = omega arith
-  place_below (suc (suc zone)) lt = let most : zones ≤ 8 = p.zone_count.high in omega arith
+  -- each place of the freemap's blocks lies on the disk
+  map_below : (k : ℕ) → InPlaces (places_of p.writes) k → k < 2 ^ 34
+  map_below k i = lies (in_map zones pieces h p k i)
+    where
+      lies : InNewMap zones k → k < 2 ^ 34
+      lies m =
+          let up : m.level ≤ top_level zones = m.in_levels in
+          let top : top_level zones ≤ 2 = top_most zones in
+          let zone : m.zone < zones = m.in_zones in
+          let most : zones ≤ 512 = p.zone_count.1 in
+          let end = m.inside.1 in
+          omega arith
 
   pub pieces_fit : All (λ (piece : Piece). piece.at + length piece.bytes ≤ 2 ^ 34) pieces
-  pieces_fit i d lt =
-      let n : length pieces ≡ zones + 2 = p.count in
-      let below : i < zones + 2 = omega arith in
-      let at_is = (lies_at zones pieces h p i below).at_is in
-      let long = (lies_at zones pieces h p i below).long in
-      let low = place_below i below in
-      let here : (piece_at pieces i).at + length (piece_at pieces i).bytes ≤ 2 ^ 34 = omega arith in
-      subst (λ (x : Piece). x.at + length x.bytes ≤ 2 ^ 34) (get_or_default pieces i (record { at = 0; bytes = [] }) d lt) here
+  pieces_fit = subst (λ (xs : List Piece). All (λ (piece : Piece). piece.at + length piece.bytes ≤ 2 ^ 34) xs) (sym p.pieces_are) fit
+    where
+      fit : All (λ (piece : Piece). piece.at + length piece.bytes ≤ 2 ^ 34) (pieces_of p.directory p.pfs p.writes)
+      fit zero d lt = let long : length p.directory ≡ 1024 = p.inodes.directory_long in omega arith
+      fit (suc zero) d lt = let long : length p.pfs ≡ 1024 = p.inodes.pfs_long in omega arith
+      fit (suc (suc i)) d lt = writes_fit p.writes (small zones pieces h p) map_below i d (omega arith)
+
+  pub piece_count : length pieces ≡ map_block_count zones + 2
+  piece_count =
+      let writes : length (map piece_of p.writes) ≡ length p.writes = length-map p.writes piece_of in
+      let places : length (places_of p.writes) ≡ length p.writes = length-map p.writes (λ (w : ℕ × List ℕ). w.0) in
+      let order : length (places_of p.writes) ≡ length (map_places zones 1 (top_level zones)) = ap length p.first_copy.order in
+      let blocks : length (map_places zones 1 (top_level zones)) ≡ map_block_count zones = copy_count zones (top_level zones) in
+      ap length p.pieces_are ∙ (omega arith)
 
   pub made_volume : (old new : DiskState) (bytes : List ℕ) → HasNoHeader old.image → length bytes ≡ 65536 → HeadBytes h (places bytes) → Makes volume pieces 0 bytes old.image new.image → IsDurable new.trace new.image
       → MakesVolume zones old new

@@ -1,7 +1,7 @@
 -- What the words of a command line ask for.
 use Rattle.std.specs.Prelude.{◌≡◌, ℕ, List, [], ◌∷◌, codes}
 use Rattle.std.specs.Fmt.{decimal}
-use Rattle.h2_image.specs.NewVolume.{IsZoneCount}
+use Rattle.h2_geom.specs.Geometry.{IsZoneCount}
 use Rattle.h2_cmd.specs.declared.command_line.Request.{Request}
 use Rattle.h2_cmd.specs.declared.command_line.Request.TheVariants.{Format}
 

@@ -13,8 +13,8 @@ third_is a b c d e f is = cc
 
 pub one_format : (words : List (List ℕ)) (a b : ℕ) → Asks words (Format a) → Asks words (Format b) → a ≡ b
 one_format words a b p q =
-    let most_a : a ≤ 8 = p.2.high in
-    let most_b : b ≤ 8 = q.2.high in
+    let most_a : a ≤ 512 = p.2.1 in
+    let most_b : b ≤ 512 = q.2.1 in
     decimal_injective a b (omega arith) (omega arith) (third_is (codes "format") p.0 (decimal a) (codes "format") q.0 (decimal b) (sym p.1 ∙ q.1))
 
 pub one_request : (words : List (List ℕ)) (a b : Request) → Asks words a → Asks words b → a ≡ b

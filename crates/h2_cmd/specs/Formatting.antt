@@ -6,7 +6,7 @@ use Rattle.h2_header.specs.declared.header.Header.{Header}
 use Rattle.h2_header.specs.Header.{IsHeaderAt, NoHeaderAt}
 use Rattle.h2_checkpoint.specs.Slots.{slot_bytes, InSlot}
 use Rattle.h2_checkpoint.specs.Stands.{DiskState, MayBeCut}
-use Rattle.h2_image.specs.NewVolume.{InNewBlocks}
+use Rattle.h2_image.specs.NewVolume.{InNewBlocks, map_block_count}
 use Rattle.h2_image.specs.VolumeFormat.{volume, IsNewest, HasNoHeader, IsFormatted}
 use Rattle.h2_cmd.specs.declared.formatting.Formatting.{Formatting}
 use Rattle.h2_cmd.specs.declared.formatting.Formatting.TheVariants.{Made, Already}
@@ -57,9 +57,14 @@ abbrev pub DoesFormat : ℕ → DiskState → DiskState → Formatting → Type 
 DoesFormat zones old new Made = MakesVolume zones old new
 DoesFormat zones old new (Already number) = FindsHeader number old new
 
--- and how long it took: a write for each block and for the header, and two syncs
+-- how many moments it takes to make a volume: a write for each block of the freemap, for the two inodes and for the header,
+-- and two syncs of two moments each
+abbrev pub moments_of : ℕ → ℕ
+moments_of zones = map_block_count zones + 7
+
+-- and how long it took
 abbrev pub TakesMoments : ℕ → ℕ → ℕ → Formatting → Type 0
-TakesMoments zones old new Made = new ≡ old + zones + 7
+TakesMoments zones old new Made = new ≡ old + moments_of zones
 TakesMoments zones old new (Already number) = new ≡ old
 
 -- At each moment from the old state to the new one a power cut leaves no header, or a new volume of so many zones, where

@@ -5,10 +5,10 @@ use Rattle.h2_num.specs.Places.{Places}
 use Rattle.h2_checkpoint.specs.Stands.{DiskState}
 use Rattle.h2_cmd.specs.declared.status.Status.{Status}
 use Rattle.h2_cmd.specs.declared.status.Status.TheVariants.{Done, Usage, SinkFault, DiskFault, NoMemory, AlreadyFormatted}
-use Rattle.h2_image.specs.NewVolume.{IsZoneCount}
+use Rattle.h2_geom.specs.Geometry.{IsZoneCount}
 use Rattle.h2_cmd.specs.declared.command_line.Request.{Request}
 use Rattle.h2_cmd.specs.declared.command_line.Request.TheVariants.{Format}
-use Rattle.h2_cmd.specs.Formatting.{SameElsewhere, LeavesVolume, MakesVolume, FindsHeader, CutsFormat}
+use Rattle.h2_cmd.specs.Formatting.{SameElsewhere, LeavesVolume, MakesVolume, FindsHeader, CutsFormat, moments_of}
 use Rattle.h2_cmd.specs.Lines.{SinkState, PrintsWhole, PrintsFront, Prints, formatted_line, disk_fault_line, already_line}
 
 -- the disk and the sink before a run and after it, and whether they tell what they hold
@@ -25,7 +25,7 @@ pub record Run : Type 0 where
 -- the volume was made, in so many moments
 pub record HasMade (zones : ℕ) (run : Run) : Type 0 where
   pub made : IsTrue run.disk_tells → MakesVolume zones run.disk_old run.disk_new
-  pub moments : run.disk_new.moment ≡ run.disk_old.moment + zones + 7
+  pub moments : run.disk_new.moment ≡ run.disk_old.moment + moments_of zones
 
 -- the image has a header already, with this number, and the disk is as it was
 pub record HasFound (number : ℕ) (run : Run) : Type 0 where

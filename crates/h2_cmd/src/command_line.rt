@@ -1,11 +1,12 @@
 ghost use Rattle.std.specs.Prelude.{◌≡◌, ◌↔◌, ℕ, List, IsTrue, map, MatchOption};
 ghost use Rattle.std.specs.Fmt.{decimal};
 ghost use Rattle.std.specs.String.{string_bytes};
-ghost use Rattle.h2_image.specs.NewVolume.{IsZoneCount};
+ghost use Rattle.h2_geom.specs.Geometry.{IsZoneCount};
 ghost use Rattle.h2_cmd.specs.CommandLine.{Asks, AsksNothing};
 ghost use Rattle.h2_cmd.specs.declared.command_line.Request.{Request};
 
 use crate::decimal_number::parse_decimal;
+use h2_geom::{ZONES_LEAST, ZONES_MOST};
 
 /// What a command line asks for.
 #[derive(Clone, Copy, Debug, PartialEq, Eq)]
@@ -14,16 +15,10 @@ pub enum Request {
     Format { zones: u32 },
 }
 
-/// The least number of zones of a volume.
-pub const FEWEST_ZONES: u64 = 4;
-
-/// The greatest number of zones of a volume, as far as its header alone names the leaves of its freemap.
-pub const MOST_ZONES: u64 = 8;
-
 fn is_zone_count(zones: u64) -> bool
     ensures { IsTrue result ↔ IsZoneCount zones }
 {
-    zones >= FEWEST_ZONES && zones <= MOST_ZONES
+    zones >= ZONES_LEAST as u64 && zones <= ZONES_MOST as u64
 }
 
 // The zones that a word asks for.

@@ -3,10 +3,10 @@ ghost use Rattle.h2_num.specs.Places.{Places};
 ghost use Rattle.h2_disk.specs.Disk.{HasCause, Keeps};
 ghost use Rattle.h2_disk.specs.Trace.{IsDurable};
 ghost use Rattle.h2_checkpoint.specs.Stands.{disk_state};
-ghost use Rattle.h2_image.specs.NewVolume.{IsZoneCount};
+ghost use Rattle.h2_geom.specs.Geometry.{IsZoneCount};
 ghost use Rattle.h2_image.specs.VolumeFormat.{HasNoHeader};
 ghost use Rattle.h2_cmd.specs.Planning.{IsPlanned};
-ghost use Rattle.h2_cmd.specs.Formatting.{IsSlotHeader, AreSlotHeaders, IsNewestNumber, SameElsewhere, LeavesVolume, MakesVolume, DoesFormat, TakesMoments, CutsFormat};
+ghost use Rattle.h2_cmd.specs.Formatting.{IsSlotHeader, AreSlotHeaders, IsNewestNumber, SameElsewhere, LeavesVolume, MakesVolume, DoesFormat, TakesMoments, CutsFormat, moments_of};
 
 use crate::planning::{Plan, plan_volume};
 use h2_checkpoint::make;
@@ -110,7 +110,7 @@ fn write_plan<D: Disk>(
     ensures cuts { IsTrue D.tells → IsDurable (D.trace disk.old) (D.image disk.old) → HasNoHeader (D.image disk.old)
         → CutsFormat zones (disk_state D.image D.moment D.trace disk.old) (disk_state D.image D.moment D.trace disk.new) }
     ensures elsewhere { IsTrue D.tells → SameElsewhere zones (D.image disk.old) (D.image disk.new) }
-    ensures time { OnOk result (D.moment disk.new ≡ D.moment disk.old + zones + 7) }
+    ensures time { OnOk result (D.moment disk.new ≡ D.moment disk.old + moments_of zones) }
     ensures time_failed { OnErr result (D.moment disk.old ≤ D.moment disk.new) }
     ensures later { D.faults disk.old ≤ D.faults disk.new }
     ensures cause { IfErr result (λ fault. HasCause (D.faults disk.old) (D.faults disk.new) fault) }
@@ -173,7 +173,7 @@ fn make_volume<D: Disk>(
     ensures cuts { IsTrue D.tells → IsDurable (D.trace disk.old) (D.image disk.old) → HasNoHeader (D.image disk.old)
         → CutsFormat zones (disk_state D.image D.moment D.trace disk.old) (disk_state D.image D.moment D.trace disk.new) }
     ensures elsewhere { IsTrue D.tells → SameElsewhere zones (D.image disk.old) (D.image disk.new) }
-    ensures time { OnOk result (D.moment disk.new ≡ D.moment disk.old + zones + 7) }
+    ensures time { OnOk result (D.moment disk.new ≡ D.moment disk.old + moments_of zones) }
     ensures time_failed { OnErr result (D.moment disk.old ≤ D.moment disk.new) }
     ensures later { D.faults disk.old ≤ D.faults disk.new }
     ensures cause { IfErr result (λ fault. HasCause (D.faults disk.old) (D.faults disk.new) fault) }

@@ -1,8 +1,8 @@
 //! The commands of the program.
 //!
-//! A run reads its words (`command_line`), does what they ask for (`formatting`, with the blocks of
-//! `blocks` at the places of `taking` in the plan of `planning`), and ends with a line and a status (`run`). What a run does is the
-//! contract of [`run_alone`], clause by clause.
+//! A run reads its words (`command_line`), does what they ask for (`formatting`, by the plan of `planning`: the
+//! inodes of `blocks` at the places of `taking`, and the first copy of the freemap), and ends with a line and a
+//! status (`run`). What a run does is the contract of [`run_alone`], clause by clause.
 #![tactic(auto)]
 
 mod blocks;

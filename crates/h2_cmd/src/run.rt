@@ -4,10 +4,10 @@ ghost use Rattle.h2_num.specs.Causes.{Rose};
 ghost use Rattle.h2_disk.specs.Trace.{IsDurable};
 ghost use Rattle.h2_io.specs.Sink.{GrowsByFront};
 ghost use Rattle.h2_checkpoint.specs.Stands.{disk_state};
-ghost use Rattle.h2_image.specs.NewVolume.{IsZoneCount};
+ghost use Rattle.h2_geom.specs.Geometry.{IsZoneCount};
 ghost use Rattle.h2_image.specs.VolumeFormat.{HasNoHeader};
 ghost use Rattle.h2_cmd.specs.CommandLine.{Asks, AsksNothing};
-ghost use Rattle.h2_cmd.specs.Formatting.{SameElsewhere, LeavesVolume, MakesVolume, FindsHeader, CutsFormat};
+ghost use Rattle.h2_cmd.specs.Formatting.{SameElsewhere, LeavesVolume, MakesVolume, FindsHeader, CutsFormat, moments_of};
 ghost use Rattle.h2_cmd.specs.Lines.{sink_state, PrintsWhole, PrintsFront, Prints, PrintsSome, formatted_line, usage_line, disk_fault_line, already_line};
 ghost use Rattle.h2_cmd.specs.Run.{Run, Ends, IsServed, EndsAs, CutsAs, SameElsewhereAs, LeavesVolumeAs};
 
@@ -196,7 +196,7 @@ pub fn run_alone<D: Disk, K: Sink>(
     ensures formatted { (zones : ℕ) → Asks (map string_bytes words.now) (Request.Format zones) → (result.status ≡ 0) ⊎ (result.status ≡ 4) → IsTrue D.tells
         → MakesVolume zones (disk_state D.image D.moment D.trace disk) (disk_state D.image D.moment D.trace result.disk) }
     ensures moments { (zones : ℕ) → Asks (map string_bytes words.now) (Request.Format zones) → (result.status ≡ 0) ⊎ (result.status ≡ 4)
-        → D.moment result.disk ≡ D.moment disk + zones + 7 }
+        → D.moment result.disk ≡ D.moment disk + moments_of zones }
 
     // Right words, no header and no fault give 0 or 7.
     ensures complete { (zones : ℕ) → Asks (map string_bytes words.now) (Request.Format zones) → IsTrue D.tells → HasNoHeader (D.image disk)

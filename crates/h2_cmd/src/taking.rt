@@ -1,5 +1,7 @@
 ghost use Rattle.std.specs.Prelude.{◌≡◌, IfOk};
-ghost use Rattle.h2_image.specs.NewVolume.{IsZoneCount, directory_place, pfs_place};
+ghost use Rattle.h2_geom.specs.Geometry.{IsZoneCount};
+ghost use Rattle.h2_freemap.specs.Made.{IsFresh};
+ghost use Rattle.h2_image.specs.NewVolume.{AreNewSegments, directory_place, pfs_place};
 ghost use Rattle.h2_cmd.specs.Taking.{TakesInodes};
 
 use h2_freemap::{Freemap, Size};
@@ -16,18 +18,30 @@ pub(crate) struct InodeBlocks {
     pub pfs: Block,
 }
 
-/// Takes the blocks of the two inodes, each of 1 KiB, from the freemap of a new volume.
-pub(crate) fn take_inode_blocks(alloc: Global, zones: u32) -> Result<InodeBlocks, NoMemory>
+/// The freemap of a new volume of so many zones, of which nothing is taken.
+pub(crate) fn fresh_freemap(alloc: Global, zones: u32) -> Result<Freemap, NoMemory>
     requires { IsZoneCount zones }
-    ensures taken { IfOk result (λ blocks. TakesInodes zones blocks.directory blocks.pfs) }
-    ensures directory { IfOk result (λ blocks. blocks.directory.place ≡ directory_place) }
-    ensures directory_radix { IfOk result (λ blocks. blocks.directory.radix ≡ 10) }
-    ensures pfs { IfOk result (λ blocks. blocks.pfs.place ≡ pfs_place) }
-    ensures pfs_radix { IfOk result (λ blocks. blocks.pfs.radix ≡ 10) }
+    ensures { IfOk result (λ freemap. IsFresh zones freemap) }
 {
     let geometry = Geometry::of(zones).unwrap();
-    let mut map = Freemap::fresh(alloc, geometry)?;
-    let directory = map.take(Size::Small);
-    let pfs = map.take(Size::Small);
-    Ok(InodeBlocks { directory, pfs })
+    Freemap::fresh(alloc, geometry)
+}
+
+/// Takes the blocks of the two inodes, each of 1 KiB, from the freemap of a new volume.
+pub(crate) fn take_inode_blocks(freemap: &mut Freemap) -> InodeBlocks
+    requires zones { IsZoneCount freemap.old.zones }
+    requires fresh { IsFresh freemap.old.zones freemap.old }
+    ensures taken { TakesInodes freemap.old freemap.new result.directory result.pfs }
+    ensures zones { freemap.new.zones ≡ freemap.old.zones }
+    ensures codes { AreNewSegments freemap.new.zones freemap.new.segments }
+    ensures directory { result.directory.place ≡ directory_place }
+    ensures directory_radix { result.directory.radix ≡ 10 }
+    ensures pfs { result.pfs.place ≡ pfs_place }
+    ensures pfs_radix { result.pfs.radix ≡ 10 }
+{
+    let directory = freemap.take(Size::Small);
+    let pfs = freemap.take(Size::Small);
+    // The size is asked for, so that the proof learns what holds of each freemap.
+    let _ = freemap.geometry();
+    InodeBlocks { directory, pfs }
 }

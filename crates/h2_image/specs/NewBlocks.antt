@@ -1,5 +1,5 @@
--- What the blocks of a new volume spell: its root directory, the PFS `ROOT`, and the leaves of its freemap.
-use Rattle.std.specs.Prelude.{◌≡◌, ◌<◌, ℕ, ◌+◌, ◌*◌, ◌/◌, ◌%◌, ◌^◌, ◌==◌, ◌&&◌, List, [], length, codes, if◌then◌else◌}
+-- What the inodes of a new volume spell: its root directory and the PFS `ROOT`.
+use Rattle.std.specs.Prelude.{◌≡◌, ℕ, ◌+◌, List, [], length, codes}
 use Rattle.h2_num.specs.Places.{Places, number_at, from_place, ZeroIn, Holds}
 use Rattle.h2_ref.specs.declared.reference.Ref.{Ref}
 use Rattle.h2_ref.specs.Ref.{RefBytes}
@@ -28,26 +28,3 @@ pub record RootPfsBytes (directory : Ref) (b : Places) : Type 0 where
   pub head : InodeHead 3 1 2 (codes "ROOT") b
   pub directory_is : RefBytes directory (from_place b 512)
   pub no_more : ZeroIn 640 1024 b
-
--- the code of a chunk in the 64 bytes of a segment's codes: two bits each, the first chunk in the lowest
-abbrev pub code_at : Places → ℕ → ℕ
-code_at b chunk = b (chunk / 4) / 4 ^ (chunk % 4) % 4
-
--- a segment in a leaf: its 256 codes, and how many of them are free
-pub record SegmentBytes (code_of : ℕ → ℕ) (free : ℕ) (b : Places) : Type 0 where
-  pub codes_are : (chunk : ℕ) → chunk < 256 → code_at b chunk ≡ code_of chunk
-  pub free_is : number_at b 64 4 ≡ free
-  pub after_free : ZeroIn 68 128 b
-
--- the codes of a new volume: 1, reserved, in the first segment of a zone, and 0, free, in all others; but the first
--- chunk that isn't reserved holds the two inodes, and is used, 3
-abbrev pub new_code : ℕ → ℕ → ℕ → ℕ
-new_code zone segment chunk = if segment == 0 then 1 else if zone == 0 && segment == 1 && chunk == 0 then 3 else 0
-
--- how many of them are free
-abbrev pub new_free : ℕ → ℕ → ℕ
-new_free zone segment = if segment == 0 then 0 else if zone == 0 && segment == 1 then 255 else 256
-
--- the leaf of a zone: its eight segments of 128 bytes
-abbrev pub NewLeafBytes : ℕ → Places → Type 0
-NewLeafBytes zone b = (segment : ℕ) → segment < 8 → SegmentBytes (new_code zone segment) (new_free zone segment) (from_place b (128 * segment))

@@ -1,4 +1,6 @@
-use super::running::{FORMAT_4, FORMATTED_4, empty_disk, expect, newest_header};
+ghost use Rattle.std.specs.Prelude.{◌≤◌};
+
+use super::running::{FORMAT_4, FORMATTED_4, FORMATTED_9, empty_disk, expect, newest_header};
 use h2_disk::{Choice, Disk, MemDisk};
 use std::process::Abort;
 use std::test::Fail;
@@ -36,19 +38,31 @@ fn check_cuts(
     Ok(())
 }
 
+// Cuts of a run that makes a volume: up to a moment there is no header. The header is written at the next one,
+// and then the sync begins by which it is durable.
+fn check_run(
+    rt: &(impl Abort + AllocGlobal),
+    words: &[&str],
+    line: &str,
+    last_without: u64,
+) -> Result<(), Fail>
+    requires { last_without ≤ 100 }
+{
+    let disk = empty_disk(rt.alloc(), &[], &[])?;
+    let disk = expect(rt, words, disk, 0, line)?;
+    for m in 0..=last_without {
+        check_cuts(rt, &disk, m, [None; 5])?;
+    }
+    let whole_alone = [None, Some(1), None, None, None];
+    check_cuts(rt, &disk, last_without + 1, whole_alone)?;
+    check_cuts(rt, &disk, last_without + 2, whole_alone)?;
+    check_cuts(rt, &disk, last_without + 3, [Some(1); 5])
+}
+
 #[test]
 fn a_cut_leaves_no_header_or_the_first(rt: HostRuntime) -> Result<(), Fail> {
-    let disk = empty_disk(rt.alloc(), &[], &[])?;
-    let disk = expect(&rt, &FORMAT_4, disk, 0, FORMATTED_4)?;
-    let none = [None; 5];
-    for m in 0..=8u64 {
-        check_cuts(&rt, &disk, m, none)?;
-    }
-    // the header is written at moment 9, and the sync behind it begins at 10
-    let whole_alone = [None, Some(1), None, None, None];
-    check_cuts(&rt, &disk, 9, whole_alone)?;
-    check_cuts(&rt, &disk, 10, whole_alone)?;
-    check_cuts(&rt, &disk, 11, [Some(1); 5])
+    check_run(&rt, &FORMAT_4, FORMATTED_4, 8)?;
+    check_run(&rt, &["format", "IMG", "9"], FORMATTED_9, 15)
 }
 
 #[test]

@@ -12,6 +12,9 @@ use std::test::Fail;
 /// The line of a new volume of four zones.
 pub const FORMATTED_4: &str = "formatted zones 4 chunks 8192 reserved 1024 free 7167\n";
 
+/// The line of a new volume of nine zones.
+pub const FORMATTED_9: &str = "formatted zones 9 chunks 18432 reserved 2304 free 16127\n";
+
 /// The line of words that ask for nothing.
 pub const USAGE: &str = "usage: h2 COMMAND IMAGE [ARGUMENTS]\n";
 

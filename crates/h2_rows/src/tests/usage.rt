@@ -14,7 +14,7 @@ fn other_words_ask_for_nothing(rt: HostRuntime) -> Result<(), Fail> {
         &["format", "IMG"],
         &["format", "IMG", "4", "5"],
         &["format", "IMG", "3"],
-        &["format", "IMG", "9"],
+        &["format", "IMG", "0"],
         &["format", "IMG", "513"],
         &["format", "IMG", "04"],
         &["format", "IMG", "+4"],
