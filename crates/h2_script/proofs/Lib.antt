@@ -4,8 +4,14 @@ mod Elements
 mod FirstFaults
 mod Joined
 mod Numerals
+mod OneArguments
+mod OneCommand
+mod OneLine
 mod OneOrder
+mod OneScript
 mod OneText
+mod OneVerb
+mod OneWord
 mod Ordered
 mod Paths
 mod Payloads

@@ -2,6 +2,7 @@ ghost use Rattle.std.specs.Prelude.{◌≡◌, ◌==◌, ◌<◌, ◌≤◌, ◌
 ghost use Rattle.h2_script.specs.declared.line.Line.{Line};
 ghost use Rattle.h2_script.specs.Lines.{lines_of};
 ghost use Rattle.h2_script.specs.Scripts.{AreLines, IsScript, IsFaultOfLines, IsFaultOfScript, fault_in};
+ghost use Rattle.h2_script.specs.LawfulScripts.{IsLawfulScript};
 ghost use Rattle.h2_script.specs.Reading.{IsReadSoFar};
 
 use crate::fault::{LineFault, ParseFault, Refusal};
@@ -49,7 +50,8 @@ fn read_lines(alloc: Global, lines: &[&[u8]]) -> Result<Reading, ParseFault>
 /// The script that the bytes are. A line of the bytes is skipped, ends a phase, or is a command of a
 /// client. The error names the first faulty line, and its first fault.
 pub fn parse(alloc: Global, bytes: &[u8]) -> Result<Script, ParseFault>
-    ensures { MatchResult result (IsScript bytes.now) (IsFaultOfScript bytes.now) }
+    ensures meaning { MatchResult result (IsScript bytes.now) (IsFaultOfScript bytes.now) }
+    ensures lawful { IfOk result IsLawfulScript }
 {
     if bytes.len() > SCRIPT_BYTES {
         return Err(ParseFault::Script {
