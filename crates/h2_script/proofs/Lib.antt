@@ -2,6 +2,7 @@ mod Counting
 mod Cuts
 mod Elements
 mod FirstFaults
+mod Front
 mod Joined
 mod Numerals
 mod OneArguments

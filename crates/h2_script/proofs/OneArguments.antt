@@ -32,7 +32,7 @@ are_two k l words a b is good fine = subst (AreArguments (k ∷ l ∷ [])) (sym 
 pub are_three : (k l m : Argument) (words : List (List ℕ)) (a b c : List ℕ) → words ≡ a ∷ b ∷ c ∷ [] → IsArgument k a → IsArgument l b → IsArgument m c → AreArguments (k ∷ l ∷ m ∷ []) words
 are_three k l m words a b c is good fine right = subst (AreArguments (k ∷ l ∷ m ∷ [])) (sym is) (good, (fine, (right, tt)))
 
-as_many : (kinds : List Argument) (words : List (List ℕ)) → AreArguments kinds words → length words ≡ length kinds
+pub as_many : (kinds : List Argument) (words : List (List ℕ)) → AreArguments kinds words → length words ≡ length kinds
 as_many [] [] are = refl
 as_many [] (word ∷ words) are = absurd are
 as_many (kind ∷ kinds) [] are = absurd are

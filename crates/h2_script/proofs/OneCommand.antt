@@ -14,7 +14,7 @@ use Rattle.h2_script.proofs.OneVerb.{one_verb}
 use Rattle.h2_script.proofs.OneArguments.{AreArguments, are_none, are_one, are_two, are_three, no_fault_of_words, one_fault_of_words, one_entry, one_any, two_paths, one_handle, one_size, one_range, one_data, no_two_pfss, no_long_read, no_long_write}
 
 -- what a verb and its arguments are, one row for each verb
-abbrev Reads : Verb → List (List ℕ) → Command → Type 0
+abbrev pub Reads : Verb → List (List ℕ) → Command → Type 0
 Reads verb.Mkdir args c = (p : Path) × (c ≡ Mkdir p) × OneEntry args p
 Reads verb.Create args c = (p : Path) × (c ≡ Create p) × OneEntry args p
 Reads verb.Link args c = (p q : Path) × (c ≡ Link p q) × TwoEntries args p q
@@ -35,7 +35,7 @@ Reads verb.PfsCreate args c = (name : List ℕ) × (c ≡ PfsCreate name) × One
 Reads verb.PfsDelete args c = (name : List ℕ) × (c ≡ PfsDelete name) × OneName args name
 Reads verb.PfsList args c = (c ≡ PfsList) × (args ≡ [])
 
-reads : (v : Verb) (args : List (List ℕ)) (c : Command) → IsCommand v args c → Reads v args c
+pub reads : (v : Verb) (args : List (List ℕ)) (c : Command) → IsCommand v args c → Reads v args c
 reads v args (Mkdir p) (is, s) = subst (λ u. Reads u args (Mkdir p)) (sym is) (p, refl, s)
 reads v args (Create p) (is, s) = subst (λ u. Reads u args (Create p)) (sym is) (p, refl, s)
 reads v args (Link p q) (is, s) = subst (λ u. Reads u args (Link p q)) (sym is) (p, q, refl, s)
@@ -83,7 +83,7 @@ one_read verb.PfsCreate args c d (p, is, s) (q, it, t) = is ∙ ap PfsCreate (sa
 one_read verb.PfsDelete args c d (p, is, s) (q, it, t) = is ∙ ap PfsDelete (same_name args p q s.0 t.0) ∙ sym it
 one_read verb.PfsList args c d (is, s) (it, t) = is ∙ sym it
 
-good_args : (v : Verb) (args : List (List ℕ)) (c : Command) → Reads v args c → AreArguments (arguments_of v) args
+pub good_args : (v : Verb) (args : List (List ℕ)) (c : Command) → Reads v args c → AreArguments (arguments_of v) args
 good_args verb.Mkdir args c (p, is, (a, at, s)) = are_one EntryPath args a at (p, s)
 good_args verb.Create args c (p, is, (a, at, s)) = are_one EntryPath args a at (p, s)
 good_args verb.Link args c (p, q, is, (a, b, at, s, t, same)) = are_two EntryPath EntryPath args a b at (p, s) (q, t)
@@ -125,7 +125,7 @@ no_late verb.PfsCreate args c why read late = late
 no_late verb.PfsDelete args c why read late = late
 no_late verb.PfsList args c why read late = late
 
-late_is_good : (v : Verb) (args : List (List ℕ)) (why : LineFault) → IsLateFault v args why → AreArguments (arguments_of v) args
+pub late_is_good : (v : Verb) (args : List (List ℕ)) (why : LineFault) → IsLateFault v args why → AreArguments (arguments_of v) args
 late_is_good verb.Link args why (e, (a, b, p, q, is, s, t, differ)) = are_two EntryPath EntryPath args a b is (p, s) (q, t)
 late_is_good verb.Mv args why (e, (a, b, p, q, is, s, t, differ)) = are_two EntryPath EntryPath args a b is (p, s) (q, t)
 late_is_good verb.Read args why (e, (a, b, d, is, s, t, many)) = are_three Handle Place Length args a b d is s t (many.0, many.1)
