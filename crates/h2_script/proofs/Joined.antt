@@ -24,7 +24,7 @@ rest_of_all : {X : Type 0} (P : X → Type 0) (x : X) (xs : List X) → All P (x
 rest_of_all P x xs all k d lt = all (suc k) d (omega arith)
 
 -- the parts of joined names are the names
-parts_of_joined : (name : List ℕ) (names : List (List ℕ)) → All IsEntryName (name ∷ names) → slice_split (λ b. eqb b 47) (join_with_byte 47 (name ∷ names)) ≡ name ∷ names
+pub parts_of_joined : (name : List ℕ) (names : List (List ℕ)) → All IsEntryName (name ∷ names) → slice_split (λ b. eqb b 47) (join_with_byte 47 (name ∷ names)) ≡ name ∷ names
 parts_of_joined name [] all = slice_split_none (λ b. eqb b 47) name (no_slash name (first_of_all IsEntryName name [] all))
 parts_of_joined name (next ∷ names) all =
     slice_split_at (λ b. eqb b 47) name 47 (join_with_byte 47 (next ∷ names)) (no_slash name (first_of_all IsEntryName name (next ∷ names) all)) refl

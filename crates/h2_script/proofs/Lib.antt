@@ -2,10 +2,17 @@ mod Counting
 mod Cuts
 mod Elements
 mod FirstFaults
+mod Front
 mod Joined
 mod Numerals
+mod OneArguments
+mod OneCommand
+mod OneLine
 mod OneOrder
+mod OneScript
 mod OneText
+mod OneVerb
+mod OneWord
 mod Ordered
 mod Paths
 mod Payloads

@@ -10,11 +10,11 @@ use Rattle.h2_script.specs.Names.{IsEntryName, SpellsNames, AreNoNames}
 use Rattle.h2_script.specs.Paths.{BeginsWithSlash, SpellsPath, IsNoPath, IsNoEntryPath}
 use Rattle.h2_script.proofs.Cuts.{no_cut, one_cut}
 
-tails : (x y : List ℕ) → 47 ∷ x ≡ 47 ∷ y → x ≡ y
+pub tails : (x y : List ℕ) → 47 ∷ x ≡ 47 ∷ y → x ≡ y
 tails x y e = cc
 
 -- names have a byte
-joined_some : (names : List (List ℕ)) → All IsEntryName names → 1 ≤ length names → 1 ≤ length (join_with_byte 47 names)
+pub joined_some : (names : List (List ℕ)) → All IsEntryName names → 1 ≤ length names → 1 ≤ length (join_with_byte 47 names)
 joined_some [] all some = absurd (omega arith)
 joined_some (name ∷ []) all some = (all 0 name (omega arith)).some
 joined_some (name ∷ next ∷ names) all some =
@@ -29,14 +29,14 @@ no_colon_byte b (inr (inr (inr (inl r)))) e = omega arith
 no_colon_byte b (inr (inr (inr (inr (inl r))))) e = omega arith
 no_colon_byte b (inr (inr (inr (inr (inr r))))) e = omega arith
 
-pfs_has_no_colon : (name : List ℕ) → IsPfsName name → HasNoColon name
+pub pfs_has_no_colon : (name : List ℕ) → IsPfsName name → HasNoColon name
 pfs_has_no_colon name good k d lt = no_colon_byte (get_or name k d) (good.bytes k d lt)
 
 pub no_colon_no_path : (word : List ℕ) → HasNoColon word → IsNoPath word
 no_colon_no_path word none p spells = no_cut word p.pfs (47 ∷ spells.written.0) none spells.written.1
 
 -- the parts of a word that is a path
-parts_of : (word a b : List ℕ) (p : Path) → IsCut word a b → SpellsPath word p → (a ≡ p.pfs) × ((names : List ℕ) × (b ≡ 47 ∷ names) × SpellsNames names p.names)
+pub parts_of : (word a b : List ℕ) (p : Path) → IsCut word a b → SpellsPath word p → (a ≡ p.pfs) × ((names : List ℕ) × (b ≡ 47 ∷ names) × SpellsNames names p.names)
 parts_of word a b p cut spells =
     let same = one_cut a b p.pfs (47 ∷ spells.written.0) cut.first (pfs_has_no_colon p.pfs spells.pfs_is_good) (sym cut.word_is ∙ spells.written.1) in
     (same.0, (spells.written.0, same.1, spells.written.2))

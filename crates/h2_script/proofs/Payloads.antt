@@ -16,10 +16,10 @@ use Rattle.h2_script.specs.Payloads.{SpellsPlain, SpellsRepeat, SpellsPayload, I
 use Rattle.h2_script.specs.Refusals.{RefusedBy}
 use Rattle.h2_script.proofs.Cuts.{no_cut, one_cut}
 
-number_has_no_colon : (word : List ℕ) (n : ℕ) → IsNumber word n → HasNoColon word
+pub number_has_no_colon : (word : List ℕ) (n : ℕ) → IsNumber word n → HasNoColon word
 number_has_no_colon word n is k d lt e = let digit = is.numeral.digits k d lt in let high = digit.1 in omega arith
 
-one_number : (word : List ℕ) (m n : ℕ) → IsNumber word m → IsNumber word n → m ≡ n
+pub one_number : (word : List ℕ) (m n : ℕ) → IsNumber word m → IsNumber word n → m ≡ n
 one_number word m n p q = sym p.value ∙ q.value
 
 pub uncut_no_repeat : (text : List ℕ) → HasNoColon text → (p : Payload) → SpellsRepeat text p → ⊥
@@ -27,7 +27,7 @@ uncut_no_repeat text none (Plain bytes) spells = spells
 uncut_no_repeat text none (Repeat count byte) (c, b, is, m, n, small) = no_cut text c b none is
 
 -- the parts of a text that is a count and a byte
-parts_of : (text c b : List ℕ) (count byte : ℕ) → IsCut text c b → SpellsRepeat text (Repeat count byte) → IsNumber c count × IsNumber b byte × (byte ≤ 255)
+pub parts_of : (text c b : List ℕ) (count byte : ℕ) → IsCut text c b → SpellsRepeat text (Repeat count byte) → IsNumber c count × IsNumber b byte × (byte ≤ 255)
 parts_of text c b count byte cut (x, y, is, m, n, small) =
     let same = one_cut c b x y cut.first (number_has_no_colon x count m) (sym cut.word_is ∙ is) in
     (subst (λ w. IsNumber w count) (sym same.0) m, subst (λ w. IsNumber w byte) (sym same.1) n, small)
@@ -55,10 +55,10 @@ pub uncut_no_data : (word : List ℕ) → HasNoColon word → (p : Payload) → 
 uncut_no_data word none p (rest, inl (is, spells)) = no_cut word (120 ∷ []) rest none is
 uncut_no_data word none p (rest, inr (is, spells)) = no_cut word (114 ∷ []) rest none is
 
-x_alone : HasNoColon (120 ∷ [])
+pub x_alone : HasNoColon (120 ∷ [])
 x_alone k d lt = let zero_k : k ≡ 0 = omega arith in subst (λ i. get_or (120 ∷ []) i d ≢ 58) (sym zero_k) (λ e. omega arith)
 
-r_alone : HasNoColon (114 ∷ [])
+pub r_alone : HasNoColon (114 ∷ [])
 r_alone k d lt = let zero_k : k ≡ 0 = omega arith in subst (λ i. get_or (114 ∷ []) i d ≢ 58) (sym zero_k) (λ e. omega arith)
 
 -- which of the two spellings a word has
@@ -79,13 +79,13 @@ x_written word kind rest cut is = cut.word_is ∙ ap (λ k. k ++ 58 ∷ rest) is
 r_written : (word kind rest : List ℕ) → IsCut word kind rest → kind ≡ codes "r" → word ≡ codes "r:" ++ rest
 r_written word kind rest cut is = cut.word_is ∙ ap (λ k. k ++ 58 ∷ rest) is
 
-x_only : (word kind rest : List ℕ) (p : Payload) → IsCut word kind rest → kind ≡ codes "x" → SpellsPayload word p → SpellsPlain rest p
+pub x_only : (word kind rest : List ℕ) (p : Payload) → IsCut word kind rest → kind ≡ codes "x" → SpellsPayload word p → SpellsPlain rest p
 x_only word kind rest p cut is spells = elim (kind_of word kind rest p cut spells) [ inl h ↦ h.1 | inr h ↦ absurd (differ (sym is ∙ h.0)) ]
   where
     differ : codes "x" ≡ codes "r" → ⊥
     differ e = let heads : get_or (codes "x") 0 0 ≡ get_or (codes "r") 0 0 = ap (λ l. get_or l 0 0) e in omega arith
 
-r_only : (word kind rest : List ℕ) (p : Payload) → IsCut word kind rest → kind ≡ codes "r" → SpellsPayload word p → SpellsRepeat rest p
+pub r_only : (word kind rest : List ℕ) (p : Payload) → IsCut word kind rest → kind ≡ codes "r" → SpellsPayload word p → SpellsRepeat rest p
 r_only word kind rest p cut is spells = elim (kind_of word kind rest p cut spells) [ inl h ↦ absurd (differ (sym is ∙ h.0)) | inr h ↦ h.1 ]
   where
     differ : codes "r" ≡ codes "x" → ⊥

@@ -9,6 +9,8 @@ pub mod Arguments
 pub mod Commands
 pub mod Lines
 pub mod Scripts
+pub mod LawfulScripts
+pub mod ScriptLaws
 pub mod Counts
 pub mod Reading
 pub mod ReplyTexts

@@ -11,6 +11,7 @@ mod commands;
 mod counts;
 mod cut;
 mod fault;
+mod laws;
 mod line;
 mod names;
 mod number;
@@ -24,6 +25,7 @@ mod script;
 mod verb;
 
 pub use fault::{LineFault, ParseFault};
+pub use laws::script_law;
 pub use parsing::parse;
 pub use printing::{text, text_law};
 pub use script::Script;

@@ -1,12 +1,17 @@
-ghost use Rattle.std.specs.Prelude.{◌≡◌, ◌↔◌, ◌==◌, ◌∷◌, ℕ, List, IsTrue, IfOk, codes, map, MatchOption, MatchResult};
+ghost use Rattle.std.specs.Prelude.{◌≡◌, ◌↔◌, ◌==◌, ◌∷◌, ℕ, List, IsTrue, IfOk, codes, map, take, MatchOption, MatchResult};
 ghost use Rattle.std.specs.Str.Lines.{strip_carriage_return};
 ghost use Rattle.h2_script.specs.Lines.{IsSkipped, IsClient, IsOfClient, SpellsText, SpellsLine, IsFaultOfText, IsFaultOfLine, words_of};
+ghost use Rattle.h2_script.specs.Commands.{SpellsCommand, IsFaultOfCommand};
 ghost use Rattle.h2_script.specs.Refusals.{RefusedBy};
 
 use crate::commands::read_command;
 use crate::fault::{LineFault, Refusal};
 use h2_command::Command;
 use std::alloc::{AllocError, Global};
+
+/// How many words of a line are looked at: a client, a command and its three arguments at most, and one more,
+/// which tells that there are too many.
+const DECIDING_WORDS: usize = 6;
 
 /// What a line of a script is.
 #[derive(Drop, Debug)]
@@ -61,15 +66,23 @@ fn read_client(word: &[u8]) -> Option<u32>
     Some((*digit - b'0') as u32)
 }
 
-fn split_at_spaces(alloc: Global, text: &str) -> Result<Vec<&str>, AllocError>
-    ensures { IfOk result (λ words. map (λ word. word.now) words.items ≡ words_of text.now) }
+fn first_words(alloc: Global, text: &str) -> Result<Vec<&str>, AllocError>
+    ensures { IfOk result (λ words. map (λ word. word.now) words.items ≡ take 6 (words_of text.now)) }
 {
-    text.split(' ').collect(alloc)
+    text.split(' ').take(DECIDING_WORDS).collect(alloc)
 }
 
-// What the words of a client's line are.
+// The command of a line, whose first words are given: all of them, or more than a command has.
+fn read_front(alloc: Global, words: &[&str]) -> Result<Command, Refusal>
+    ensures { (all : List (List ℕ)) → map (λ word. word.now) words.now ≡ take 5 all
+        → MatchResult result (SpellsCommand all) (RefusedBy (IsFaultOfCommand all)) }
+{
+    read_command(alloc, words)
+}
+
+// What a client's line is, by its first words.
 fn read_words(alloc: Global, words: &[&str]) -> Result<Line, Refusal>
-    ensures { (text : List ℕ) → (IsSkipped text → ⊥) → (text ≡ codes "---" → ⊥) → words_of text ≡ map (λ word. word.now) words.now
+    ensures { (text : List ℕ) → (IsSkipped text → ⊥) → (text ≡ codes "---" → ⊥) → map (λ word. word.now) words.now ≡ take 6 (words_of text)
         → MatchResult result (SpellsText text) (RefusedBy (IsFaultOfText text)) }
 {
     let [digit, arguments @ ..] = words else {
@@ -78,7 +91,7 @@ fn read_words(alloc: Global, words: &[&str]) -> Result<Line, Refusal>
     let Some(client) = read_client(digit.as_bytes()) else {
         return Err(Refusal::Fault(LineFault::Client));
     };
-    let command = read_command(alloc, arguments)?;
+    let command = read_front(alloc, arguments)?;
     Ok(Line::Call(client, command))
 }
 
@@ -91,7 +104,7 @@ fn read_text(alloc: Global, text: &str) -> Result<Line, Refusal>
     if is_phase_end(text) {
         return Ok(Line::PhaseEnd);
     }
-    let words = split_at_spaces(alloc, text)?;
+    let words = first_words(alloc, text)?;
     read_words(alloc, &words)
 }
 

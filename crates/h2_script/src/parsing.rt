@@ -2,21 +2,16 @@ ghost use Rattle.std.specs.Prelude.{◌≡◌, ◌==◌, ◌<◌, ◌≤◌, ◌
 ghost use Rattle.h2_script.specs.declared.line.Line.{Line};
 ghost use Rattle.h2_script.specs.Lines.{lines_of};
 ghost use Rattle.h2_script.specs.Scripts.{AreLines, IsScript, IsFaultOfLines, IsFaultOfScript, fault_in};
+ghost use Rattle.h2_script.specs.LawfulScripts.{IsLawfulScript};
 ghost use Rattle.h2_script.specs.Reading.{IsReadSoFar};
 
 use crate::fault::{LineFault, ParseFault, Refusal};
 use crate::reading::Reading;
 use crate::script::Script;
-use std::alloc::{AllocError, Global};
+use std::alloc::Global;
 
 /// The most bytes of a script.
 const SCRIPT_BYTES: usize = 4_194_304;
-
-fn split_at_line_feeds(alloc: Global, bytes: &[u8]) -> Result<Vec<&[u8]>, AllocError>
-    ensures { IfOk result (λ lines. map (λ line. line.now) lines.items ≡ lines_of bytes.now) }
-{
-    bytes.split(|byte| *byte == b'\n').collect(alloc)
-}
 
 // The refusal of a line as that of a script.
 fn refuse_in(line: u32, refusal: Refusal) -> ParseFault
@@ -28,15 +23,16 @@ fn refuse_in(line: u32, refusal: Refusal) -> ParseFault
     }
 }
 
-fn read_lines(alloc: Global, lines: &[&[u8]]) -> Result<Reading, ParseFault>
-    requires { length lines.now < 2 ^ 32 }
+// The lines up to the end, one after the other, so that only what they say is kept.
+fn read_lines(alloc: Global, bytes: &[u8]) -> Result<Reading, ParseFault>
+    requires { length bytes.now ≤ 4194304 }
     ensures { MatchResult result
-        (λ reading. (read : List Line) × AreLines (map (λ line. line.now) lines.now) read × IsReadSoFar read reading)
-        (IsFaultOfLines (map (λ line. line.now) lines.now)) }
+        (λ reading. (read : List Line) × AreLines (lines_of bytes.now) read × IsReadSoFar read reading)
+        (IsFaultOfLines (lines_of bytes.now)) }
 {
     let mut reading = Reading::new(alloc);
     let mut number: u32 = 0;
-    for line in lines {
+    for line in bytes.split(|byte| *byte == b'\n') {
         number += 1;
         match reading.take_line(alloc, line) {
             Ok(()) => {}
@@ -47,9 +43,11 @@ fn read_lines(alloc: Global, lines: &[&[u8]]) -> Result<Reading, ParseFault>
 }
 
 /// The script that the bytes are. A line of the bytes is skipped, ends a phase, or is a command of a
-/// client. The error names the first faulty line, and its first fault.
+/// client. The error names the first faulty line, and its first fault. The bytes are gone over once, and
+/// memory is taken for what the script keeps, and for one line.
 pub fn parse(alloc: Global, bytes: &[u8]) -> Result<Script, ParseFault>
-    ensures { MatchResult result (IsScript bytes.now) (IsFaultOfScript bytes.now) }
+    ensures meaning { MatchResult result (IsScript bytes.now) (IsFaultOfScript bytes.now) }
+    ensures lawful { IfOk result IsLawfulScript }
 {
     if bytes.len() > SCRIPT_BYTES {
         return Err(ParseFault::Script {
@@ -57,10 +55,7 @@ pub fn parse(alloc: Global, bytes: &[u8]) -> Result<Script, ParseFault>
             why: LineFault::TooLong,
         });
     }
-    let Ok(lines) = split_at_line_feeds(alloc, bytes) else {
-        return Err(ParseFault::NoMemory);
-    };
-    let reading = read_lines(alloc, &lines)?;
+    let reading = read_lines(alloc, bytes)?;
     let Ok(script) = Script::from_reading(reading) else {
         return Err(ParseFault::NoMemory);
     };

@@ -1,4 +1,6 @@
 ghost use Rattle.std.specs.Prelude.{◌≡◌, ◌<◌, List, [], length, slice_index_or, slice_set, IfOk};
+ghost use Rattle.h2_command.specs.Lawful.{Lawful};
+ghost use Rattle.h2_script.specs.LawfulScripts.{IsLawfulScript};
 ghost use Rattle.h2_script.specs.Scripts.{phases_of};
 ghost use Rattle.h2_script.specs.Reading.{IsReadSoFar};
 ghost use Rattle.h2_script.specs.declared.line.Line.{Line};
@@ -8,7 +10,8 @@ use h2_command::Command;
 use h2_num::NoMemory;
 use std::marker::Model;
 
-/// A script: its phases, each with the clients and their commands in order.
+/// A script: its phases, each with the clients and their commands in order. A script can hold each of its
+/// commands, and its clients are below 8.
 #[derive(Drop)]
 pub struct Script {
     phases: Vec<Vec<(u32, Command)>>,
@@ -17,15 +20,19 @@ pub struct Script {
 impl Model for Script {
     ghost use Rattle.std.specs.Prelude.{List, ℕ, map};
     ghost use Rattle.h2_command.specs.declared.command.Command.{Command};
+    ghost use Rattle.h2_script.specs.LawfulScripts.{IsLawfulScript};
 
     ghost Value = { List (List (ℕ × Command)) };
 
     ghost view = { λ s. map (λ phase. phase.items) s.phases.items };
+
+    ghost invariant = { λ s. IsLawfulScript (map (λ phase. phase.items) s.phases.items) };
 }
 
 impl Script {
     /// The script of the phases that were read.
     pub fn from_reading(reading: Reading) -> Result<Script, NoMemory>
+        requires { (lines : List Line) × IsReadSoFar lines reading × IsLawfulScript (phases_of lines) }
         ensures { (lines : List Line) → IsReadSoFar lines reading → IfOk result (λ script. script ≡ phases_of lines) }
     {
         let mut phases = reading.ended;
@@ -35,7 +42,8 @@ impl Script {
 
     /// The number of phases.
     pub fn phases(&self) -> usize
-        ensures { result ≡ length self.now }
+        ensures count { result ≡ length self.now }
+        ensures lawful { IsLawfulScript self.now }
     {
         self.phases.len()
     }
@@ -54,7 +62,8 @@ impl Script {
     pub fn at(&self, phase: usize, i: usize) -> (u32, &Command)
         requires phase { phase < length self.now }
         requires place { i < length (slice_index_or self.now phase []) }
-        ensures { (result.0, result.1.now) ≡ slice_index_or (slice_index_or self.now phase []) i (result.0, result.1.now) }
+        ensures there { (result.0, result.1.now) ≡ slice_index_or (slice_index_or self.now phase []) i (result.0, result.1.now) }
+        ensures lawful { (result.0 < 8) × Lawful result.1.now }
     {
         let (client, command) = &self.phases[phase][i];
         (*client, command)
@@ -64,6 +73,7 @@ impl Script {
     pub fn take(&mut self, phase: usize, i: usize) -> Command
         requires phase { phase < length self.old }
         requires place { i < length (slice_index_or self.old phase []) }
+        ensures lawful { Lawful result }
         ensures command { result ≡ (slice_index_or (slice_index_or self.old phase []) i (0, result)).1 }
         ensures left { self.new ≡ slice_set self.old phase (slice_set (slice_index_or self.old phase []) i ((slice_index_or (slice_index_or self.old phase []) i (0, result)).0, Command.PfsList)) }
     {

@@ -5,7 +5,7 @@ use std::test::Fail;
 
 // Lines and their first fault, each from a sentence of the grammar. Some have two faults, of which the
 // first is told.
-const FAULTY: [(&[u8], LineFault); 125] = [
+const FAULTY: [(&[u8], LineFault); 129] = [
     (b"\xff", LineFault::Utf8),
     (b"0 mkdir ROOT:/\xc3", LineFault::Utf8),
     (b"# \x80", LineFault::Utf8),
@@ -29,6 +29,7 @@ const FAULTY: [(&[u8], LineFault); 125] = [
     (b"\t0 sync", LineFault::Client),
     (b"8 mk", LineFault::Client),
     (b"x read a b c", LineFault::Client),
+    (b"8 read 0 0 1 1 1 1 1 1", LineFault::Client),
     (b"\r\r", LineFault::Client),
     (b"0", LineFault::Word),
     (b"0 ", LineFault::Word),
@@ -56,6 +57,9 @@ const FAULTY: [(&[u8], LineFault); 125] = [
     (b"0 foo ROOT", LineFault::Word),
     (b"0 read x 0", LineFault::Word),
     (b"0 #", LineFault::Word),
+    (b"0 mkdir ROOT:/a b c d e f g", LineFault::Word),
+    (b"0 write 0 0 x:00 1 2 3 4 5", LineFault::Word),
+    (b"0 mk a b c d e f g", LineFault::Word),
     (b"0 mkdir ROOT", LineFault::Path),
     (b"0 mkdir ROOT:", LineFault::Path),
     (b"0 mkdir ROOT:a", LineFault::Path),
@@ -236,6 +240,7 @@ fn limits_are_exact(rt: HostRuntime) -> Result<(), Fail> {
         ("0 sync\n", 65_536, 65_537, 65_537),
         ("0 read 0 0 1048576\n", 64, 65, 65),
         ("#", 4_194_304, 4_194_305, 0),
+        ("\n", 4_194_304, 4_194_305, 0),
     ];
     for (text, most, more, line) in &repeated {
         let fits = times(rt.alloc(), text.as_bytes(), *most)
