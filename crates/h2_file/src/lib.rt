@@ -1,0 +1,19 @@
+//! The contents of a file in its blocks.
+//!
+//! A file of at most 512 bytes lies in its inode, and a longer one in blocks of 16 KiB, of which those that
+//! no write reached are missing. Which blocks a write touches, and what it makes of the bytes of one of
+//! them, is arithmetic and lists of bytes (`specs/Touching`, `LaysInto` in `h2_contents`).
+#![tactic(auto)]
+
+mod blocks;
+mod fault;
+mod merging;
+mod touching;
+
+pub use blocks::Touched;
+pub use fault::{FILE_BYTES, FileFault, check_end};
+pub use merging::merge;
+pub use touching::{BLOCK_BYTES, EMBEDDED_BYTES, touched};
+
+#[cfg(test)]
+mod tests;
