@@ -4,7 +4,7 @@ use Rattle.h2_command.specs.declared.history.Mark.{Mark}
 use Rattle.h2_command.specs.declared.history.Mark.TheVariants.{Freeze, HeaderOut, HeaderDone}
 use Rattle.h2_command.specs.declared.history.Item.{Item}
 use Rattle.h2_command.specs.declared.history.Item.TheVariants.{Call, Mark as Marked}
-use Rattle.h2_forest.specs.Forest.{PlainForest}
+use Rattle.h2_forest.specs.Forest.{PlainForest, closed}
 use Rattle.h2_forest.specs.History.{after_item}
 
 -- the greatest number whose header was durable by a moment
@@ -29,6 +29,6 @@ frozen_from n f [] = None
 frozen_from n f (Marked (Freeze number moment) ∷ h) = cond (nat_eq number n) (Some f) (frozen_from n f h)
 frozen_from n f (x ∷ h) = frozen_from n (after_item f x) h
 
--- the forest that was frozen for a header; for the opening header the first one
+-- the forest that was frozen for a header, in a run that began without handles; for the opening header the first one
 abbrev pub frozen_forest : ℕ → PlainForest → List Item → ℕ → Option PlainForest
-frozen_forest opened first h n = cond (nat_eq n opened) (Some first) (frozen_from n first h)
+frozen_forest opened first h n = cond (nat_eq n opened) (Some first) (frozen_from n (closed first) h)

@@ -1,6 +1,6 @@
 ghost use Rattle.std.specs.Prelude.{◌≡◌, ◌<◌, ◌≤◌, length, IfOk, OnOk, OnErr, Some, None, MatchOption, slice_index_or, is_some, ℕ};
 ghost use Rattle.std.specs.FinMap as map;
-ghost use Rattle.h2_forest.specs.Forest.{answer, fresh, pfs_named, pfs_with_id, in_pfs, ask_pfs, opened, write_reply, cut_reply, snapshot_reply, create_reply, delete_reply, with_pfs, bare_table};
+ghost use Rattle.h2_forest.specs.Forest.{answer, fresh, pfs_named, pfs_with_id, in_pfs, ask_pfs, opened, write_reply, cut_reply, snapshot_reply, create_reply, delete_reply, with_pfs, bare_table, closed};
 ghost use Rattle.h2_forest.specs.Pfs.{made, linked, unlinked, removed, moved, listed, stated};
 ghost use Rattle.h2_contents.specs.Payload.{payload_bytes};
 ghost use Rattle.h2_command.specs.Lawful.{Lawful};
@@ -88,6 +88,13 @@ impl Forest {
             list,
             handles: Handles::new(alloc),
         }
+    }
+
+    /// Ends all handles. It takes no memory.
+    pub fn close_all(&mut self, alloc: Global)
+        ensures { self.new ≡ closed self.old }
+    {
+        self.handles = Handles::new(alloc);
     }
 
     /// The reply of the plain forest to a client's command, and the change that it makes. The client is below
