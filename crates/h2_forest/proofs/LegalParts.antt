@@ -1,5 +1,5 @@
 -- A history is legal where all its parts hold.
-use Rattle.std.specs.Prelude.{◌≡◌, ◌↔◌, ◌<◌, ℕ, List, Bool, true, false, ◌&&◌, IsTrue, refl}
+use Rattle.std.specs.Prelude.{◌≡◌, ◌↔◌, ℕ, List, Bool, true, false, ◌&&◌, IsTrue, refl}
 use Rattle.h2_command.specs.declared.history.Item.{Item}
 use Rattle.h2_forest.specs.declared.legality.Opening.{Opening}
 use Rattle.h2_forest.specs.declared.legality.Legality.{Legality}

@@ -1,3 +1,4 @@
 mod Replays
 mod LegalParts
 mod Indices
+mod KeptIds

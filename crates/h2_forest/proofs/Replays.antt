@@ -1,5 +1,5 @@
 -- A replay that tells no difference.
-use Rattle.std.specs.Prelude.{◌≡◌, ◌↔◌, ℕ, List, take, slice_get, Option, Some, None, Bool, IsTrue, refl}
+use Rattle.std.specs.Prelude.{◌≡◌, ◌↔◌, ℕ, List, slice_get, Option, Some, None, Bool, IsTrue, refl}
 use Rattle.h2_command.specs.declared.history.Item.{Item}
 use Rattle.h2_forest.specs.declared.replay_result.Replay.{Replay}
 use Rattle.h2_forest.specs.declared.replay_result.Replay.TheVariants.{Same, Differs}

@@ -13,10 +13,8 @@ use Rattle.h2_command.specs.declared.history.Item.{Item}
 use Rattle.h2_command.specs.declared.history.Item.TheVariants.{Call, Mark as Marked}
 use Rattle.h2_command.specs.Replies.{is_outside}
 use Rattle.h2_forest.specs.declared.legality.Opening.{Opening}
-use Rattle.h2_forest.specs.declared.legality.LastPass.{LastPass}
-use Rattle.h2_forest.specs.declared.legality.LastPass.TheVariants.{Ended, Runs}
+use Rattle.h2_forest.specs.declared.legality.LastPass.TheVariants.{Runs}
 use Rattle.h2_forest.specs.declared.legality.Flush.{Flush}
-use Rattle.h2_forest.specs.declared.legality.Stage.{Stage}
 use Rattle.h2_forest.specs.declared.legality.Stage.TheVariants.{Durable, Frozen, Out}
 use Rattle.h2_forest.specs.declared.legality.Pass.{Pass}
 use Rattle.h2_forest.specs.declared.legality.Pass.TheVariants.{Idle, Scanned}

@@ -56,7 +56,7 @@ fn enter(alloc: Global, forest: &mut Forest, entry: &Entry) -> Result<bool, NoMe
 }
 
 /// Whether an item is right; and the forest after it.
-fn pass_over(alloc: Global, forest: &mut Forest, item: &Item) -> Result<bool, NoMemory>
+pub fn pass_over(alloc: Global, forest: &mut Forest, item: &Item) -> Result<bool, NoMemory>
     requires { IsLawfulItem item.now }
     ensures right { IfOk result (λ right. IsTrue right ↔ IsRight forest.old item.now) }
     ensures after { OnOk result (forest.new ≡ after_item forest.old item.now) }

@@ -1,4 +1,4 @@
-use Rattle.std.proofs.Common.{◌≡◌, ◌+◌, ap, sym, ◌∙◌, subst, refl}
+use Rattle.std.proofs.Common.{◌+◌, ap, sym, ◌∙◌, subst}
 use Rattle.h2_forest.specs.Forest.{closed}
 use Rattle.h2_forest.specs.History.{IsRight, after_item}
 use Rattle.h2_forest.specs.HistoryLaws.{after_taken, each_taken}
