@@ -14,6 +14,7 @@ mod same;
 
 pub use command::Command;
 pub use h2_contents::Payload;
+pub use h2_ref::Why;
 pub use history::{Entry, History, Item, Mark};
 pub use lawful::is_pfs_name;
 pub use path::Path;

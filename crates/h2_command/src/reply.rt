@@ -1,4 +1,5 @@
 use h2_num::{Bytes, Names};
+use h2_ref::Why;
 
 /// The reply to a command.
 #[derive(Drop, Debug)]
@@ -53,8 +54,8 @@ pub enum Reply {
     NoSpace { need: u64, free: u64 },
     /// The disk failed. Its count of faults before the step in which it failed, and after it.
     Io { before: u64, after: u64 },
-    /// The block at this place doesn't pass its reference.
-    BadBlock { place: u64 },
+    /// The block at this place doesn't pass its reference, and why it doesn't.
+    BadBlock { place: u64, why: Why },
     /// There wasn't memory enough.
     NoMemory,
 }

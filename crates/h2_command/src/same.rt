@@ -3,11 +3,13 @@ ghost use Rattle.h2_command.specs.Replies.{group_of, is_outside};
 
 use crate::reply::Reply;
 use h2_num::{Bytes, Names};
+use h2_ref::Why;
 
 /// What a reply carries.
 #[derive(Clone, Copy)]
 enum Group {
     Lists,
+    Inodes,
     Numbers,
     Words,
     Outside,
@@ -23,6 +25,12 @@ fn same_bytes(a: &Bytes, b: &Bytes) -> bool
     ensures { IsTrue result ↔ (a.now ≡ b.now) }
 {
     *a == *b
+}
+
+fn same_why(a: Why, b: Why) -> bool
+    ensures { IsTrue result ↔ (a ≡ b) }
+{
+    a == b
 }
 
 fn same_lists(a: &Reply, b: &Reply) -> bool
@@ -46,9 +54,9 @@ fn same_lists(a: &Reply, b: &Reply) -> bool
     }
 }
 
-fn same_numbers(a: &Reply, b: &Reply) -> bool
+fn same_inodes(a: &Reply, b: &Reply) -> bool
     ensures sound { IsTrue result → a.now ≡ b.now }
-    ensures complete { group_of a.now ≡ Group.Numbers → a.now ≡ b.now → IsTrue result }
+    ensures complete { group_of a.now ≡ Group.Inodes → a.now ≡ b.now → IsTrue result }
 {
     match a {
         Reply::Dir { number, entries } => match b {
@@ -70,6 +78,15 @@ fn same_numbers(a: &Reply, b: &Reply) -> bool
             } => *number == *n && *links == *l && *size == *s,
             _ => false,
         },
+        _ => false,
+    }
+}
+
+fn same_numbers(a: &Reply, b: &Reply) -> bool
+    ensures sound { IsTrue result → a.now ≡ b.now }
+    ensures complete { group_of a.now ≡ Group.Numbers → a.now ≡ b.now → IsTrue result }
+{
+    match a {
         Reply::Handle(x) => match b {
             Reply::Handle(y) => *x == *y,
             _ => false,
@@ -118,8 +135,8 @@ fn same_outside(a: &Reply, b: &Reply) -> bool
             } => *before == *x && *after == *y,
             _ => false,
         },
-        Reply::BadBlock { place } => match b {
-            Reply::BadBlock { place: other } => *place == *other,
+        Reply::BadBlock { place, why } => match b {
+            Reply::BadBlock { place: p, why: w } => *place == *p && same_why(*why, *w),
             _ => false,
         },
         Reply::NoMemory => match b {
@@ -158,12 +175,9 @@ impl Reply {
     {
         match self {
             Reply::List(_) | Reply::Pfs(_) | Reply::Got(_) => Group::Lists,
-            Reply::Dir { .. }
-            | Reply::File { .. }
-            | Reply::Handle(_)
-            | Reply::Wrote(_)
-            | Reply::Bulk { .. }
-            | Reply::InUse(_) => Group::Numbers,
+            Reply::Dir { .. } | Reply::File { .. } => Group::Inodes,
+            Reply::Handle(_) | Reply::Wrote(_) | Reply::Bulk { .. } | Reply::InUse(_) =>
+                Group::Numbers,
             Reply::Running(_)
             | Reply::NoSpace { .. }
             | Reply::Io { .. }
@@ -180,6 +194,7 @@ impl Reply {
     {
         match self.group() {
             Group::Lists => same_lists(self, other),
+            Group::Inodes => same_inodes(self, other),
             Group::Numbers => same_numbers(self, other),
             Group::Outside => same_outside(self, other),
             Group::Words => same_words(self, other),

@@ -1,5 +1,5 @@
 -- A history is legal where all its parts hold.
-use Rattle.std.specs.Prelude.{◌≡◌, ◌↔◌, ◌<◌, ℕ, List, Bool, true, false, ◌&&◌, IsTrue, refl}
+use Rattle.std.specs.Prelude.{◌≡◌, ◌↔◌, ℕ, List, Bool, true, false, ◌&&◌, IsTrue, refl}
 use Rattle.h2_command.specs.declared.history.Item.{Item}
 use Rattle.h2_forest.specs.declared.legality.Opening.{Opening}
 use Rattle.h2_forest.specs.declared.legality.Legality.{Legality}
@@ -26,7 +26,7 @@ both_of false b h g = h
 pub record AreJudged (opening : Opening) (first : PlainForest) (h : List Item) (l : Legality) : Type 0 where
   pub replies_are : IsTrue l.replies ↔ RepliesAreRight first h
   pub faults_are : IsTrue l.faults ↔ FaultsRise h
-  pub indices_are : IsTrue l.indices ↔ ((client : ℕ) → client < 8 → CountsUp client h)
+  pub indices_are : IsTrue l.indices ↔ ((client : ℕ) → CountsUp client h)
   pub phases_are : IsTrue l.phases ↔ NeverFalls phase_of h
   pub flushes_are : IsTrue l.flushes ↔ FlushesInOrder opening.number h
   pub moments_are : IsTrue l.moments ↔ NeverFalls moment_of h

@@ -1,2 +1,4 @@
 mod Replays
 mod LegalParts
+mod Indices
+mod KeptIds

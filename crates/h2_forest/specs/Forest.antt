@@ -1,16 +1,13 @@
 -- The plain forest, and what each command does to it.
-use Rattle.std.specs.Prelude.{ℕ, ◌+◌, ◌^◌, List, [], ◌∷◌, ◌++◌, length, map, Bool, not, cond, ◌&&◌, ◌||◌, nat_le, nat_lt, nat_eq, is_some, Option, Some, None, slice_set, true, false}
+use Rattle.std.specs.Prelude.{ℕ, ◌+◌, ◌^◌, List, [], ◌∷◌, ◌++◌, length, map, Bool, not, cond, ◌&&◌, nat_le, nat_lt, nat_eq, is_some, Option, Some, None, slice_set, false}
 use Rattle.std.specs.List.{remove}
 use Rattle.h2_forest.specs.Handles.{Handles, least_free, handles_in}
 use Rattle.std.specs.List.{list_any}
 use Rattle.std.specs.Cmp.Lexicographic.{pointwise}
 use Rattle.std.specs.FinMap as map
-use Rattle.std.specs.FinMap.{FinMap, get, contains_key, values}
+use Rattle.std.specs.FinMap.{get, contains_key, values}
 use Rattle.h2_forest.specs.declared.pfs.Pfs.{Pfs}
-use Rattle.h2_forest.specs.declared.table.Node.{Node}
 use Rattle.h2_forest.specs.declared.table.Node.TheVariants.{File, Directory}
-use Rattle.h2_contents.specs.declared.contents.Contents.{Contents}
-use Rattle.h2_contents.specs.declared.payload.Payload.{Payload}
 use Rattle.h2_command.specs.declared.command.Command.{Command}
 use Rattle.h2_command.specs.declared.command.Command.TheVariants.{Mkdir, Create, Link, Rm, Rmdir, Mv, Ls, Stat, Attach, Close, ReadAt, WriteAt, Cut, Sync, Bulkfree, Snapshot, PfsCreate, PfsDelete, PfsList}
 use Rattle.h2_command.specs.declared.reply.Reply.{Reply}
@@ -143,8 +140,15 @@ abbrev pub is_named : Handles → ℕ → ℕ → Bool
 is_named handles id inode = list_any (λ at. nat_eq at.0 id && nat_eq at.1 inode) (values handles)
 
 -- without the files that have no link and that no handle names
+abbrev pub trimmed : Handles → Pfs → Pfs
+trimmed handles p = record p { table = without_orphans p.table (is_named handles p.id) }
+
 abbrev pub trim : PlainForest → PlainForest
-trim f = record f { pfss = map {A = Pfs} {B = Pfs} (λ p. record p { table = without_orphans p.table (is_named f.handles p.id) }) f.pfss }
+trim f = record f { pfss = map {A = Pfs} {B = Pfs} (trimmed f.handles) f.pfss }
+
+-- PFSs without the files that have no link
+abbrev pub cleaned_all : List Pfs → List Pfs
+cleaned_all pfss = map {A = Pfs} {B = Pfs} (trimmed map.empty) pfss
 
 -- without handles
 abbrev pub closed : PlainForest → PlainForest

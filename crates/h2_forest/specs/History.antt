@@ -5,7 +5,7 @@ use Rattle.std.specs.List.{list_any}
 use Rattle.h2_command.specs.declared.command.Command.{Command}
 use Rattle.h2_command.specs.declared.command.Command.TheVariants.{Bulkfree}
 use Rattle.h2_command.specs.declared.reply.Reply.{Reply}
-use Rattle.h2_command.specs.declared.reply.Reply.TheVariants.{Done, Bulk, Io}
+use Rattle.h2_command.specs.declared.reply.Reply.TheVariants.{Done, Bulk, Io, BadBlock}
 use Rattle.h2_command.specs.declared.history.Entry.{Entry}
 use Rattle.h2_command.specs.declared.history.Mark.{Mark}
 use Rattle.h2_command.specs.declared.history.Mark.TheVariants.{Freeze, HeaderOut, HeaderDone, ScanBegin, Applied}
@@ -13,14 +13,14 @@ use Rattle.h2_command.specs.declared.history.Item.{Item}
 use Rattle.h2_command.specs.declared.history.Item.TheVariants.{Call, Mark as Marked}
 use Rattle.h2_command.specs.Replies.{is_outside}
 use Rattle.h2_forest.specs.declared.legality.Opening.{Opening}
-use Rattle.h2_forest.specs.declared.legality.LastPass.{LastPass}
-use Rattle.h2_forest.specs.declared.legality.LastPass.TheVariants.{Ended, Runs}
+use Rattle.h2_forest.specs.declared.legality.LastPass.TheVariants.{Runs}
 use Rattle.h2_forest.specs.declared.legality.Flush.{Flush}
-use Rattle.h2_forest.specs.declared.legality.Stage.{Stage}
 use Rattle.h2_forest.specs.declared.legality.Stage.TheVariants.{Durable, Frozen, Out}
 use Rattle.h2_forest.specs.declared.legality.Pass.{Pass}
 use Rattle.h2_forest.specs.declared.legality.Pass.TheVariants.{Idle, Scanned}
-use Rattle.h2_forest.specs.Forest.{PlainForest, answer}
+use Rattle.h2_forest.specs.declared.legality.Outcome.{Outcome}
+use Rattle.h2_forest.specs.declared.legality.Outcome.TheVariants.{Pending, GivenUp, Complete}
+use Rattle.h2_forest.specs.Forest.{PlainForest, answer, closed}
 
 -- each item is allowed in the state that the items before it left
 abbrev pub Each : {S : Type 0} → (S → Item → Type 0) → (S → Item → S) → S → List Item → Type 0
@@ -37,9 +37,9 @@ abbrev pub after_item : PlainForest → Item → PlainForest
 after_item f (Call e) = cond (is_outside e.reply) f (answer f e.client e.command).1
 after_item f (Marked m) = f
 
--- the forest before the item at a place of a history
+-- the forest before the item at a place of a history, which begins without handles
 abbrev pub forest_at : List Item → PlainForest → ℕ → PlainForest
-forest_at h first i = after after_item first (take i h)
+forest_at h first i = after after_item (closed first) (take i h)
 
 abbrev pub is_bulkfree : Command → Bool
 is_bulkfree Bulkfree = true
@@ -63,7 +63,7 @@ IsRight f (Marked m) = Unit {0}
 
 -- each reply is the forest's at its place
 abbrev pub RepliesAreRight : PlainForest → List Item → Type 0
-RepliesAreRight first h = Each IsRight after_item first h
+RepliesAreRight first h = Each IsRight after_item (closed first) h
 
 -- the two counts of an Io
 abbrev pub io_reply : Reply → Option (ℕ × ℕ)
@@ -208,28 +208,45 @@ after_pass_mark p (ScanBegin number) = Scanned 0 0 0
 after_pass_mark p (Applied segment staged freed) = with_applied p staged freed
 after_pass_mark p _ = p
 
--- a Bulk has the sums of its pass, which ends with it
-abbrev pub IsPassReply : ℕ → Pass → Reply → Type 0
-IsPassReply segments p (Bulk seen staged freed) = AreSums segments staged freed p
-IsPassReply segments p _ = Unit {0}
+abbrev pub HasAppliedNone : Pass → Type 0
+HasAppliedNone Idle = Unit {0}
+HasAppliedNone (Scanned applied staged freed) = applied ≡ 0
 
-abbrev pub after_pass_reply : Pass → Reply → Pass
-after_pass_reply p (Bulk seen staged freed) = Idle
-after_pass_reply p _ = p
+-- what the reply to a bulkfree says of the pass. Want of memory says nothing: it may come before the pass began, while another client's runs
+abbrev pub reply_outcome : Reply → Outcome
+reply_outcome (Bulk seen staged freed) = Complete staged freed
+reply_outcome (Io before after) = GivenUp
+reply_outcome (BadBlock place why) = GivenUp
+reply_outcome _ = Pending
+
+abbrev pub outcome_of : Entry → Outcome
+outcome_of e = cond (is_bulkfree e.command) (reply_outcome e.reply) Pending
+
+-- a Bulk has the sums of its pass; a pass that was given up has applied nothing
+abbrev pub IsOutcome : ℕ → Pass → Outcome → Type 0
+IsOutcome segments p Pending = Unit {0}
+IsOutcome segments p GivenUp = HasAppliedNone p
+IsOutcome segments p (Complete staged freed) = AreSums segments staged freed p
+
+-- either ends the pass
+abbrev pub after_outcome : Pass → Outcome → Pass
+after_outcome p Pending = p
+after_outcome p GivenUp = Idle
+after_outcome p (Complete staged freed) = Idle
 
 abbrev pub IsPassItem : ℕ → Pass → Item → Type 0
-IsPassItem segments p (Call e) = IsPassReply segments p e.reply
+IsPassItem segments p (Call e) = IsOutcome segments p (outcome_of e)
 IsPassItem segments p (Marked m) = IsPassMark segments p m
 
 abbrev pub after_pass_item : Pass → Item → Pass
-after_pass_item p (Call e) = after_pass_reply p e.reply
+after_pass_item p (Call e) = after_outcome p (outcome_of e)
 after_pass_item p (Marked m) = after_pass_mark p m
 
 -- the last pass has ended too, unless it still runs
 abbrev pub EndsWell : Opening → Pass → Type 0
 EndsWell opening p = (opening.last_pass ≡ Runs) ⊎ HasEnded opening.segments p
 
--- passes stand one after the other, and each Bulk has the sums of its pass
+-- passes stand one after the other, each Bulk has the sums of its pass, and a pass that was given up has applied nothing
 pub record PassesInOrder (opening : Opening) (h : List Item) : Type 0 where
   pub each : Each (IsPassItem opening.segments) after_pass_item Idle h
   pub last : EndsWell opening (after after_pass_item Idle h)
@@ -238,7 +255,7 @@ pub record PassesInOrder (opening : Opening) (h : List Item) : Type 0 where
 pub record Legal (opening : Opening) (first : PlainForest) (h : List Item) : Type 0 where
   pub replies : RepliesAreRight first h
   pub faults : FaultsRise h
-  pub indices : (client : ℕ) → client < 8 → CountsUp client h
+  pub indices : (client : ℕ) → CountsUp client h
   pub phases : NeverFalls phase_of h
   pub flushes : FlushesInOrder opening.number h
   pub moments : NeverFalls moment_of h

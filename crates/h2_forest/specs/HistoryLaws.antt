@@ -1,5 +1,5 @@
 -- Laws of what is told item by item.
-use Rattle.std.specs.Prelude.{◌≡◌, ◌↔◌, ℕ, zero, suc, ◌+◌, ◌*◌, ◌<◌, ◌≤◌, List, [], ◌∷◌, ◌++◌, length, take, drop, slice_get, slice_index_or, Option, Some, None, Bool, true, false, refl}
+use Rattle.std.specs.Prelude.{◌≡◌, ◌↔◌, ℕ, zero, suc, ◌+◌, ◌*◌, ◌<◌, ◌≤◌, List, [], ◌∷◌, ◌++◌, length, take, drop, slice_get, Some, refl}
 use Rattle.std.proofs.Common.{ap, sym, ◌∙◌, arith, subst, drop-cons, get_or, add-one}
 use Rattle.std.proofs.lemmas.List.{take_more}
 use Rattle.h2_command.specs.declared.history.Item.{Item}

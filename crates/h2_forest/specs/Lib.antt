@@ -7,6 +7,7 @@ pub mod Handles
 pub mod HandleLaws
 pub mod Forest
 pub mod Codes
+pub mod Ids
 pub mod History
 pub mod HistoryLaws
 pub mod Parts

@@ -1,6 +1,5 @@
 -- What the commands on names do in one PFS.
-use Rattle.std.specs.Prelude.{ℕ, ◌+◌, ◌-◌, List, [], ◌∷◌, length, take, slice_index_or, Bool, true, false, not, cond, ◌||◌, ◌&&◌, nat_le, nat_eq, is_some, Option, Some, None, Result, Ok, Err}
-use Rattle.std.specs.FinMap as map
+use Rattle.std.specs.Prelude.{ℕ, ◌+◌, ◌-◌, List, [], length, take, slice_index_or, Bool, not, ◌&&◌, nat_le, nat_eq, is_some, Option, Some, None, Ok, Err}
 use Rattle.std.specs.FinMap.{get, insert, remove, contains_key, len, keys}
 use Rattle.h2_forest.specs.declared.pfs.Pfs.{Pfs}
 use Rattle.h2_forest.specs.declared.table.Node.{Node}
@@ -8,7 +7,7 @@ use Rattle.h2_forest.specs.declared.table.Node.TheVariants.{File, Directory}
 use Rattle.h2_command.specs.declared.reply.Reply.{Reply}
 use Rattle.h2_command.specs.declared.reply.Reply.TheVariants.{Done, List as Listed, Dir, File as FileIs, NoEntry, Exists, NotDir, IsDir, NotEmpty, Full, LinksFull, Loop}
 use Rattle.h2_forest.specs.Node.{Entries}
-use Rattle.h2_forest.specs.Table.{Table, entries_at, entered, left, walk, looked_up, links_of, relinked, passes}
+use Rattle.h2_forest.specs.Table.{entries_at, entered, left, walk, looked_up, links_of, relinked, passes}
 use Rattle.h2_forest.specs.Steps.{on, given, refuse}
 
 -- the names before the last one, and the last one

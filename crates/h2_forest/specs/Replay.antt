@@ -1,5 +1,5 @@
 -- What a replay tells of a history.
-use Rattle.std.specs.Prelude.{◌≡◌, ℕ, List, take, slice_get, Option, Some, None}
+use Rattle.std.specs.Prelude.{List, take, slice_get, Option, Some, None}
 use Rattle.h2_command.specs.declared.history.Item.{Item}
 use Rattle.h2_forest.specs.declared.replay_result.Replay.{Replay}
 use Rattle.h2_forest.specs.declared.replay_result.Replay.TheVariants.{Same, Differs}

@@ -1,5 +1,5 @@
 -- A history that is whole for a script.
-use Rattle.std.specs.Prelude.{ℕ, ◌+◌, List, [], ◌∷◌, ◌++◌, map, count_by, nat_eq}
+use Rattle.std.specs.Prelude.{ℕ, ◌+◌, List, [], ◌∷◌, ◌++◌, count_by, nat_eq}
 use Rattle.std.specs.List.Sorted.{IsPermutation}
 use Rattle.h2_command.specs.declared.command.Command.{Command}
 use Rattle.h2_command.specs.declared.history.Entry.{Entry}

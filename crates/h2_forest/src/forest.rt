@@ -1,6 +1,6 @@
 ghost use Rattle.std.specs.Prelude.{◌≡◌, ◌<◌, ◌≤◌, length, IfOk, OnOk, OnErr, Some, None, MatchOption, slice_index_or, is_some, ℕ};
 ghost use Rattle.std.specs.FinMap as map;
-ghost use Rattle.h2_forest.specs.Forest.{answer, fresh, pfs_named, pfs_with_id, in_pfs, ask_pfs, opened, write_reply, cut_reply, snapshot_reply, create_reply, delete_reply, with_pfs, bare_table};
+ghost use Rattle.h2_forest.specs.Forest.{answer, fresh, pfs_named, pfs_with_id, in_pfs, ask_pfs, opened, write_reply, cut_reply, snapshot_reply, create_reply, delete_reply, with_pfs, bare_table, closed, clean};
 ghost use Rattle.h2_forest.specs.Pfs.{made, linked, unlinked, removed, moved, listed, stated};
 ghost use Rattle.h2_contents.specs.Payload.{payload_bytes};
 ghost use Rattle.h2_command.specs.Lawful.{Lawful};
@@ -8,8 +8,8 @@ ghost use Rattle.h2_command.specs.Lawful.{Lawful};
 use crate::directory::Directory;
 use crate::handles::Handles;
 use crate::pfs::{Pfs, follow};
-use crate::pfs_list::{find_id, find_pfs, has_name};
-use crate::table::{Node, Table};
+use crate::pfs_list::{clean_pfss, find_id, find_pfs, has_name};
+use crate::table::{Node, Table, bare_table};
 use h2_command::{Command, Path, Payload, Reply};
 use h2_contents::Contents;
 use h2_num::{Bytes, Name, Names, NoMemory};
@@ -88,6 +88,21 @@ impl Forest {
             list,
             handles: Handles::new(alloc),
         }
+    }
+
+    /// A copy without handles and without the files that have no link. The error is want of memory.
+    pub fn cleaned(&self, alloc: Global) -> Result<Forest, NoMemory>
+        ensures { IfOk result (λ f. f ≡ clean self.now) }
+    {
+        let list = clean_pfss(alloc, &self.list)?;
+        Ok(Forest::of_pfss(alloc, self.next_pfs, list))
+    }
+
+    /// Ends all handles. It takes no memory.
+    pub fn close_all(&mut self, alloc: Global)
+        ensures { self.new ≡ closed self.old }
+    {
+        self.handles = Handles::new(alloc);
     }
 
     /// The reply of the plain forest to a client's command, and the change that it makes. The client is below
@@ -373,13 +388,4 @@ impl Forest {
         }
         Ok(Reply::Pfs(names))
     }
-}
-
-/// A root directory without entries.
-fn bare_table(alloc: Global) -> Result<Table, NoMemory>
-    ensures { IfOk result (λ t. t ≡ bare_table) }
-{
-    let mut table = Table::new(alloc);
-    table.insert(1, Node::Directory(Directory::new(alloc)))?;
-    Ok(table)
 }

@@ -1,4 +1,5 @@
-ghost use Rattle.std.specs.Prelude.{◌≡◌, ◌↔◌, ◌<◌, IsTrue, ℕ};
+ghost use Rattle.std.specs.Prelude.{◌≡◌, ◌↔◌, IsTrue, All, ℕ};
+ghost use Rattle.h2_command.specs.Lawful.{IsLawfulItem};
 ghost use Rattle.h2_forest.specs.History.{io_of, IsRise, risen, FaultsRise, index_of, IsCounted, counted, CountsUp, phase_of, moment_of, IsFrom, or_later, NeverFalls};
 
 use h2_command::{Item, Mark, Reply};
@@ -98,9 +99,10 @@ fn counts_up(client: u32, items: &[Item]) -> bool
     true
 }
 
-/// Whether the entries of each of the 8 clients have the indices 0, 1, 2 and on.
+/// Whether the entries of each client have the indices 0, 1, 2 and on. There are 8 clients.
 pub fn indices_count_up(items: &[Item]) -> bool
-    ensures { IsTrue result ↔ ((client : ℕ) → client < 8 → CountsUp client items.now) }
+    requires { All IsLawfulItem items.now }
+    ensures { IsTrue result ↔ ((client : ℕ) → CountsUp client items.now) }
 {
     for client in 0..8u32 {
         if !counts_up(client, items) {

@@ -13,8 +13,8 @@ use h2_command::History;
 use h2_num::NoMemory;
 use std::alloc::Global;
 
-/// Judges a history of a volume that was opened with a first forest: which parts of what makes it legal
-/// hold. The history has fewer than 2^32 items, and each is lawful. The error is want of memory.
+/// Judges a history of a volume that was opened with a first forest, whose handles don't count: which parts
+/// of what makes it legal hold. The history has fewer than 2^32 items, and each is lawful. The error is want of memory.
 pub fn judge(
     alloc: Global,
     opening: Opening,
@@ -25,7 +25,7 @@ pub fn judge(
     requires short { length history.now.items < 2 ^ 32 }
     ensures replies { IfOk result (λ l. IsTrue l.replies ↔ RepliesAreRight first history.now.items) }
     ensures faults { IfOk result (λ l. IsTrue l.faults ↔ FaultsRise history.now.items) }
-    ensures indices { IfOk result (λ l. IsTrue l.indices ↔ ((client : ℕ) → client < 8 → CountsUp client history.now.items)) }
+    ensures indices { IfOk result (λ l. IsTrue l.indices ↔ ((client : ℕ) → CountsUp client history.now.items)) }
     ensures phases { IfOk result (λ l. IsTrue l.phases ↔ NeverFalls phase_of history.now.items) }
     ensures flushes { IfOk result (λ l. IsTrue l.flushes ↔ FlushesInOrder opening.number history.now.items) }
     ensures moments { IfOk result (λ l. IsTrue l.moments ↔ NeverFalls moment_of history.now.items) }

@@ -51,6 +51,17 @@ pub enum Pass {
     },
 }
 
+/// What the reply to a command says of the running pass.
+#[derive(Clone, Copy, Debug, PartialEq, Eq)]
+pub enum Outcome {
+    /// Nothing.
+    Pending,
+    /// It was given up.
+    GivenUp,
+    /// It applied all segments, with these sums.
+    Complete { staged: u32, freed: u32 },
+}
+
 /// Which parts of what makes a history legal hold.
 #[derive(Clone, Copy, Debug, PartialEq, Eq)]
 pub struct Legality {
@@ -68,7 +79,7 @@ pub struct Legality {
     pub moments: bool,
     /// Scans begin for durable headers alone.
     pub scans: bool,
-    /// Passes stand one after the other, with right sums.
+    /// Passes stand one after the other, with right sums, and one that was given up applied nothing.
     pub passes: bool,
 }
 

@@ -4,7 +4,9 @@
 //! handles beside them. `specs/Forest` says by cases what each command answers and changes, its refusals in
 //! their order: there are no blocks, no flushes and no steps in it. `Forest::apply` is that, exactly.
 //! `specs/History` says what the history of a run may look like, part by part; `replay` and `judge` decide
-//! it. `specs/Landing` says where a power cut lands, and `specs/Whole` when a history is whole for a script.
+//! it. `specs/Landing` says where a power cut lands and what was frozen there, which `may_land` and
+//! `frozen_forest` tell, and `specs/Whole` when a history is whole for a script. `specs/Ids` says how PFSs stand,
+//! which every command keeps (`ids_law`).
 #![tactic(auto)]
 
 mod directory;
@@ -13,6 +15,8 @@ mod forest;
 mod handles;
 mod item_order;
 mod judging;
+mod landing;
+mod laws;
 mod legality;
 mod pass_order;
 mod pfs;
@@ -28,6 +32,8 @@ pub use h2_contents::Contents;
 pub use h2_num::{Bytes, Name, Names};
 pub use handles::Handles;
 pub use judging::{is_legal, judge};
+pub use landing::{frozen_forest, may_land};
+pub use laws::{ids_law, whole_law};
 pub use legality::{LastPass, Legality, Opening};
 pub use pfs::Pfs;
 pub use replay_result::Replay;

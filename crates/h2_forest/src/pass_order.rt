@@ -1,9 +1,9 @@
 ghost use Rattle.std.specs.Prelude.{◌≡◌, ◌↔◌, IsTrue, IfOk, OnOk, OnErr};
-ghost use Rattle.h2_forest.specs.History.{IsLateScan, after_durable, ScansAreLate, HasEnded, IsNext, AreSums, with_applied, IsPassMark, after_pass_mark, IsPassReply, after_pass_reply, IsPassItem, after_pass_item, EndsWell, PassesInOrder};
+ghost use Rattle.h2_forest.specs.History.{IsLateScan, after_durable, ScansAreLate, HasEnded, IsNext, AreSums, with_applied, IsPassMark, after_pass_mark, HasAppliedNone, outcome_of, IsOutcome, after_outcome, IsPassItem, after_pass_item, EndsWell, PassesInOrder};
 ghost use Rattle.h2_forest.specs.HistoryLaws.{SumsFit};
 
-use crate::legality::{LastPass, Opening, Pass};
-use h2_command::{Item, Mark, Reply};
+use crate::legality::{LastPass, Opening, Outcome, Pass};
+use h2_command::{Command, Entry, Item, Mark, Reply};
 use h2_num::NoMemory;
 use std::alloc::Global;
 
@@ -71,14 +71,59 @@ fn are_sums(segments: u32, staged: u32, freed: u32, pass: Pass) -> bool
     }
 }
 
+fn has_applied_none(pass: Pass) -> bool
+    ensures { IsTrue result ↔ HasAppliedNone pass }
+{
+    match pass {
+        Pass::Idle => true,
+        Pass::Scanned { applied, .. } => applied == 0,
+    }
+}
+
+/// What an entry says of the running pass.
+fn outcome_of(entry: &Entry) -> Outcome
+    ensures { result ≡ outcome_of entry.now }
+{
+    let Command::Bulkfree = &entry.command else {
+        return Outcome::Pending;
+    };
+    match &entry.reply {
+        Reply::Bulk { staged, freed, .. } => Outcome::Complete {
+            staged: *staged,
+            freed: *freed,
+        },
+        Reply::Io { .. } | Reply::BadBlock { .. } => Outcome::GivenUp,
+        _ => Outcome::Pending,
+    }
+}
+
+fn is_outcome(segments: u32, pass: Pass, outcome: Outcome) -> bool
+    ensures { IsTrue result ↔ IsOutcome segments pass outcome }
+{
+    match outcome {
+        Outcome::Pending => true,
+        Outcome::GivenUp => has_applied_none(pass),
+        Outcome::Complete { staged, freed } => are_sums(segments, staged, freed, pass),
+    }
+}
+
+fn after_outcome(pass: Pass, outcome: Outcome) -> Pass
+    requires { SumsFit pass }
+    ensures after { result ≡ after_outcome pass outcome }
+    ensures still_fit { SumsFit result }
+{
+    match outcome {
+        Outcome::Pending => pass,
+        Outcome::GivenUp => Pass::Idle,
+        Outcome::Complete { .. } => Pass::Idle,
+    }
+}
+
 fn is_pass_item(segments: u32, pass: Pass, item: &Item) -> bool
     ensures { IsTrue result ↔ IsPassItem segments pass item.now }
 {
     match item {
-        Item::Call(entry) => match &entry.reply {
-            Reply::Bulk { staged, freed, .. } => are_sums(segments, *staged, *freed, pass),
-            _ => true,
-        },
+        Item::Call(entry) => is_outcome(segments, pass, outcome_of(entry)),
         Item::Mark(mark) => match mark {
             Mark::ScanBegin { .. } => has_ended(segments, pass),
             Mark::Applied { segment, .. } => is_next(segments, *segment, pass),
@@ -114,10 +159,7 @@ fn after_pass_item(segments: u32, pass: Pass, item: &Item) -> Pass
     ensures still_fit { SumsFit result }
 {
     match item {
-        Item::Call(entry) => match &entry.reply {
-            Reply::Bulk { .. } => Pass::Idle,
-            _ => pass,
-        },
+        Item::Call(entry) => after_outcome(pass, outcome_of(entry)),
         Item::Mark(mark) => match mark {
             Mark::ScanBegin { .. } => Pass::Scanned {
                 applied: 0,
@@ -143,7 +185,8 @@ fn ends_well(opening: Opening, pass: Pass) -> bool
     }
 }
 
-/// Whether passes stand one after the other, and each Bulk has the sums of its pass.
+/// Whether passes stand one after the other, each Bulk has the sums of its pass, and a pass that was given up
+/// has applied nothing.
 pub fn passes_are_in_order(opening: Opening, items: &[Item]) -> bool
     ensures { IsTrue result ↔ PassesInOrder opening items.now }
 {

@@ -1,8 +1,10 @@
-ghost use Rattle.std.specs.Prelude.{◌≡◌, ◌<◌, length, Some, None, MatchOption, slice_index_or, is_some};
-ghost use Rattle.h2_forest.specs.Forest.{pfs_named, pfs_with_id};
+ghost use Rattle.std.specs.Prelude.{◌≡◌, ◌<◌, length, IfOk, Some, None, MatchOption, slice_index_or, is_some};
+ghost use Rattle.std.specs.FinMap as map;
+ghost use Rattle.h2_forest.specs.Forest.{pfs_named, pfs_with_id, trimmed, cleaned_all};
 
 use crate::pfs::Pfs;
-use h2_num::Name;
+use h2_num::{Name, NoMemory};
+use std::alloc::Global;
 
 /// The PFS with a name, and its place in the list.
 pub fn find_pfs<'a>(list: &'a [Pfs], name: &Name) -> Option<(usize, &'a Pfs)>
@@ -36,4 +38,29 @@ pub fn has_name(list: &[Pfs], name: &Name) -> bool
         Some(_) => true,
         None => false,
     }
+}
+
+/// A copy of a PFS without the files that have no link.
+fn clean_pfs(alloc: Global, pfs: &Pfs) -> Result<Pfs, NoMemory>
+    ensures { IfOk result (λ clean. clean ≡ trimmed map.empty pfs.now) }
+{
+    let name = pfs.name.copy(alloc)?;
+    let table = pfs.table.copy_linked(alloc)?;
+    Ok(Pfs {
+        id: pfs.id,
+        name,
+        next: pfs.next,
+        table,
+    })
+}
+
+/// Copies of PFSs without the files that have no link.
+pub fn clean_pfss(alloc: Global, list: &[Pfs]) -> Result<Vec<Pfs>, NoMemory>
+    ensures { IfOk result (λ clean. clean.items ≡ cleaned_all list.now) }
+{
+    let mut clean = Vec::new(alloc);
+    for pfs in list {
+        clean.push(clean_pfs(alloc, pfs)?)?;
+    }
+    Ok(clean)
 }

@@ -56,7 +56,7 @@ fn enter(alloc: Global, forest: &mut Forest, entry: &Entry) -> Result<bool, NoMe
 }
 
 /// Whether an item is right; and the forest after it.
-fn pass_over(alloc: Global, forest: &mut Forest, item: &Item) -> Result<bool, NoMemory>
+pub fn pass_over(alloc: Global, forest: &mut Forest, item: &Item) -> Result<bool, NoMemory>
     requires { IsLawfulItem item.now }
     ensures right { IfOk result (λ right. IsTrue right ↔ IsRight forest.old item.now) }
     ensures after { OnOk result (forest.new ≡ after_item forest.old item.now) }
@@ -67,8 +67,8 @@ fn pass_over(alloc: Global, forest: &mut Forest, item: &Item) -> Result<bool, No
     }
 }
 
-/// Runs the commands of a history over a forest again: whether each reply is the forest's, or the place of
-/// the first that isn't. A refusal from outside changes nothing, and a Bulk stands for Done as the reply to
+/// Runs the commands of a history over a forest again, without the handles that it had: whether each reply is
+/// the forest's, or the place of the first that isn't. A refusal from outside changes nothing, and a Bulk stands for Done as the reply to
 /// a bulkfree. The history has fewer than 2^32 items, and each is lawful. The error is want of memory.
 pub fn replay(alloc: Global, start: Forest, history: &History) -> Result<Replay, NoMemory>
     requires lawful { All IsLawfulItem history.now.items }
@@ -76,6 +76,7 @@ pub fn replay(alloc: Global, start: Forest, history: &History) -> Result<Replay,
     ensures { IfOk result (λ told. IsReplay told start history.now.items) }
 {
     let mut forest = start;
+    forest.close_all(alloc);
     let mut at = 0;
     for item in history.items() {
         if !pass_over(alloc, &mut forest, item)? {

@@ -3,6 +3,7 @@ ghost use Rattle.std.specs.Option.{option_copied};
 ghost use Rattle.std.specs.FinMap as map;
 ghost use Rattle.h2_forest.specs.Node.{Entries};
 ghost use Rattle.h2_forest.specs.Table.{entries_at, entered, left, looked_up, relinked, links_of, with_links, with_bytes, rewritten, is_orphan, without_orphans};
+ghost use Rattle.h2_forest.specs.Forest.{bare_table};
 ghost use Rattle.h2_contents.specs.Bytes.{written_at, cut_to};
 ghost use Rattle.h2_contents.specs.Payload.{payload_bytes};
 
@@ -295,4 +296,13 @@ impl Table {
         }
         Ok(copy)
     }
+}
+
+/// A root directory without entries.
+pub fn bare_table(alloc: Global) -> Result<Table, NoMemory>
+    ensures { IfOk result (λ t. t ≡ bare_table) }
+{
+    let mut table = Table::new(alloc);
+    table.insert(1, Node::Directory(Directory::new(alloc)))?;
+    Ok(table)
 }

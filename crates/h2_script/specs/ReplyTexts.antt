@@ -33,7 +33,7 @@ word_of Long = codes "long"
 word_of (Running client) = codes "running"
 word_of (NoSpace need free) = codes "no-space"
 word_of (Io before after) = codes "io"
-word_of (BadBlock place) = codes "bad-block"
+word_of (BadBlock place why) = codes "bad-block"
 word_of NoMemory = codes "no-memory"
 
 -- the numbers of a reply, with the words before them; of names and of bytes it is how many
@@ -49,7 +49,7 @@ numbers_of (Pfs names) = codes " " ++ decimal (length names)
 numbers_of (InUse handles) = codes " " ++ decimal handles
 numbers_of (Running client) = codes " " ++ decimal client
 numbers_of (NoSpace need free) = codes " " ++ (decimal need ++ (codes " " ++ decimal free))
-numbers_of (BadBlock place) = codes " " ++ decimal place
+numbers_of (BadBlock place why) = codes " " ++ decimal place
 numbers_of _ = []
 
 -- each name after a space

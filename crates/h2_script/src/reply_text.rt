@@ -64,7 +64,7 @@ fn numbers_of(alloc: Global, reply: &Reply) -> Result<String, AllocError>
         Reply::InUse(handles) => format!(in alloc; " {handles}"),
         Reply::Running(client) => format!(in alloc; " {client}"),
         Reply::NoSpace { need, free } => format!(in alloc; " {need} {free}"),
-        Reply::BadBlock { place } => format!(in alloc; " {place}"),
+        Reply::BadBlock { place, .. } => format!(in alloc; " {place}"),
         _ => Ok(String::new(alloc)),
     }
 }

@@ -1,5 +1,5 @@
 use super::*;
-use h2_command::{Command, Entry, History, Item, Mark, Reply};
+use h2_command::{Command, Entry, History, Item, Mark, Reply, Why};
 use h2_num::{Bytes, Name, Names, NoMemory};
 use std::alloc::Global;
 use std::test::Fail;
@@ -120,7 +120,13 @@ fn refusals(alloc: Global) -> Result<Vec<(Reply, &'static str)>, NoMemory> {
             },
             "io"
         ),
-        (Reply::BadBlock { place: 4195328 }, "bad-block 4195328"),
+        (
+            Reply::BadBlock {
+                place: 4195328,
+                why: Why::Inode
+            },
+            "bad-block 4195328"
+        ),
         (Reply::NoMemory, "no-memory"),
     ]?;
     Ok(told)

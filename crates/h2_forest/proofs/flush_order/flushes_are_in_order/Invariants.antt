@@ -1,5 +1,5 @@
-use Rattle.std.proofs.Common.{◌≡◌, drop}
-use Rattle.std.specs.Prelude.{◌↔◌, ℕ}
+use Rattle.std.proofs.Common.{drop}
+use Rattle.std.specs.Prelude.{◌↔◌}
 use Rattle.h2_forest.specs.History.{Each, IsFlushItem, after_flush_item, FlushesInOrder}
 use Rattle.h2_forest.proofs.flush_order.flushes_are_in_order.Given as goal
 

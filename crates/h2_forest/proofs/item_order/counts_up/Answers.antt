@@ -1,4 +1,4 @@
-use Rattle.std.proofs.Common.{◌≡◌, ◌+◌, drop, ap, sym, ◌∙◌, subst, refl}
+use Rattle.std.proofs.Common.{◌+◌, drop, ap, sym, ◌∙◌, subst, refl}
 use Rattle.std.specs.Prelude.{◌↔◌}
 use Rattle.h2_forest.specs.History.{Each, IsCounted, index_of, counted, CountsUp}
 use Rattle.h2_forest.specs.HistoryLaws.{each_next}

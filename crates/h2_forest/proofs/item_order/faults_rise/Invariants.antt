@@ -1,5 +1,5 @@
-use Rattle.std.proofs.Common.{◌≡◌, drop}
-use Rattle.std.specs.Prelude.{◌↔◌, ℕ}
+use Rattle.std.proofs.Common.{drop}
+use Rattle.std.specs.Prelude.{◌↔◌}
 use Rattle.h2_forest.specs.History.{Each, IsRise, io_of, risen, FaultsRise}
 use Rattle.h2_forest.proofs.item_order.faults_rise.Given as goal
 

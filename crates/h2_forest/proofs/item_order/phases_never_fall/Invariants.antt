@@ -1,5 +1,5 @@
-use Rattle.std.proofs.Common.{◌≡◌, drop}
-use Rattle.std.specs.Prelude.{◌↔◌, ℕ}
+use Rattle.std.proofs.Common.{drop}
+use Rattle.std.specs.Prelude.{◌↔◌}
 use Rattle.h2_forest.specs.History.{Each, IsFrom, or_later, phase_of, NeverFalls}
 use Rattle.h2_forest.proofs.item_order.phases_never_fall.Given as goal
 

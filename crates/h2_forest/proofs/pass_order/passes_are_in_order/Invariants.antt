@@ -1,6 +1,6 @@
 use Rattle.std.proofs.Common.{◌≡◌, drop}
 use Rattle.std.specs.Prelude.{◌↔◌}
-use Rattle.h2_forest.specs.History.{Each, after, IsPassItem, after_pass_item, EndsWell, PassesInOrder}
+use Rattle.h2_forest.specs.History.{Each, after, IsPassItem, after_pass_item}
 use Rattle.h2_forest.specs.HistoryLaws.{SumsFit}
 use Rattle.h2_forest.specs.declared.legality.Pass.TheVariants.{Idle}
 use Rattle.h2_forest.proofs.pass_order.passes_are_in_order.Given as goal

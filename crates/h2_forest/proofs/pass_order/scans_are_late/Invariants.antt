@@ -1,5 +1,5 @@
-use Rattle.std.proofs.Common.{◌≡◌, drop}
-use Rattle.std.specs.Prelude.{◌↔◌, ℕ}
+use Rattle.std.proofs.Common.{drop}
+use Rattle.std.specs.Prelude.{◌↔◌}
 use Rattle.h2_forest.specs.History.{Each, IsLateScan, after_durable, ScansAreLate}
 use Rattle.h2_forest.proofs.pass_order.scans_are_late.Given as goal
 

@@ -1,4 +1,4 @@
-use Rattle.std.proofs.Common.{◌≡◌, ap, sym, ◌∙◌, ◌+◌, ℕ, add-zero}
+use Rattle.std.proofs.Common.{ap, sym, ◌∙◌, ◌+◌, ℕ, add-zero}
 use Rattle.std.specs.Prelude.{count_by, nat_eq}
 use Rattle.std.specs.FinMap as map
 use Rattle.h2_maps.specs.Maps.{kept_values}

@@ -1,4 +1,4 @@
-use Rattle.std.proofs.Common.{◌≡◌, ap, sym, ◌∙◌}
+use Rattle.std.proofs.Common.{ap, ◌∙◌}
 use Rattle.std.specs.FinMap as map
 use Rattle.h2_maps.specs.Maps.{one_removed}
 use Rattle.h2_forest.specs.HandleLaws.{handles_total, exact_handles}

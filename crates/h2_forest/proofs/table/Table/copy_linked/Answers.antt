@@ -1,9 +1,9 @@
-use Rattle.std.proofs.Common.{◌≡◌, ap, sym, ◌∙◌, refl, false}
-use Rattle.std.specs.Prelude.{not, Some, cond, ◌||◌}
+use Rattle.std.proofs.Common.{ap, sym, ◌∙◌, refl, false}
+use Rattle.std.specs.Prelude.{not, Some, ◌||◌}
 use Rattle.std.specs.List.{filter}
 use Rattle.std.specs.Ordering.{nat_cmp}
 use Rattle.std.specs.Cmp.{nat_cmp_total}
-use Rattle.std.specs.FinMap.{from_entries, empty, nat_cmp-IsAntisymmetric}
+use Rattle.std.specs.FinMap.{empty, nat_cmp-IsAntisymmetric}
 use Rattle.h2_maps.specs.Maps.{put_all, kept_passing}
 use Rattle.h2_forest.specs.Table.{is_orphan, without_orphans}
 use Rattle.h2_forest.specs.declared.table.Node.{Node}

@@ -1,7 +1,7 @@
 use Rattle.std.proofs.Common.{ap, sym, ◌∙◌, subst, refl}
 use Rattle.std.specs.Prelude.{IsSome}
 use Rattle.std.specs.FinMap as map
-use Rattle.h2_contents.specs.Bytes.{written_at, cut_to}
+use Rattle.h2_contents.specs.Bytes.{written_at}
 use Rattle.h2_contents.specs.Payload.{payload_bytes}
 use Rattle.h2_forest.specs.Table.{with_bytes}
 use Rattle.h2_forest.specs.TableLaws.{put_back, has_inserted, changed_is, on_ok, on_err, back_as_it_was}
