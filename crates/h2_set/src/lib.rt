@@ -24,4 +24,6 @@ pub use set::{PutAnswer, Set, Split};
 pub use sets::{NodeId, Sets};
 
 #[cfg(test)]
+mod set_tests;
+#[cfg(test)]
 mod tests;

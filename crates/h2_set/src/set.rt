@@ -6,8 +6,8 @@ ghost use Rattle.h2_set.specs.RefSet.{RefSet, IsRefSet, IsSplitOf, Takes, Splits
 ghost use Rattle.h2_set.specs.SetBytes.{slots_of};
 ghost use Rattle.h2_ref.specs.Ref.{empty_ref};
 
-use crate::range::holds;
 use crate::conditions::{are_aligned, are_one_class, ends_in_keys, is_apart};
+use crate::range::holds;
 use crate::split::{parts_of, place_for, with_one_more};
 use arrayvec::ArrayVec;
 use h2_ref::Ref;
