@@ -27,4 +27,6 @@ pub use set_encoding::encode_set;
 pub use sets::{NodeId, Sets};
 
 #[cfg(test)]
+mod set_tests;
+#[cfg(test)]
 mod tests;

@@ -4,8 +4,8 @@ ghost use Rattle.h2_ref.specs.declared.reference.Ref.{Ref};
 ghost use Rattle.h2_set.specs.Ranges.{holds, IsPlaceOf, NoneHolds, put, limit, IsApart, IsAligned, AllAligned, IsOneClass, Rising, lies};
 ghost use Rattle.h2_set.specs.RefSet.{RefSet, IsRefSet, IsSplitOf, Takes, Splits, rest_of, with_rest};
 
-use crate::range::holds;
 use crate::conditions::{are_aligned, are_one_class, ends_in_keys, is_apart};
+use crate::range::holds;
 use crate::split::{parts_of, place_for, with_one_more};
 use arrayvec::ArrayVec;
 use h2_ref::Ref;
