@@ -109,6 +109,8 @@ fn insert_both(
     assert!(rt; room.saturating_sub(tree.sets.room()) <= 63, "room at {key}");
     assert!(rt; spare.saturating_sub(tree.sets.spare()) <= 1, "spare at {key}");
     assert_eq!(rt; tree.lookup(alloc, key)?, Some(leaf), "key {key}");
+    let next = key.saturating_add(1);
+    assert_eq!(rt; tree.lookup(alloc, next)?, list.find(next), "key {next}");
     Ok(())
 }
 

@@ -142,6 +142,46 @@ fn each_load_may_fail(rt: HostRuntime) -> Result<(), Fail> {
     Ok(())
 }
 
+// Adds a leaf where no node is spare: after a refusal the list is as before, and a second try succeeds. Whether it was
+// refused.
+fn insert_unspared(
+    rt: &(impl Abort + AllocGlobal),
+    tree: &mut Tree,
+    list: &mut PlainList,
+    key: u64,
+) -> Result<bool, Fail>
+    requires { IsTree tree.old.sets tree.old.root.0 tree.old.keys tree.old.leaf_bits }
+    ensures { IsTree tree.new.sets tree.new.root.0 tree.new.keys tree.new.leaf_bits }
+{
+    tree.refuse_spare(1);
+    let first = call_both(rt, tree, list, Call::Insert(key))?;
+    tree.refuse_spare(0);
+    assert_eq!(rt; call_both(rt, tree, list, Call::Range)?, Ok(()), "key {key}");
+    if first == Ok(()) {
+        return Ok(false);
+    }
+    assert_eq!(rt; first, Err(Trouble::NoMemory), "key {key}");
+    assert_eq!(rt; list.find(key), None, "key {key}");
+    assert_eq!(rt; call_both(rt, tree, list, Call::Insert(key))?, Ok(()), "key {key}");
+    assert_eq!(rt; call_both(rt, tree, list, Call::Range)?, Ok(()), "key {key}");
+    Ok(true)
+}
+
+#[test]
+fn each_split_needs_a_spare_node(rt: HostRuntime) -> Result<(), Fail> {
+    let (mut tree, mut list) = filled(&rt)?;
+    let mut refused = 0u64;
+    for i in 0..LEAVES {
+        let key = i.saturating_mul(STEP).saturating_add(1);
+        if insert_unspared(&rt, &mut tree, &mut list, key)? {
+            refused = refused.saturating_add(1);
+        }
+    }
+    assert!(rt; refused >= 4, "{refused} splits");
+    assert_eq!(rt; list.leaves.len(), 400);
+    Ok(())
+}
+
 #[test]
 fn a_split_needs_a_spare_node(rt: HostRuntime) -> Result<(), Fail> {
     let alloc = rt.alloc();
