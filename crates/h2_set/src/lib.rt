@@ -10,6 +10,7 @@
 #![tactic(auto)]
 
 mod bytes;
+mod conditions;
 mod laws;
 mod range;
 mod set;

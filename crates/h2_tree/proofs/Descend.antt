@@ -1,6 +1,6 @@
 -- An insertion below a node is one into the node's tree.
 use Rattle.std.proofs.Common.{◌≡◌, ℕ, ◌+◌, ◌<◌, ◌≤◌, ◌^◌, true, arith, sym, ◌∙◌, ap, List, Option, Some, subst, ◌⊎◌, inl, inr, slice_get, Result, Ok, Err, IfOk}
-use Rattle.std.specs.Prelude.{OnOk, OnErr}
+use Rattle.std.specs.Prelude.{OnErr}
 use Rattle.h2_ref.specs.declared.faults.Trouble.{Trouble}
 use Rattle.std.proofs.lemmas.Nat.{pow_pos, pow_below}
 use Rattle.h2_ref.specs.declared.reference.Ref.{Ref}
@@ -12,6 +12,7 @@ use Rattle.h2_set.specs.RenewLaws.{Keeps-Renews, Renews-trans}
 use Rattle.h2_set.specs.LeafLaws.{leaves_rising, holds_inside, find_below}
 use Rattle.h2_set.specs.ChangeLaws.{Keeps-Stays, Keeps-trans, leaves_replace, put-append_left, put-append_right, limit_inside, apart_places}
 use Rattle.h2_tree.specs.Changes.{Under, Takes, Inserts, PathUnloaded}
+use Rattle.h2_tree.proofs.Going.{Prepares-trans, Walks-prepares, way_down}
 use Rattle.h2_tree.proofs.Climb.{reaches_child}
 
 module _ (f h : Forest) (at i c : ℕ) (leaf q : Ref) (sound : IsSound f) (stands : f.stands at ≡ true) (takes : Takes f at leaf) (read : slice_get (refs f at) i ≡ Some q) (ind : is_indirect q ≡ true) (in_q : holds leaf.key q ≡ true) (walks : Walks f h) (loads : Loads f h at q.key) (link : h.link at q.key ≡ loaded c) where
@@ -65,8 +66,8 @@ module _ (f h : Forest) (at i c : ℕ) (leaf q : Ref) (sound : IsSound f) (stand
   not_under : (m : ℕ) → h.bits c < h.bits m → h.low c ≡ q.key → (Under h m c → ⊥)
   not_under m more low u = omega (arith, u.low, u.high, pow_below (h.bits c) (h.bits m) more)
 
-  pub insert_below : (g : Forest) → Inserts h g c leaf → Inserts f g at leaf
-  insert_below g ins =
+  pub insert_below : (g : Forest) (old : Option Ref) → Inserts h g c leaf old → Inserts f g at leaf old
+  insert_below g old ins =
       let child = node.child q.key c link in
       let kept : Keeps h g at = ins.tree at there.place.stands (sym child.root) (not_under at child.fewer child.low) in
       let keep = λ (j d : ℕ) (r : Ref) (read' : slice_get (refs h at) j ≡ Some r) (ind' : is_indirect r ≡ true) (link' : h.link at r.key ≡ loaded d) (ne : j ≡ i → ⊥).
@@ -110,13 +111,27 @@ module _ (f h : Forest) (at i c : ℕ) (leaf q : Ref) (sound : IsSound f) (stand
             let s = ins.above m stay.place.stands (λ e. root (sym stay.place.root ∙ e ∙ child.root ∙ there.place.root)) in
             Renews-trans f h g m (Keeps-Renews f h m k) s;
         still = λ m st. let stay = (walks.stays m st).place in InPlace-trans f h g m stay (ins.still m stay.stands);
+        goes = (let it = ins.goes in record {
+          then = it.then;
+          prepares = Prepares-trans f h it.then (Walks-prepares f h walks) it.prepares;
+          node = it.node;
+          stands = it.stands;
+          way = way_down h it.then leaf.key at i c it.node q it.prepares there.place.stands read_h in_q ind link it.way;
+          blocks = it.blocks;
+          change = it.change;
+          only = it.only;
+          room = omega (arith, it.room, walks.room);
+          spare = it.spare;
+        });
+        filled = ins.filled;
         room = omega (arith, ins.room, walks.room);
+        room_falls = omega (arith, ins.room_falls, walks.room);
         spare = omega (arith, ins.spare, walks.spare);
       }
 
   -- what the call below ensures, at whatever it answered
-  pub ok_below : (g : Forest) (r : Result (Option Ref) Trouble) → OnOk r (Inserts h g c leaf) → OnOk r (Inserts f g at leaf)
-  ok_below g (Ok o) ins = insert_below g ins
+  pub ok_below : (g : Forest) (r : Result (Option Ref) Trouble) → IfOk r (Inserts h g c leaf) → IfOk r (Inserts f g at leaf)
+  ok_below g (Ok o) ins = insert_below g o ins
   ok_below g (Err e) ins = tt
 
   pub old_below : (r : Result (Option Ref) Trouble) → IfOk r (λ o. (l : List Ref) → LeavesOf h c l → o ≡ find leaf.key l) → IfOk r (λ o. (l : List Ref) → LeavesOf f at l → o ≡ find leaf.key l)

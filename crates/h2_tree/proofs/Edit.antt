@@ -1,18 +1,19 @@
 -- The set of a node with a leaf more, or with a leaf replaced.
-use Rattle.std.proofs.Common.{◌≡◌, ℕ, ◌+◌, ◌<◌, ◌≤◌, ◌^◌, Bool, true, false, arith, refl, sym, ◌∙◌, ap, List, [], ◌∷◌, length, Some, subst, ◌⊎◌, inl, inr, slice_get, slice_set, suc, zero}
+use Rattle.std.proofs.Common.{◌≡◌, ℕ, ◌+◌, ◌<◌, ◌≤◌, ◌^◌, Bool, true, false, arith, refl, sym, ◌∙◌, ap, List, [], ◌∷◌, length, Option, Some, None, subst, ◌⊎◌, inl, inr, slice_get, slice_set, suc, zero}
 use Rattle.std.proofs.lemmas.Option.{none-some, slice_get_within}
 use Rattle.std.proofs.lemmas.Bool.{cases_lt}
 use Rattle.h2_ref.specs.declared.reference.Ref.{Ref}
 use Rattle.h2_set.specs.Ranges.{leads_on, limit, holds, NoneHolds, put, IsApart, is_indirect}
 use Rattle.h2_set.specs.RefSet.{RefSet}
-use Rattle.h2_set.specs.Forest.{Forest, refs, IsSoundNode, IsSound, Fits, Alters, Keeps}
+use Rattle.h2_set.specs.Forest.{Forest, refs, IsSoundNode, IsSound, Fits, Alters, Stores, Keeps}
 use Rattle.h2_set.specs.EditLaws.{Rising-put, Rising-set, length-put, length-slice_set, set_put, set_swap}
 use Rattle.h2_set.specs.ChangeLaws.{leaves_put, leaves_swap, apart_aligned, step_up}
 use Rattle.h2_set.specs.LeafLaws.{holds_inside}
 use Rattle.h2_set.specs.PutLaws.{put_from, put_keeps}
 use Rattle.h2_set.specs.RenewLaws.{apart_alike, Alike-length, Alike-sym, like_at}
 use Rattle.h2_tree.proofs.Store.{WithLeaf}
-use Rattle.h2_tree.specs.Changes.{Takes}
+use Rattle.h2_tree.specs.Changes.{Takes, TakesIn, replaced, placed}
+use Rattle.h2_tree.proofs.Going.{own_set}
 
 pub with_put : (h : Forest) (at : ℕ) (leaf : Ref) → IsSoundNode h at → IsApart leaf (refs h at) → is_indirect leaf ≡ false → h.low at ≤ leaf.key → limit leaf ≤ h.low at + 2 ^ h.bits at → (let s = h.set at in length s.refs < s.capacity) → WithLeaf h at leaf (let s = h.set at in let t : RefSet = record { refs = put leaf s.refs; capacity = s.capacity } in t)
 with_put h at leaf node a kind low high room = record {
@@ -25,7 +26,7 @@ with_put h at leaf node a kind low high room = record {
   leaves = λ l hl. leaves_put leaf hl _ _ node.inside a kind;
 }
 
-set_from : (leaf : Ref) (rs : List Ref) (at i : ℕ) (r : Ref) → slice_get (slice_set rs at leaf) i ≡ Some r → (r ≡ leaf) ⊎ ((j : ℕ) × (slice_get rs j ≡ Some r))
+pub set_from : (leaf : Ref) (rs : List Ref) (at i : ℕ) (r : Ref) → slice_get (slice_set rs at leaf) i ≡ Some r → (r ≡ leaf) ⊎ ((j : ℕ) × (slice_get rs j ≡ Some r))
 set_from leaf [] at i r read = absurd (none-some r read)
 set_from leaf (x ∷ xs) zero zero r read = let same : leaf ≡ r = (cc) in inl (sym same)
 set_from leaf (x ∷ xs) zero (suc i) r read = inr (suc i, read)
@@ -128,3 +129,28 @@ module _ (f h : Forest) (at : ℕ) (leaf : Ref) (sound : IsSound f) (stands : f.
 
   pub old_copy : (i : ℕ) (q : Ref) → IsSameAt (refs f at) i leaf → (copy got : RefSet) → copy ≡ got → got ≡ h.set at → slice_get copy.refs i ≡ Some q → slice_get (refs f at) i ≡ Some q
   old_copy i q same copy got e1 e2 read = old_altered i q same (subst (λ (s : RefSet). slice_get s.refs i ≡ Some q) (e1 ∙ e2) read)
+
+  -- what is below indirect references of the new set is what was there
+  links : (g : Forest) (s : RefSet) → Stores h g at s → (i : ℕ) (r : Ref) → slice_get (refs g at) i ≡ Some r → is_indirect r ≡ true → g.link at r.key ≡ f.link at r.key
+  links g s stores i r read ind = stores.link i r (subst (λ (t : RefSet). slice_get t.refs i ≡ Some r) stores.set read) ind ∙ here.link r.key
+
+  -- how a copy of the set that was put into takes the leaf in
+  pub places : (g : Forest) → NoneHolds leaf.key (refs f at) → (let s = f.set at in length s.refs < s.capacity) → (copy got s : RefSet) → copy ≡ got → got ≡ h.set at → s ≡ record { refs = put leaf copy.refs; capacity = copy.capacity } → Stores h g at s → TakesIn f g at leaf 0 None
+  places g miss room copy got s e1 e2 e3 stores =
+      let same = own_set f h at sound stands alters in
+      placed (record { none = miss; apart = apart_node f at leaf (sound.node at stands) takes miss; space = room; link = links g s stores; set = stores.set ∙ e3 ∙ ap (λ (s : RefSet). let t : RefSet = record { refs = put leaf s.refs; capacity = s.capacity } in t) (e1 ∙ e2 ∙ same) })
+
+  pub replaces : (g : Forest) (i : ℕ) (q : Ref) → IsSameAt (refs f at) i leaf → (copy got s : RefSet) → copy ≡ got → got ≡ h.set at → s ≡ record { refs = slice_set copy.refs i leaf; capacity = copy.capacity } → slice_get copy.refs i ≡ Some q → Stores h g at s → TakesIn f g at leaf 0 (Some q)
+  replaces g i q facts copy got s e1 e2 e3 read stores =
+      let same = own_set f h at sound stands alters in
+      let read_f : slice_get (refs f at) i ≡ Some q = subst (λ (s : RefSet). slice_get s.refs i ≡ Some q) (e1 ∙ e2 ∙ same) read in
+      let it = facts q read_f in
+      replaced (record {
+        place = i;
+        was = read_f;
+        leaf_was = it.0;
+        key = it.1;
+        keybits = it.2;
+        link = links g s stores;
+        set = stores.set ∙ e3 ∙ ap (λ (s : RefSet). let t : RefSet = record { refs = slice_set s.refs i leaf; capacity = s.capacity } in t) (e1 ∙ e2 ∙ same);
+      })

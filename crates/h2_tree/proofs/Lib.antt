@@ -1,12 +1,16 @@
 mod Answering
 mod Climb
 mod Collect
+mod Going
 mod Store
 mod Edit
 mod Parted
 mod Descend
 mod Readied
 mod Only
+mod Paths
+mod Leaving
+mod Touching
 mod Removal
 mod RemoveBelow
 mod Taking

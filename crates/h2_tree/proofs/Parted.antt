@@ -1,9 +1,9 @@
 -- A leaf that goes into a set which is split for it.
-use Rattle.std.proofs.Common.{◌≡◌, ℕ, ◌+◌, ◌≤◌, ◌^◌, true, arith, refl, sym, ◌∙◌, ap, length, subst}
+use Rattle.std.proofs.Common.{◌≡◌, ℕ, ◌+◌, ◌≤◌, ◌^◌, Bool, true, false, arith, refl, sym, ◌∙◌, ap, List, length, Some, None, slice_get, subst}
 use Rattle.h2_ref.specs.declared.reference.Ref.{Ref}
 use Rattle.h2_set.specs.declared.set.Split.{Split}
 use Rattle.std.specs.Prelude.{filter, not}
-use Rattle.h2_set.specs.Ranges.{Rising, limit, put, lies, NoneHolds, IsApart, AllAligned, IsOneClass}
+use Rattle.h2_set.specs.Ranges.{Rising, limit, put, lies, Sides, NoneHolds, IsApart, AllAligned, IsOneClass}
 use Rattle.h2_set.specs.RefSet.{RefSet, IsSplitOf, with_rest}
 use Rattle.h2_set.specs.Forest.{Forest, refs, loaded, HasLeaves, LeavesOf, IsSoundNode, IsSound, Stays, Keeps, Alters, MadeFrom, Makes}
 use Rattle.h2_set.specs.StayLaws.{leaves_stay, Fixed-trans, InPlace-trans}
@@ -12,9 +12,11 @@ use Rattle.h2_set.specs.ChangeLaws.{Keeps-Stays, Keeps-trans, Same-Keeps, below_
 use Rattle.h2_set.specs.PartLaws.{Divides, halves, inner_of}
 use Rattle.h2_set.specs.RenewLaws.{Keeps-Renews, Renews-trans, Alike-length}
 use Rattle.h2_set.specs.MadeLaws.{PartsNode, parts_node, put_aligned, put_class}
-use Rattle.h2_tree.specs.Changes.{Under, Takes, Inserts}
-use Rattle.h2_tree.proofs.Store.{all_still, leaf_fits}
-use Rattle.h2_tree.proofs.Edit.{apart_altered}
+use Rattle.h2_tree.specs.Changes.{Under, Takes, TakesIn, arrived, Inserts}
+use Rattle.h2_tree.specs.Changes.{parted as parted_by}
+use Rattle.h2_tree.proofs.Going.{own_set, changes_only, Prepares-refl, none_empty}
+use Rattle.h2_tree.proofs.Store.{all_still, leaf_fits, alters_still}
+use Rattle.h2_tree.proofs.Edit.{apart_altered, apart_node}
 
 module _ (f h g : Forest) (at c : ℕ) (leaf : Ref) (set : RefSet) (s : Split) (sound : IsSound f) (stands : f.stands at ≡ true) (takes : Takes f at leaf) (alters : Alters f h at) (made : MadeFrom h at leaf set s) (makes : Makes h g at c set s) where
   here : Keeps f h at
@@ -41,8 +43,44 @@ module _ (f h g : Forest) (at c : ℕ) (leaf : Ref) (set : RefSet) (s : Split) (
   moved_refs : refs g c ≡ inner_of s.key s.keybits (put leaf (refs h at))
   moved_refs = ap (λ (t : RefSet). t.refs) (makes.moved ∙ made.moved)
 
-  pub parted : 63 ≤ f.room → Inserts f g at leaf
-  parted enough =
+  same : h.set at ≡ f.set at
+  same = own_set f h at sound stands alters
+
+  not_there : f.stands c ≡ false
+  not_there = by (f.stands c) refl
+    where
+      by : (b : Bool) → f.stands c ≡ b → f.stands c ≡ false
+      by false e = e
+      by true e = let clash : true ≡ false = sym (alters_still f h at alters c e) ∙ makes.fresh in cc
+
+  takes_in : NoneHolds leaf.key (refs f at) → TakesIn f g at leaf 1 None
+  takes_in miss = parted_by (record {
+    none = miss;
+    apart = apart_node f at leaf (sound.node at stands) takes miss;
+    sides = subst (λ (t : RefSet). (i : ℕ) (r : Ref) → slice_get (put leaf t.refs) i ≡ Some r → Sides s.key s.keybits r) same parting.sides;
+    below_moved = λ k le lt. makes.below_moved k le lt ∙ here.link k;
+    below_kept = λ k out. makes.below_kept k out ∙ here.link k;
+    full = subst (λ (t : RefSet). length t.refs ≡ t.capacity) same made.full;
+    key = s.key;
+    bits = s.keybits;
+    split = subst (λ (t : RefSet). IsSplitOf (put leaf t.refs) s.key s.keybits) same made.split;
+    node = c;
+    fresh = not_there;
+    moved = subst (λ (t : RefSet). g.set c ≡ record { refs = filter (lies s.key s.keybits) (put leaf t.refs); capacity = 32 }) same (makes.moved ∙ made.moved);
+    new_writable = makes.new_writable;
+    ref = makes.ref;
+    indirect = makes.indirect;
+    ref_key = makes.key;
+    ref_bits = makes.keybits;
+    link = makes.child;
+    set =
+        let kept = ap (λ (z : List Ref). let t : RefSet = record { refs = put makes.ref z; capacity = set.capacity } in t) made.kept in
+        let sized = ap (λ (z : ℕ). let t : RefSet = record { refs = put makes.ref (filter (λ q. not (lies s.key s.keybits q)) (put leaf (refs h at))); capacity = z } in t) made.capacity in
+        subst (λ (t : RefSet). g.set at ≡ record { refs = put makes.ref (filter (λ q. not (lies s.key s.keybits q)) (put leaf t.refs)); capacity = t.capacity }) same (makes.now ∙ kept ∙ sized);
+  })
+
+  pub parted : NoneHolds leaf.key (refs f at) → 63 ≤ f.room → Inserts f g at leaf None
+  parted miss enough =
       let P : ℕ → Type 0 = λ m. (f.stands m ≡ true) × (f.root m ≡ f.root at) in
       let closed : (m k c : ℕ) → P m → f.link m k ≡ loaded c → P c = λ m k c p link. let child = (sound.node m p.0).child k c link in (child.stands, child.root ∙ p.1) in
       let stay : (m : ℕ) → P m → Stays f h m = λ m p. Keeps-Stays f h m (alters.tree m p.0 p.1) in
@@ -67,6 +105,20 @@ module _ (f h g : Forest) (at c : ℕ) (leaf : Ref) (set : RefSet) (s : Split) (
             Renews-trans f h g m k (Keeps-Renews h g m (Same-Keeps h g m (makes.others m k.place.stands ne)));
         still = all_still f h g at alters makes.place (λ m st ne. Same-Keeps h g m (makes.others m st ne));
         room = (let slope = (sound.node at stands).slope in omega (arith, enough, slope, parting.fewer, here.place.bits, alters.room, makes.room));
+        goes = record {
+          then = f;
+          prepares = Prepares-refl f sound;
+          node = at;
+          stands = stands;
+          way = arrived;
+          blocks = 1;
+          change = takes_in miss;
+          only = changes_only f h g at (λ m. ⊥) alters makes.place (λ m st ne not_gone. makes.others m st ne);
+          room = omega (arith, alters.room, makes.room);
+          spare = omega (arith, alters.spare, makes.spare);
+        };
+        filled = none_empty g makes.sound;
+        room_falls = omega (arith, alters.room, makes.room);
         spare = omega (arith, alters.spare, makes.spare);
       }
 

@@ -1,5 +1,5 @@
 -- An insertion after spare nodes were made ready.
-use Rattle.std.proofs.Common.{◌≡◌, ℕ, ◌<◌, ◌≤◌, ◌^◌, true, arith, sym, ◌∙◌, ap, length, subst, inl, inr}
+use Rattle.std.proofs.Common.{◌≡◌, ℕ, ◌<◌, ◌≤◌, ◌^◌, true, arith, sym, ◌∙◌, ap, length, Option, subst, inl, inr}
 use Rattle.std.proofs.lemmas.Bool.{cases_lt}
 use Rattle.h2_ref.specs.declared.reference.Ref.{Ref}
 use Rattle.h2_set.specs.Ranges.{NoneHolds}
@@ -9,6 +9,7 @@ use Rattle.h2_set.specs.StayLaws.{Fixed-trans, InPlace-trans, Readies-leaves}
 use Rattle.h2_set.specs.ChangeLaws.{Same-Keeps, Keeps-trans}
 use Rattle.h2_set.specs.RenewLaws.{Keeps-Renews, Renews-trans}
 use Rattle.h2_tree.specs.Changes.{Takes, Inserts}
+use Rattle.h2_tree.proofs.Going.{Prepares-trans, Readies-prepares}
 
 module _ (f h : Forest) (at : ℕ) (leaf : Ref) (stands : f.stands at ≡ true) (ready : ReadiesOnly f h) where
   pub takes_after : Takes f at leaf → Takes h at leaf
@@ -27,8 +28,8 @@ module _ (f h : Forest) (at : ℕ) (leaf : Ref) (stands : f.stands at ≡ true) 
   pub none_after : NoneHolds leaf.key (refs f at) → NoneHolds leaf.key (refs h at)
   none_after miss = subst (λ (s : RefSet). NoneHolds leaf.key s.refs) (sym (ready.same at stands).set) miss
 
-  pub inserts_after : (g : Forest) → IsSound f → Inserts h g at leaf → Inserts f g at leaf
-  inserts_after g sound ins =
+  pub inserts_after : (g : Forest) (old : Option Ref) → IsSound f → Inserts h g at leaf old → Inserts f g at leaf old
+  inserts_after g old sound ins =
       let keeps = λ (m : ℕ) (st : f.stands m ≡ true). Same-Keeps f h m (ready.same m st) in
       let place = (ready.same at stands).place in
       record {
@@ -43,7 +44,21 @@ module _ (f h : Forest) (at : ℕ) (leaf : Ref) (stands : f.stands at ≡ true) 
             let k = keeps m st in
             Renews-trans f h g m (Keeps-Renews f h m k) (ins.above m k.place.stands (λ e. root (sym k.place.root ∙ e ∙ place.root)));
         still = λ m st. let k = (keeps m st).place in InPlace-trans f h g m k (ins.still m k.stands);
+        goes = (let it = ins.goes in record {
+          then = it.then;
+          prepares = Prepares-trans f h it.then (Readies-prepares f h ready) it.prepares;
+          node = it.node;
+          stands = it.stands;
+          way = it.way;
+          blocks = it.blocks;
+          change = it.change;
+          only = it.only;
+          room = omega (arith, it.room, ready.room);
+          spare = it.spare;
+        });
+        filled = ins.filled;
         room = omega (arith, ins.room, ready.room);
+        room_falls = omega (arith, ins.room_falls, ready.room);
         spare = omega (arith, ins.spare, ready.spare);
       }
 

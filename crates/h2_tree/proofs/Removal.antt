@@ -7,14 +7,15 @@ use Rattle.h2_ref.specs.declared.reference.Ref.{Ref}
 use Rattle.h2_set.specs.Ranges.{limit, holds, without, is_indirect}
 use Rattle.h2_set.specs.RefSet.{RefSet}
 use Rattle.h2_set.specs.Forest.{Forest, refs, loaded, HasLeaves, LeavesOf, KeepsLeaves, IsSoundNode, IsSound, InPlace, Stays, Keeps, Alters, Stores, Storable, Loses, GoesBelow, GoesWith}
-use Rattle.h2_set.specs.StayLaws.{Alike-refl, Fixed-trans, InPlace-trans, leaves_stay}
+use Rattle.h2_set.specs.StayLaws.{Alike-refl, Fixed-trans, InPlace-trans, Walks-refl, leaves_stay}
 use Rattle.h2_set.specs.LeafLaws.{holds_inside, place_above}
 use Rattle.h2_set.specs.EditLaws.{set_cut, Rising-remove, length-remove_set, remove_from, remove_keeps}
 use Rattle.h2_set.specs.ChangeLaws.{Keeps-Stays, Keeps-trans, Same-Keeps, leaves_move, same_or_not}
 use Rattle.h2_set.specs.SplitLaws.{nested, below_high}
 use Rattle.h2_set.specs.RenewLaws.{Keeps-Renews, Renews-trans, Alike-length}
 use Rattle.h2_set.specs.CutLaws.{leaves_cut, leaves_drop}
-use Rattle.h2_tree.specs.Changes.{Under, LeadsOnly, itself, down, IsFree, Removes}
+use Rattle.h2_tree.specs.Changes.{Under, LeadsOnly, itself, down, IsFree, arrived, GoesAway, below_it, named, Removes}
+use Rattle.h2_tree.proofs.Going.{own_set, altered_place, changes_only, none_empty}
 use Rattle.h2_tree.proofs.Climb.{same_holder}
 use Rattle.h2_tree.proofs.Only.{in_holds, sole_leaves, only_holds, only_reaches, only_altered}
 
@@ -123,8 +124,26 @@ module _ (f h : Forest) (at i : ℕ) (leaf : Ref) (sound : IsSound f) (stands : 
           let inside = holds_inside leaf.key r (only_holds alters.sound here.place.stands only_h r there) in
           leaves_drop i c r leaf hl _ _ node.inside there k link (λ b hb. sole_leaves rest refl one b hb) inside.0
 
-  pub removes : (g : Forest) → Stores h g at s → 62 ≤ f.room → f.copies at ≤ 62 → Removes f g at leaf.key
-  removes g stores enough copies =
+  same : h.set at ≡ f.set at
+  same = own_set f h at sound stands alters
+
+  read_f : slice_get (refs f at) i ≡ Some q
+  read_f = subst (λ (t : RefSet). slice_get t.refs i ≡ Some q) same read
+
+  -- what the store lets go goes with the reference
+  below_goes : (m : ℕ) → f.stands m ≡ true → GoesBelow h m at s → GoesAway f at i leaf m
+  below_goes m st goes =
+      let p = altered_place f h at alters m st in
+      below_it q read_f (sym p.root ∙ goes.tree ∙ here.place.root) (omega (arith, goes.fewer, p.bits, here.place.bits)) (subst (λ z. holds z q ≡ true) p.low (lost_is (h.low m) goes.loses))
+
+  with_goes : (m : ℕ) → f.stands m ≡ true → GoesWith h m at s → GoesAway f at i leaf m
+  with_goes m st goes =
+      let p = altered_place f h at alters m st in
+      let it = goes_with m goes in
+      named (λ e. it.1 (p.root ∙ e ∙ sym here.place.root)) (sym (p.belongs (f.root at) leaf.key) ∙ it.0)
+
+  pub removes : (g : Forest) → Stores h g at s → (f.root at ≡ at) ⊎ (2 ≤ length (refs f at)) → 62 ≤ f.room → f.copies at ≤ 62 → Removes f g at leaf
+  removes g stores more enough copies =
       let P : ℕ → Type 0 = λ m. (f.stands m ≡ true) × (f.root m ≡ f.root at) in
       let closed : (m k c : ℕ) → P m → f.link m k ≡ loaded c → P c = λ m k c p link. let child = (sound.node m p.0).child k c link in (child.stands, child.root ∙ p.1) in
       let stay : (m : ℕ) → P m → Stays f h m = λ m p. Keeps-Stays f h m (alters.tree m p.0 p.1) in
@@ -164,8 +183,27 @@ module _ (f h : Forest) (at i : ℕ) (leaf : Ref) (sound : IsSound f) (stands : 
             let differs : h.root m ≡ h.root at → ⊥ = λ e. root (sym k.place.root ∙ e ∙ here.place.root) in
             let same = stores.others m k.place.stands (λ e. root (ap f.root e)) (λ goes. differs goes.tree) (λ goes. belongs (sym (k.place.belongs (f.root at) leaf.key) ∙ (goes_with m goes).0)) in
             Renews-trans f h g m k (Keeps-Renews h g m (Same-Keeps h g m same));
+        goes = record {
+          then = f;
+          walks = Walks-refl f sound;
+          node = at;
+          stands = stands;
+          way = arrived;
+          place = i;
+          only_leaf = only;
+          more = more;
+          set = stores.set ∙ ap (λ (t : RefSet). let w : RefSet = record { refs = remove t.refs i; capacity = t.capacity } in w) same;
+          link = λ j r read' ind.
+              let in_s : slice_get s.refs j ≡ Some r = subst (λ (t : RefSet). slice_get t.refs j ≡ Some r) stores.set read' in
+              stores.link j r in_s ind ∙ here.link r.key;
+          only = changes_only f h g at (GoesAway f at i leaf) alters stores.place (λ m st ne not_gone. stores.others m st ne (λ goes. not_gone (below_goes m (alters.none_new m st) goes)) (λ goes. not_gone (with_goes m (alters.none_new m st) goes)));
+          room = omega (arith, alters.room, stores.room);
+          spare = stores.spare ∙ alters.spare;
+        };
+        filled = none_empty g stores.sound;
         room = omega (arith, enough, copies, alters.room, stores.room);
-        spare = omega (arith, alters.spare, stores.spare);
+        room_falls = omega (arith, alters.room, stores.room);
+        spare = stores.spare ∙ alters.spare;
       }
 
   -- the same of a copy of the set that was cut
@@ -180,5 +218,5 @@ module _ (f h : Forest) (at i : ℕ) (leaf : Ref) (sound : IsSound f) (stands : 
     pub storable_copy : (f.root at ≡ at) ⊎ (2 ≤ length (refs f at)) → Storable h at t
     storable_copy more = subst (Storable h at) (sym set_is) (storable_without more)
 
-    pub removes_copy : (g : Forest) → Stores h g at t → 62 ≤ f.room → f.copies at ≤ 62 → Removes f g at leaf.key
-    removes_copy g stores enough copies = removes g (subst (Stores h g at) set_is stores) enough copies
+    pub removes_copy : (g : Forest) → Stores h g at t → (f.root at ≡ at) ⊎ (2 ≤ length (refs f at)) → 62 ≤ f.room → f.copies at ≤ 62 → Removes f g at leaf
+    removes_copy g stores more enough copies = removes g (subst (Stores h g at) set_is stores) more enough copies

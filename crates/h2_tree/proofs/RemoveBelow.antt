@@ -5,17 +5,26 @@ use Rattle.h2_ref.specs.declared.reference.Ref.{Ref}
 use Rattle.h2_set.specs.Ranges.{Rising, limit, holds, without, is_indirect}
 use Rattle.h2_set.specs.RefSet.{RefSet}
 use Rattle.h2_set.specs.Forest.{Forest, refs, loaded, LeavesOf, KeepsLeaves, IsSoundNode, IsSound, Stays, Keeps, Walks, Loads}
-use Rattle.h2_set.specs.StayLaws.{leaves_stay, Walks-leaves, Fixed-trans, InPlace-trans}
+use Rattle.h2_set.specs.StayLaws.{leaves_stay, Walks-leaves, Walks-trans, Fixed-trans, InPlace-trans}
 use Rattle.h2_set.specs.RenewLaws.{Keeps-Renews, Renews-trans}
 use Rattle.h2_set.specs.LeafLaws.{leaves_rising}
 use Rattle.h2_set.specs.ChangeLaws.{Keeps-Stays, Keeps-trans, leaves_replace, apart_places}
 use Rattle.h2_tree.specs.Changes.{Under, Removes}
+use Rattle.h2_tree.proofs.Going.{way_down, Walks-prepares}
 use Rattle.h2_set.specs.CutLaws.{without-append, without-append_left}
+
+-- the child that a load gave stands, and its bits are fewer
+module _ (f h : Forest) (at i c key : ℕ) (q : Ref) (sound : IsSound f) (stands : f.stands at ≡ true) (read : slice_get (refs f at) i ≡ Some q) (ind : is_indirect q ≡ true) (in_q : holds key q ≡ true) (walks : Walks f h) (loads : Loads f h at q.key) (link : h.link at q.key ≡ loaded c) where
+  pub child_stands : h.stands c ≡ true
+  child_stands = ((walks.sound.node at (walks.stays at stands).place.stands).child q.key c link).stands
+
+  pub child_fewer : h.bits c < f.bits at
+  child_fewer = (let there = walks.stays at stands in omega (arith, ((walks.sound.node at there.place.stands).child q.key c link).fewer, there.place.bits))
 
 without_right : (key low mid : ℕ) (xs ys : List Ref) → Rising low mid xs → mid ≤ key → without key (xs ++ ys) ≡ xs ++ without key ys
 without_right key low mid xs ys h le = without-append key low mid xs ys h le
 
-module _ (f h : Forest) (at i c key : ℕ) (q : Ref) (sound : IsSound f) (stands : f.stands at ≡ true) (read : slice_get (refs f at) i ≡ Some q) (ind : is_indirect q ≡ true) (in_q : holds key q ≡ true) (walks : Walks f h) (loads : Loads f h at q.key) (link : h.link at q.key ≡ loaded c) where
+module _ (f h : Forest) (at i c : ℕ) (leaf q : Ref) (sound : IsSound f) (stands : f.stands at ≡ true) (read : slice_get (refs f at) i ≡ Some q) (ind : is_indirect q ≡ true) (in_q : holds leaf.key q ≡ true) (walks : Walks f h) (loads : Loads f h at q.key) (link : h.link at q.key ≡ loaded c) where
   there : Stays f h at
   there = walks.stays at stands
 
@@ -28,17 +37,11 @@ module _ (f h : Forest) (at i c key : ℕ) (q : Ref) (sound : IsSound f) (stands
   bits_c : h.bits c ≡ q.keybits
   bits_c = node.bits i c q read_h ind link
 
-  pub child_stands : h.stands c ≡ true
-  child_stands = (node.child q.key c link).stands
-
-  pub child_fewer : h.bits c < f.bits at
-  child_fewer = omega (arith, (node.child q.key c link).fewer, there.place.bits)
-
   -- a node is not in the range of one below it
   not_under : (m : ℕ) → h.bits c < h.bits m → h.low c ≡ q.key → (Under h m c → ⊥)
   not_under m more low u = omega (arith, u.low, u.high, pow_below (h.bits c) (h.bits m) more)
 
-  pub remove_below : (g : Forest) → Removes h g c key → Removes f g at key
+  pub remove_below : (g : Forest) → Removes h g c leaf → Removes f g at leaf
   remove_below g ins =
       let child = node.child q.key c link in
       let kept : Keeps h g at = ins.tree at there.place.stands (sym child.root) (not_under at child.fewer child.low) in
@@ -73,7 +76,7 @@ module _ (f h : Forest) (at i c key : ℕ) (q : Ref) (sound : IsSound f) (stands
         sound = ins.sound;
         fixed = Fixed-trans f h g walks.fixed ins.fixed;
         place = InPlace-trans f h g at there.place kept.place;
-        leaves = λ l hl. leaves_replace (without key) key (without-append_left key) (without_right key) c i q (Walks-leaves f h sound walks at stands l hl) (refs g at) kept.alike _ _ node.inside read_h ind link in_q kept.link keep ins.leaves rising;
+        leaves = λ l hl. leaves_replace (without leaf.key) leaf.key (without-append_left leaf.key) (without_right leaf.key) c i q (Walks-leaves f h sound walks at stands l hl) (refs g at) kept.alike _ _ node.inside read_h ind link in_q kept.link keep ins.leaves rising;
         tree = λ m st root out.
             let k = loads.keeps m st (differs m out) in
             Keeps-trans f h g m k (ins.tree m k.place.stands (k.place.root ∙ root ∙ sym there.place.root ∙ sym child.root) (below_c m st out));
@@ -81,8 +84,25 @@ module _ (f h : Forest) (at i c key : ℕ) (q : Ref) (sound : IsSound f) (stands
             let stay = walks.stays m st in
             let k = loads.keeps m st (λ e. root (ap f.root e)) in
             let root_c : h.root c ≡ f.root at = child.root ∙ there.place.root in
-            let s = ins.above m stay.place.stands (λ e. root (sym stay.place.root ∙ e ∙ root_c)) (λ e. belongs (sym (stay.place.belongs (f.root at) key) ∙ subst (λ z. h.belongs m z key ≡ true) root_c e)) in
+            let s = ins.above m stay.place.stands (λ e. root (sym stay.place.root ∙ e ∙ root_c)) (λ e. belongs (sym (stay.place.belongs (f.root at) leaf.key) ∙ subst (λ z. h.belongs m z leaf.key ≡ true) root_c e)) in
             Renews-trans f h g m (Keeps-Renews f h m k) s;
+        goes = (let it = ins.goes in record {
+          then = it.then;
+          walks = Walks-trans f h it.then walks it.walks;
+          node = it.node;
+          stands = it.stands;
+          way = way_down h it.then leaf.key at i c it.node q (Walks-prepares h it.then it.walks) there.place.stands read_h in_q ind link it.way;
+          place = it.place;
+          only_leaf = it.only_leaf;
+          more = it.more;
+          set = it.set;
+          link = it.link;
+          only = it.only;
+          room = omega (arith, it.room, walks.room);
+          spare = it.spare ∙ walks.spare;
+        });
+        filled = ins.filled;
         room = omega (arith, ins.room, walks.room);
-        spare = omega (arith, ins.spare, walks.spare);
+        room_falls = omega (arith, ins.room_falls, walks.room);
+        spare = ins.spare ∙ walks.spare;
       }

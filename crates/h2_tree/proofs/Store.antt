@@ -1,13 +1,14 @@
 -- A leaf that goes into the set of a node.
-use Rattle.std.proofs.Common.{◌≡◌, ℕ, ◌+◌, ◌<◌, ◌≤◌, ◌^◌, true, false, arith, refl, sym, ◌∙◌, ap, List, length, Some, subst, ◌⊎◌, inl, inr, slice_get}
+use Rattle.std.proofs.Common.{◌≡◌, ℕ, ◌+◌, ◌<◌, ◌≤◌, ◌^◌, true, false, arith, refl, sym, ◌∙◌, ap, List, length, Option, Some, subst, ◌⊎◌, inl, inr, slice_get}
 use Rattle.h2_ref.specs.declared.reference.Ref.{Ref}
 use Rattle.h2_set.specs.Ranges.{Rising, put, is_indirect}
 use Rattle.h2_set.specs.RefSet.{RefSet, IsRefSet}
-use Rattle.h2_set.specs.Forest.{Forest, refs, loaded, HasLeaves, LeavesOf, IsSound, InPlace, Stays, Keeps, Alters, Stores, Storable, Loses, Fits}
+use Rattle.h2_set.specs.Forest.{Forest, refs, loaded, HasLeaves, LeavesOf, IsSound, InPlace, Stays, Keeps, Same, Alters, Stores, Storable, Loses, Fits}
 use Rattle.h2_set.specs.StayLaws.{Alike-refl, Fixed-trans, InPlace-trans, leaves_stay}
 use Rattle.h2_set.specs.ChangeLaws.{Keeps-Stays, Keeps-trans, Same-Keeps, below_keeps, leaves_move, same_or_not}
 use Rattle.h2_set.specs.RenewLaws.{Keeps-Renews, Renews-trans}
-use Rattle.h2_tree.specs.Changes.{Under, Takes, Inserts}
+use Rattle.h2_tree.specs.Changes.{Under, Takes, TakesIn, arrived, Inserts}
+use Rattle.h2_tree.proofs.Going.{changes_only, Prepares-refl, none_empty}
 
 -- the set s is that of node at with the leaf, and lacks no key
 pub record WithLeaf (f : Forest) (at : ℕ) (leaf : Ref) (s : RefSet) : Type 0 where
@@ -69,9 +70,10 @@ module _ (f h : Forest) (at : ℕ) (leaf : Ref) (s : RefSet) (sound : IsSound f)
     free = λ m st goes. absurd (nothing_lost h at leaf s w goes.key goes.loses);
   }
 
-  pub inserts : (g : Forest) → 63 ≤ f.room → Stores h g at s → Inserts f g at leaf
-  inserts g enough stores =
-      let others : (m : ℕ) → h.stands m ≡ true → (m ≡ at → ⊥) → Keeps h g m = λ m st ne. Same-Keeps h g m (stores.others m st ne (λ goes. nothing_lost h at leaf s w (h.low m) goes.loses) (λ goes. nothing_lost h at leaf s w goes.key goes.loses)) in
+  pub inserts : (g : Forest) (old : Option Ref) → TakesIn f g at leaf 0 old → 63 ≤ f.room → Stores h g at s → Inserts f g at leaf old
+  inserts g old change enough stores =
+      let same : (m : ℕ) → h.stands m ≡ true → (m ≡ at → ⊥) → Same h g m = λ m st ne. stores.others m st ne (λ goes. nothing_lost h at leaf s w (h.low m) goes.loses) (λ goes. nothing_lost h at leaf s w goes.key goes.loses) in
+      let others : (m : ℕ) → h.stands m ≡ true → (m ≡ at → ⊥) → Keeps h g m = λ m st ne. Same-Keeps h g m (same m st ne) in
       let P : ℕ → Type 0 = λ m. (f.stands m ≡ true) × (f.root m ≡ f.root at) in
       let closed : (m k c : ℕ) → P m → f.link m k ≡ loaded c → P c = λ m k c p link. let child = (sound.node m p.0).child k c link in (child.stands, child.root ∙ p.1) in
       let stay : (m : ℕ) → P m → Stays f h m = λ m p. Keeps-Stays f h m (alters.tree m p.0 p.1) in
@@ -95,7 +97,21 @@ module _ (f h : Forest) (at : ℕ) (leaf : Ref) (s : RefSet) (sound : IsSound f)
             let ne : m ≡ at → ⊥ = λ e. root (ap f.root e) in
             Renews-trans f h g m k (Keeps-Renews h g m (others m k.place.stands ne));
         still = all_still f h g at alters stores.place others;
+        goes = record {
+          then = f;
+          prepares = Prepares-refl f sound;
+          node = at;
+          stands = stands;
+          way = arrived;
+          blocks = 0;
+          change = change;
+          only = changes_only f h g at (λ m. ⊥) alters stores.place (λ m st ne not_gone. same m st ne);
+          room = omega (arith, alters.room, stores.room);
+          spare = omega (arith, alters.spare, stores.spare);
+        };
+        filled = none_empty g stores.sound;
         room = (let slope = (sound.node at stands).slope in omega (arith, enough, slope, alters.room, stores.room));
+        room_falls = omega (arith, alters.room, stores.room);
         spare = omega (arith, alters.spare, stores.spare);
       }
 

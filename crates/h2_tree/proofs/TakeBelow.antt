@@ -31,7 +31,7 @@ under_on f h g at stands first second =
 -- what was taken out after loads under the node
 pub takes_after : (f h g : Forest) (at key : ℕ) → IsSound f → f.stands at ≡ true → WalksUnder f h at → (t : Taken) → TakesOut h g at key t → TakesOut f g at key t
 takes_after f h g at key sound stands walk Nothing taken = (under_on f h g at stands walk taken.0, λ l hl. taken.1 l (Walks-leaves f h sound walk.walks at stands l hl))
-takes_after f h g at key sound stands walk (Out leaf) taken = (removes_after f h g at key sound stands walk taken.0, λ l hl. taken.1 l (Walks-leaves f h sound walk.walks at stands l hl))
+takes_after f h g at key sound stands walk (Out leaf) taken = (removes_after f h g at leaf sound stands walk taken.0, taken.1, λ l hl. taken.2 l (Walks-leaves f h sound walk.walks at stands l hl))
 takes_after f h g at key sound stands walk (Sole leaf) taken = (under_on f h g at stands walk taken.0, taken.1, taken.2, taken.3)
 
 -- the same by another name of the key
@@ -63,7 +63,7 @@ module _ (f h : Forest) (at i c key : ℕ) (q : Ref) (sound : IsSound f) (stands
   nothing_below g taken = (under_child f h g at q.key c stands under link taken.0, at_below None taken.1)
 
   pub out_below : (g : Forest) (leaf : Ref) → TakesOut h g c key (Out leaf) → TakesOut f g at key (Out leaf)
-  out_below g leaf taken = (remove_below f h at i c key q sound stands read ind in_q walks loads link g taken.0, at_below (Some leaf) taken.1)
+  out_below g leaf taken = (remove_below f h at i c leaf q sound stands read ind (rw taken.1 in_q) walks loads link g taken.0, taken.1, at_below (Some leaf) taken.2)
 
   -- where the child has but this leaf, the reference to it leads to this leaf alone
   pub under_sole : (g : Forest) (leaf : Ref) → TakesOut h g c key (Sole leaf) → WalksUnder f g at
@@ -124,5 +124,5 @@ module _ (f g : Forest) (at key : ℕ) (leaf : Ref) (sound : IsSound f) (stands 
         let root : g.root at ≡ at = (taken.0.walks.stays at stands).place.root ∙ top in
         rw (root, taken.3) (free_after f g at key sound taken.0.walks free)
 
-pub root_removes : (f h g : Forest) (at key : ℕ) (leaf : Ref) → IsSound f → f.stands at ≡ true → TakesOut f h at key (Sole leaf) → Removes h g at leaf.key → Removes f g at key
-root_removes f h g at key leaf sound stands taken rem = removes_after f h g at key sound stands taken.0 (subst (λ z. Removes h g at z) taken.3 rem)
+pub root_removes : (f h g : Forest) (at key : ℕ) (leaf : Ref) → IsSound f → f.stands at ≡ true → TakesOut f h at key (Sole leaf) → Removes h g at leaf → Removes f g at leaf
+root_removes f h g at key leaf sound stands taken rem = removes_after f h g at leaf sound stands taken.0 rem

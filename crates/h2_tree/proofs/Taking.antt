@@ -107,8 +107,8 @@ under_child f h g at k c stands first link second =
     }
 
 -- a removal after loads under the node
-pub removes_after : (f h g : Forest) (at key : ℕ) → IsSound f → f.stands at ≡ true → WalksUnder f h at → Removes h g at key → Removes f g at key
-removes_after f h g at key sound stands walk rem =
+pub removes_after : (f h g : Forest) (at : ℕ) (leaf : Ref) → IsSound f → f.stands at ≡ true → WalksUnder f h at → Removes h g at leaf → Removes f g at leaf
+removes_after f h g at leaf sound stands walk rem =
     let there = (walk.walks.stays at stands).place in
     record {
       sound = rem.sound;
@@ -123,9 +123,26 @@ removes_after f h g at key sound stands walk rem =
           })));
       above = λ m st root belongs.
           let k = walk.keeps m st (λ r u. root r) in
-          Renews-trans f h g m (Keeps-Renews f h m k) (rem.above m k.place.stands (λ e. root (sym k.place.root ∙ e ∙ there.root)) (λ e. belongs (sym (k.place.belongs (f.root at) key) ∙ subst (λ z. h.belongs m z key ≡ true) there.root e)));
+          Renews-trans f h g m (Keeps-Renews f h m k) (rem.above m k.place.stands (λ e. root (sym k.place.root ∙ e ∙ there.root)) (λ e. belongs (sym (k.place.belongs (f.root at) leaf.key) ∙ subst (λ z. h.belongs m z leaf.key ≡ true) there.root e)));
+      goes = (let it = rem.goes in record {
+        then = it.then;
+        walks = Walks-trans f h it.then walk.walks it.walks;
+        node = it.node;
+        stands = it.stands;
+        way = it.way;
+        place = it.place;
+        only_leaf = it.only_leaf;
+        more = it.more;
+        set = it.set;
+        link = it.link;
+        only = it.only;
+        room = omega (arith, it.room, walk.walks.room);
+        spare = it.spare ∙ walk.walks.spare;
+      });
+      filled = rem.filled;
       room = omega (arith, rem.room, walk.walks.room);
-      spare = omega (arith, rem.spare, walk.walks.spare);
+      room_falls = omega (arith, rem.room_falls, walk.walks.room);
+      spare = rem.spare ∙ walk.walks.spare;
     }
 
 -- nothing that belongs to the key's leaf is held after a walk

@@ -1,8 +1,8 @@
-ghost use Rattle.std.specs.Prelude.{◌≡◌, ◌<◌, ◌≤◌, ◌⊎◌, true, false, ℕ, List, Some, slice_get, length, IfOk, IfErr, OnOk, OnErr};
+ghost use Rattle.std.specs.Prelude.{◌≡◌, ◌<◌, ◌≤◌, ◌⊎◌, true, false, ℕ, List, Some, None, slice_get, length, IfOk, IfErr, OnOk, OnErr};
 ghost use Rattle.h2_ref.specs.declared.reference.Ref.{Ref};
 ghost use Rattle.h2_set.specs.Ranges.{find, is_indirect, NoneHolds};
-ghost use Rattle.h2_set.specs.Forest.{Forest, refs, IsSound, Walks, HasCause, LeavesOf, KeepsBeside, ReadiesOnly};
-ghost use Rattle.h2_tree.specs.Changes.{Takes, Inserts, PathUnloaded};
+ghost use Rattle.h2_set.specs.Forest.{Forest, refs, IsSound, Walks, HasCause, LeavesOf, Reaches, KeepsBeside, ReadiesOnly};
+ghost use Rattle.h2_tree.specs.Changes.{Takes, Inserts, KeepsPaths, PathUnloaded};
 
 use h2_num::NoMemory;
 use h2_ref::{Ref, Trouble};
@@ -17,7 +17,7 @@ fn replace<N: Sets>(n: &mut N, at: NodeId, i: usize, leaf: Ref) -> Ref
     requires takes { Takes (N.forest n.old) at.0 leaf }
     requires there { i < length (refs (N.forest n.old) at.0) }
     requires same { (q : Ref) → slice_get (refs (N.forest n.old) at.0) i ≡ Some q → (is_indirect q ≡ false) × (q.key ≡ leaf.key) × (q.keybits ≡ leaf.keybits) }
-    ensures inserts { Inserts (N.forest n.old) (N.forest n.new) at.0 leaf }
+    ensures inserts { Inserts (N.forest n.old) (N.forest n.new) at.0 leaf (Some result) }
     ensures old { slice_get (refs (N.forest n.old) at.0) i ≡ Some result }
     ensures beside { KeepsBeside (N.forest n.old) (N.forest n.new) (N.beside n.old) (N.beside n.new) }
     ensures later { N.later n.old n.new }
@@ -37,7 +37,7 @@ fn place<N: Sets>(n: &mut N, at: NodeId, leaf: Ref)
     requires takes { Takes (N.forest n.old) at.0 leaf }
     requires none { NoneHolds leaf.key (refs (N.forest n.old) at.0) }
     requires space { let f = N.forest n.old in let s = f.set at.0 in length s.refs < s.capacity }
-    ensures inserts { Inserts (N.forest n.old) (N.forest n.new) at.0 leaf }
+    ensures inserts { Inserts (N.forest n.old) (N.forest n.new) at.0 leaf None }
     ensures beside { KeepsBeside (N.forest n.old) (N.forest n.new) (N.beside n.old) (N.beside n.new) }
     ensures later { N.later n.old n.new }
 {
@@ -58,7 +58,7 @@ fn part<N: Sets>(n: &mut N, at: NodeId, leaf: Ref)
     requires takes { Takes (N.forest n.old) at.0 leaf }
     requires none { NoneHolds leaf.key (refs (N.forest n.old) at.0) }
     requires full { let f = N.forest n.old in let s = f.set at.0 in length s.refs ≡ s.capacity }
-    ensures inserts { Inserts (N.forest n.old) (N.forest n.new) at.0 leaf }
+    ensures inserts { Inserts (N.forest n.old) (N.forest n.new) at.0 leaf None }
     ensures beside { KeepsBeside (N.forest n.old) (N.forest n.new) (N.beside n.old) (N.beside n.new) }
     ensures later { N.later n.old n.new }
 {
@@ -75,7 +75,7 @@ fn add<N: Sets>(alloc: Global, n: &mut N, at: NodeId, leaf: Ref) -> Result<(), N
     requires room { let f = N.forest n.old in 63 ≤ f.room }
     requires takes { Takes (N.forest n.old) at.0 leaf }
     requires none { NoneHolds leaf.key (refs (N.forest n.old) at.0) }
-    ensures ok { OnOk result (Inserts (N.forest n.old) (N.forest n.new) at.0 leaf) }
+    ensures ok { OnOk result (Inserts (N.forest n.old) (N.forest n.new) at.0 leaf None) }
     ensures walks { OnErr result (Walks (N.forest n.old) (N.forest n.new)) }
     ensures spare { let f = N.forest n.old in OnErr result (f.spare ≡ 0) }
     ensures beside { KeepsBeside (N.forest n.old) (N.forest n.new) (N.beside n.old) (N.beside n.new) }
@@ -91,8 +91,10 @@ fn add<N: Sets>(alloc: Global, n: &mut N, at: NodeId, leaf: Ref) -> Result<(), N
 }
 
 /// Adds a leaf to the tree, or puts it in place of the one with its range, which is answered; None exactly where
-/// there is none. The room is at least 63. Trouble only where a node on the path of its key isn't loaded, or no
-/// node is spare.
+/// there is none. It goes into the set of one node on the path of its key, and a full set is split by the split rule.
+/// The room is at least 63, and is lowered by the number of nodes that are copied and by one for a split, as spare is.
+/// No node is unloaded, and paths to all keys stay loaded. Trouble only where a node on the path of its key isn't
+/// loaded, or no node is spare; nothing but loads took place then.
 pub fn insert<N: Sets>(
     alloc: Global,
     n: &mut N,
@@ -103,8 +105,10 @@ pub fn insert<N: Sets>(
     requires stands { let f = N.forest n.old in f.stands root.0 ≡ true }
     requires room { let f = N.forest n.old in 63 ≤ f.room }
     requires takes { Takes (N.forest n.old) root.0 leaf }
-    ensures ok { OnOk result (Inserts (N.forest n.old) (N.forest n.new) root.0 leaf) }
+    ensures ok { IfOk result (Inserts (N.forest n.old) (N.forest n.new) root.0 leaf) }
     ensures old { IfOk result (λ o. (l : List Ref) → LeavesOf (N.forest n.old) root.0 l → o ≡ find leaf.key l) }
+    ensures paths { IfOk result (λ o. KeepsPaths (N.forest n.old) (N.forest n.new) root.0 leaf) }
+    ensures path { IfOk result (λ o. Reaches (N.forest n.new) leaf.key root.0 (Some leaf)) }
     ensures walks { OnErr result (Walks (N.forest n.old) (N.forest n.new)) }
     ensures err { IfErr result (HasCause (N.forest n.old) (N.forest n.new)) }
     ensures unloaded { let f = N.forest n.old in OnErr result (PathUnloaded f root.0 leaf.key ⊎ (f.spare ≡ 0)) }

@@ -1,8 +1,8 @@
-ghost use Rattle.std.specs.Prelude.{◌≡◌, ◌<◌, ◌≤◌, ◌⊎◌, true, false, ℕ, List, Some, slice_get, length, IfOk, IfErr, IfSome, IfNone, OnOk, OnErr};
+ghost use Rattle.std.specs.Prelude.{◌≡◌, ◌<◌, ◌≤◌, ◌⊎◌, true, false, ℕ, List, Some, None, slice_get, length, IfOk, IfErr, IfSome, IfNone, OnOk, OnErr};
 ghost use Rattle.h2_ref.specs.declared.reference.Ref.{Ref};
 ghost use Rattle.h2_set.specs.Ranges.{at_key, is_indirect};
-ghost use Rattle.h2_set.specs.Forest.{Forest, refs, IsSound, Walks, HasCause, LeavesOf, KeepsBeside};
-ghost use Rattle.h2_tree.specs.Changes.{IsFree, LeadsOnly, Removes, TakesOut, PathUnloaded};
+ghost use Rattle.h2_set.specs.Forest.{Forest, refs, IsSound, Walks, HasCause, LeavesOf, Reaches, KeepsBeside};
+ghost use Rattle.h2_tree.specs.Changes.{IsFree, LeadsOnly, Removes, KeepsPaths, TakesOut, PathUnloaded};
 
 use h2_ref::{Ref, Trouble};
 use h2_set::{NodeId, Sets, is_indirect};
@@ -26,7 +26,7 @@ fn cut_at<N: Sets>(n: &mut N, at: NodeId, i: usize)
     requires room { let f = N.forest n.old in (f.copies at.0 ≤ 62) × (62 ≤ f.room) }
     requires more { let f = N.forest n.old in (f.root at.0 ≡ at.0) ⊎ (2 ≤ length (refs f at.0)) }
     requires only { let f = N.forest n.old in (leaf : Ref) × LeadsOnly f at.0 i leaf × IsFree f (f.root at.0) leaf.key }
-    ensures removes { let f = N.forest n.old in (leaf : Ref) → LeadsOnly f at.0 i leaf → IsFree f (f.root at.0) leaf.key → Removes f (N.forest n.new) at.0 leaf.key }
+    ensures removes { let f = N.forest n.old in (leaf : Ref) → LeadsOnly f at.0 i leaf → IsFree f (f.root at.0) leaf.key → Removes f (N.forest n.new) at.0 leaf }
     ensures beside { KeepsBeside (N.forest n.old) (N.forest n.new) (N.beside n.old) (N.beside n.new) }
     ensures later { N.later n.old n.new }
 {
@@ -86,9 +86,11 @@ fn take<N: Sets>(alloc: Global, n: &mut N, at: NodeId, key: u64) -> Result<Taken
     }
 }
 
-/// Takes out the leaf with this key, which is answered; None exactly where there is none, and then nothing has
-/// changed. What the leaf names isn't held, and the room is at least 62. Indirect blocks that become empty go.
-/// Trouble only where a node on the key's path isn't loaded.
+/// Takes out the leaf with this key, which is answered; None exactly where there is none, and then nothing but loads
+/// took place. What the leaf names isn't held, and the room is at least 62; it is lowered by the number of nodes that
+/// are copied. Of the tree nothing goes but indirect blocks that would be left empty: the reference to the uppermost of
+/// them is cut. Paths to other keys stay loaded. Trouble only where a node on the key's path isn't loaded; nothing but
+/// loads took place then.
 pub fn remove<N: Sets>(
     alloc: Global,
     n: &mut N,
@@ -101,7 +103,10 @@ pub fn remove<N: Sets>(
     requires room { let f = N.forest n.old in 62 ≤ f.room }
     requires free { IsFree (N.forest n.old) root.0 key }
     ensures answer { IfOk result (λ o. (l : List Ref) → LeavesOf (N.forest n.old) root.0 l → o ≡ at_key key l) }
-    ensures removes { IfOk result (λ o. IfSome o (λ leaf. Removes (N.forest n.old) (N.forest n.new) root.0 key)) }
+    ensures removes { IfOk result (λ o. IfSome o (Removes (N.forest n.old) (N.forest n.new) root.0)) }
+    ensures key { IfOk result (λ o. IfSome o (λ leaf. leaf.key ≡ key)) }
+    ensures paths { IfOk result (λ o. IfSome o (KeepsPaths (N.forest n.old) (N.forest n.new) root.0)) }
+    ensures path { IfOk result (λ o. IfSome o (λ leaf. Reaches (N.forest n.new) leaf.key root.0 None)) }
     ensures absent { IfOk result (λ o. IfNone o (Walks (N.forest n.old) (N.forest n.new))) }
     ensures walks { OnErr result (Walks (N.forest n.old) (N.forest n.new)) }
     ensures err { IfErr result (HasCause (N.forest n.old) (N.forest n.new)) }

@@ -7,7 +7,20 @@ use Rattle.h2_tree.proofs.Edit.{same_leaf}
 use Rattle.h2_tree.proofs.Climb.{reaches_loaded}
 use Rattle.h2_tree.proofs.Descend.{child_stands, child_fewer, child_takes, child_room, ok_below, old_below, walks_below, unloaded_below}
 use Rattle.h2_tree.proofs.Answering.{always_err, beside_on}
+use Rattle.h2_tree.proofs.Paths.{inserts_paths, inserts_path, ok_paths, ok_path}
 use Rattle.h2_tree.proofs.inserting.+insert.Goals as goal
+
+pub returns-in-Ok-clause-paths : goal.returns-in-Ok-clause-paths
+returns-in-Ok-clause-paths g t c = inserts_paths _ _ _ _ _ c.requires.sound c.requires.stands c.in-Ok.ensures.ok
+
+pub returns-in-Ok-clause-path : goal.returns-in-Ok-clause-path
+returns-in-Ok-clause-path g t c = inserts_path _ _ _ _ _ c.requires.stands c.requires.takes.is_leaf c.in-Ok.ensures.ok
+
+pub returns-then-not-is_indirect-clause-paths : goal.returns-then-not-is_indirect-clause-paths
+returns-then-not-is_indirect-clause-paths g t c = inserts_paths _ _ _ _ _ c.requires.sound c.requires.stands c.replace.ensures.inserts
+
+pub returns-then-not-is_indirect-clause-path : goal.returns-then-not-is_indirect-clause-path
+returns-then-not-is_indirect-clause-path g t c = inserts_path _ _ _ _ _ c.requires.stands c.requires.takes.is_leaf c.replace.ensures.inserts
 
 pub returns-in-Ok-clause-old : goal.returns-in-Ok-clause-old
 returns-in-Ok-clause-old g t c = λ l hl. sym (find_none c.args.leaf.key hl (rw c.get-set.ensures at c.in_default.ensures.absent))
@@ -84,6 +97,12 @@ returns-clause-unloaded g t c =
     let in_r = c.in-Some.ensures.found.holds _ c.at.ensures in
     let child = c.in_ok-child.ensures in
     unloaded_below _ _ _ _ _ c.args.leaf c.at.result.now c.requires.sound c.requires.stands c.requires.takes read ind in_r child.walks (child.loads _ read) (child.ok _ read) c.insert.result c.insert.ensures.unloaded
+
+pub returns-clause-paths : goal.returns-clause-paths
+returns-clause-paths g t c = ok_paths _ _ _ _ c.insert.result c.requires.sound c.requires.stands (returns-clause-ok g t c)
+
+pub returns-clause-path : goal.returns-clause-path
+returns-clause-path g t c = ok_path _ _ _ _ c.insert.result c.requires.stands c.requires.takes.is_leaf (returns-clause-ok g t c)
 
 pub returns-clause-beside : goal.returns-clause-beside
 returns-clause-beside g t c = beside_on _ _ _ _ _ _ (λ m st. (c.in_ok-child.ensures.walks.stays m st).place.stands) c.in_ok-child.ensures.beside c.insert.ensures.beside

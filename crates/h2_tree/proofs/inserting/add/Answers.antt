@@ -25,4 +25,4 @@ pub returns-in_err-ready-clause-walks : goal.returns-in_err-ready-clause-walks
 returns-in_err-ready-clause-walks g c = always_err c.from_residual.result (Unchanged-walks _ _ (Readies-unchanged _ _ c.in_err-ready.ensures.same c.in_err-ready.ensures.err))
 
 pub returns-then-is_full-clause-ok : goal.returns-then-is_full-clause-ok
-returns-then-is_full-clause-ok g c = inserts_after _ _ _ _ c.requires.stands c.in_ok-ready.ensures.same _ c.requires.sound c.part.ensures.inserts
+returns-then-is_full-clause-ok g c = inserts_after _ _ _ _ c.requires.stands c.in_ok-ready.ensures.same _ _ c.requires.sound c.part.ensures.inserts

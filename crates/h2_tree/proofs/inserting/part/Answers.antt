@@ -30,7 +30,7 @@ pub make-requires-clause-space : goal.make-requires-clause-space
 make-requires-clause-space g c = part_space _ _ _ _ _ _ c.requires.sound c.requires.stands c.alter.ensures.alters (make-requires-clause-split g c).1 c.requires.spare c.requires.room
 
 pub returns-clause-inserts : goal.returns-clause-inserts
-returns-clause-inserts g c = parted _ _ _ _ _ _ _ _ c.requires.sound c.requires.stands c.requires.takes c.alter.ensures.alters (made_from _ _ _ _ c.requires.sound c.requires.stands c.requires.takes c.alter.ensures.alters c.requires.none _ _ c.copy-set.ensures.same c.get.ensures _ _ c.requires.full c.split-split.ensures.split c.split-split.ensures.moved c.split-split.ensures.kept (ap (λ (t : RefSet). t.capacity) c.split-split.ensures.stays)) c.make.ensures.makes c.requires.room
+returns-clause-inserts g c = parted _ _ _ _ _ _ _ _ c.requires.sound c.requires.stands c.requires.takes c.alter.ensures.alters (made_from _ _ _ _ c.requires.sound c.requires.stands c.requires.takes c.alter.ensures.alters c.requires.none _ _ c.copy-set.ensures.same c.get.ensures _ _ c.requires.full c.split-split.ensures.split c.split-split.ensures.moved c.split-split.ensures.kept (ap (λ (t : RefSet). t.capacity) c.split-split.ensures.stays)) c.make.ensures.makes c.requires.none c.requires.room
 
 pub returns-clause-beside : goal.returns-clause-beside
 returns-clause-beside g c = beside_on _ _ _ _ _ _ (alters_still _ _ _ c.alter.ensures.alters) c.alter.ensures.beside c.make.ensures.beside

@@ -1,6 +1,6 @@
 use Rattle.std.proofs.Common.{arith, refl}
 use Rattle.h2_tree.proofs.Store.{storable, inserts, alters_still, enough_room}
-use Rattle.h2_tree.proofs.Edit.{apart_altered, room_altered, put_copy}
+use Rattle.h2_tree.proofs.Edit.{apart_altered, room_altered, put_copy, places}
 use Rattle.h2_tree.proofs.Parted.{leaf_small}
 use Rattle.h2_tree.proofs.Answering.{beside_on}
 use Rattle.h2_tree.proofs.inserting.place.Goals as goal
@@ -24,7 +24,7 @@ unreachable-requires g c =
     omega (arith, room, full)
 
 pub returns-clause-inserts : goal.returns-clause-inserts
-returns-clause-inserts g c = inserts _ _ _ _ _ c.requires.sound c.requires.stands c.requires.takes c.alter.ensures.alters (put_copy _ _ _ _ c.requires.sound c.requires.stands c.requires.takes c.alter.ensures.alters c.requires.none c.requires.space _ _ _ c.copy-set.ensures.same c.get.ensures (c.in-Placed.ensures.placed refl)) _ c.requires.room c.store.ensures.stores
+returns-clause-inserts g c = inserts _ _ _ _ _ c.requires.sound c.requires.stands c.requires.takes c.alter.ensures.alters (put_copy _ _ _ _ c.requires.sound c.requires.stands c.requires.takes c.alter.ensures.alters c.requires.none c.requires.space _ _ _ c.copy-set.ensures.same c.get.ensures (c.in-Placed.ensures.placed refl)) _ _ (places _ _ _ _ c.requires.sound c.requires.stands c.requires.takes c.alter.ensures.alters _ c.requires.none c.requires.space _ _ _ c.copy-set.ensures.same c.get.ensures (c.in-Placed.ensures.placed refl) c.store.ensures.stores) c.requires.room c.store.ensures.stores
 
 pub returns-clause-beside : goal.returns-clause-beside
 returns-clause-beside g c = beside_on _ _ _ _ _ _ (alters_still _ _ _ c.alter.ensures.alters) c.alter.ensures.beside c.store.ensures.beside

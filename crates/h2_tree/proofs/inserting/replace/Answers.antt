@@ -1,7 +1,7 @@
 use Rattle.std.proofs.Common.{arith, refl}
 use Rattle.h2_set.specs.RenewLaws.{Alike-length}
 use Rattle.h2_tree.proofs.Store.{storable, inserts, alters_still, enough_room}
-use Rattle.h2_tree.proofs.Edit.{same_altered, old_copy, swap_copy}
+use Rattle.h2_tree.proofs.Edit.{same_altered, old_copy, swap_copy, replaces}
 use Rattle.h2_tree.proofs.Answering.{beside_on}
 use Rattle.h2_tree.proofs.inserting.replace.Goals as goal
 
@@ -22,7 +22,7 @@ pub store-requires-clause-storable : goal.store-requires-clause-storable
 store-requires-clause-storable g c = storable _ _ _ _ _ c.requires.sound c.requires.stands c.requires.takes c.alter.ensures.alters (swap_copy _ _ _ _ c.requires.sound c.requires.stands c.requires.takes c.alter.ensures.alters c.args.i c.swap-old.result c.requires.same _ _ _ c.copy-set.ensures.same c.get.ensures c.swap-old.ensures.new c.swap-old.ensures.old)
 
 pub returns-clause-inserts : goal.returns-clause-inserts
-returns-clause-inserts g c = inserts _ _ _ _ _ c.requires.sound c.requires.stands c.requires.takes c.alter.ensures.alters (swap_copy _ _ _ _ c.requires.sound c.requires.stands c.requires.takes c.alter.ensures.alters c.args.i c.swap-old.result c.requires.same _ _ _ c.copy-set.ensures.same c.get.ensures c.swap-old.ensures.new c.swap-old.ensures.old) _ c.requires.room c.store.ensures.stores
+returns-clause-inserts g c = inserts _ _ _ _ _ c.requires.sound c.requires.stands c.requires.takes c.alter.ensures.alters (swap_copy _ _ _ _ c.requires.sound c.requires.stands c.requires.takes c.alter.ensures.alters c.args.i c.swap-old.result c.requires.same _ _ _ c.copy-set.ensures.same c.get.ensures c.swap-old.ensures.new c.swap-old.ensures.old) _ _ (replaces _ _ _ _ c.requires.sound c.requires.stands c.requires.takes c.alter.ensures.alters _ c.args.i c.swap-old.result c.requires.same _ _ _ c.copy-set.ensures.same c.get.ensures c.swap-old.ensures.new c.swap-old.ensures.old c.store.ensures.stores) c.requires.room c.store.ensures.stores
 
 pub returns-clause-old : goal.returns-clause-old
 returns-clause-old g c = old_copy _ _ _ _ c.requires.sound c.requires.stands c.requires.takes c.alter.ensures.alters c.args.i c.swap-old.result c.requires.same _ _ c.copy-set.ensures.same c.get.ensures c.swap-old.ensures.old

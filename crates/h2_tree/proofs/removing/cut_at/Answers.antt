@@ -14,7 +14,7 @@ pub store-requires-clause-storable : goal.store-requires-clause-storable
 store-requires-clause-storable g c = storable_copy _ _ _ c.args.i c.requires.only.0 c.requires.sound c.requires.stands c.alter.ensures.alters c.requires.only.1 c.requires.only.2 _ _ _ c.copy-set.ensures.same c.get.ensures c.cut.ensures.new c.requires.more
 
 pub returns-clause-removes : goal.returns-clause-removes
-returns-clause-removes g c = λ leaf only free. removes_copy _ _ _ c.args.i leaf c.requires.sound c.requires.stands c.alter.ensures.alters only free _ _ _ c.copy-set.ensures.same c.get.ensures c.cut.ensures.new _ c.store.ensures.stores c.requires.room.1 c.requires.room.0
+returns-clause-removes g c = λ leaf only free. removes_copy _ _ _ c.args.i leaf c.requires.sound c.requires.stands c.alter.ensures.alters only free _ _ _ c.copy-set.ensures.same c.get.ensures c.cut.ensures.new _ c.store.ensures.stores c.requires.more c.requires.room.1 c.requires.room.0
 
 pub returns-clause-beside : goal.returns-clause-beside
 returns-clause-beside g c = beside_on _ _ _ _ _ _ (alters_still _ _ _ c.alter.ensures.alters) c.alter.ensures.beside c.store.ensures.beside

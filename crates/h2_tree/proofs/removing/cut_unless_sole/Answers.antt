@@ -10,4 +10,4 @@ returns-then-len-eq1-clause-taken g c =
     (under_refl _ _ c.requires.stands c.requires.sound, one, only_first _ _ _ _ one c.requires.only, refl)
 
 pub returns-clause-taken : goal.returns-clause-taken
-returns-clause-taken g c = (c.cut_at.ensures.removes c.args.leaf c.requires.only c.requires.free, only_at_key _ _ _ _ c.requires.sound c.requires.stands c.requires.only)
+returns-clause-taken g c = (c.cut_at.ensures.removes c.args.leaf c.requires.only c.requires.free, refl, only_at_key _ _ _ _ c.requires.sound c.requires.stands c.requires.only)
