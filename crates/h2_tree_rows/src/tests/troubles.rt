@@ -10,6 +10,7 @@ use std::test::Fail;
 
 /// How many leaves the tree has, and how far apart: enough for blocks below blocks.
 const LEAVES: u64 = 200;
+
 const STEP: u64 = 1 << 40;
 
 /// How a load fails.
@@ -107,18 +108,16 @@ fn is_caused(trouble: Trouble, failure: Failure) -> bool {
 
 // Each load of a call fails in its turn, and then the list is as before. Once none fails, the call succeeds. How many
 // loads it took.
-fn loads_of(
-    rt: &(impl Abort + AllocGlobal),
-    call: Call,
-    failure: Failure,
-) -> Result<u64, Fail> {
+fn loads_of(rt: &(impl Abort + AllocGlobal), call: Call, failure: Failure) -> Result<u64, Fail> {
     let (mut tree, mut list) = filled(rt)?;
     for n in 0..100u64 {
         tree.unload(0);
         fail(&mut tree, failure, n + 1);
         let done = call_both(rt, &mut tree, &mut list, call)?;
         fail(&mut tree, failure, 0);
-        call_both(rt, &mut tree, &mut list, Call::Range)?.ok().ok_or("range")?;
+        call_both(rt, &mut tree, &mut list, Call::Range)?
+            .ok()
+            .ok_or("range")?;
         match done {
             Ok(()) => return Ok(n),
             Err(trouble) => assert!(rt; is_caused(trouble, failure), "load {n}, {failure:?}"),
@@ -133,10 +132,22 @@ fn each_load_may_fail(rt: HostRuntime) -> Result<(), Fail> {
         assert!(rt; loads_of(&rt, Call::Range, failure)? >= 7);
         for i in 0..10u64 {
             let key = (20 * i + 3) * STEP;
-            assert!(rt; loads_of(&rt, Call::Lookup(key), failure)? >= 1, "key {key}");
-            assert!(rt; loads_of(&rt, Call::Insert(key), failure)? >= 1, "key {key}");
-            assert!(rt; loads_of(&rt, Call::Insert(key + 1), failure)? >= 1, "key {key}");
-            assert!(rt; loads_of(&rt, Call::Remove(key), failure)? >= 1, "key {key}");
+            assert!(rt;
+                loads_of(&rt, Call::Lookup(key), failure)? >= 1,
+                "key {key}"
+            );
+            assert!(rt;
+                loads_of(&rt, Call::Insert(key), failure)? >= 1,
+                "key {key}"
+            );
+            assert!(rt;
+                loads_of(&rt, Call::Insert(key + 1), failure)? >= 1,
+                "key {key}"
+            );
+            assert!(rt;
+                loads_of(&rt, Call::Remove(key), failure)? >= 1,
+                "key {key}"
+            );
         }
     }
     Ok(())
@@ -156,14 +167,26 @@ fn insert_unspared(
     tree.refuse_spare(1);
     let first = call_both(rt, tree, list, Call::Insert(key))?;
     tree.refuse_spare(0);
-    assert_eq!(rt; call_both(rt, tree, list, Call::Range)?, Ok(()), "key {key}");
+    assert_eq!(rt;
+        call_both(rt, tree, list, Call::Range)?,
+        Ok(()),
+        "key {key}"
+    );
     if first == Ok(()) {
         return Ok(false);
     }
     assert_eq!(rt; first, Err(Trouble::NoMemory), "key {key}");
     assert_eq!(rt; list.find(key), None, "key {key}");
-    assert_eq!(rt; call_both(rt, tree, list, Call::Insert(key))?, Ok(()), "key {key}");
-    assert_eq!(rt; call_both(rt, tree, list, Call::Range)?, Ok(()), "key {key}");
+    assert_eq!(rt;
+        call_both(rt, tree, list, Call::Insert(key))?,
+        Ok(()),
+        "key {key}"
+    );
+    assert_eq!(rt;
+        call_both(rt, tree, list, Call::Range)?,
+        Ok(()),
+        "key {key}"
+    );
     Ok(true)
 }
 
