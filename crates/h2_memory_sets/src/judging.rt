@@ -89,11 +89,18 @@ fn fits_below(r: &Ref, top: &Ref, leaf_bits: u8) -> bool
     is_sized(r, leaf_bits)
 }
 
+// Whether a set has a reference.
+fn has_some(set: &Set) -> bool
+    ensures { IsTrue result → 0 < length set.now.refs }
+{
+    set.len() > 0
+}
+
 // Whether a set may be that of the node that `top` names.
 fn all_fit(set: &Set, top: &Ref, leaf_bits: u8) -> bool
     ensures { IsTrue result → AllFitBelow top.now leaf_bits set.now }
 {
-    if set.len() == 0 {
+    if !has_some(set) {
         return false;
     }
     for i in 0..set.len() {

@@ -38,7 +38,7 @@ pub struct MemorySets {
 }
 
 impl MemorySets {
-    ghost use Rattle.std.specs.Prelude.{OnErr};
+    ghost use Rattle.std.specs.Prelude.{OnErr, ℕ, false};
     ghost use Rattle.h2_set.specs.Forest.{IsSound};
     ghost use Rattle.h2_memory_sets.specs.Seen.{forest_of, blocks_of, failing_load, spoiled_load, refused_spare};
     ghost use Rattle.h2_memory_sets.specs.Roots.{AddsRoot, Unloads};
@@ -46,7 +46,10 @@ impl MemorySets {
     /// A forest with no node, in which this number of blocks can be taken.
     pub fn new(alloc: Global, epoch: u64, room: u64) -> MemorySets
         ensures sound { IsSound (forest_of result) }
+        ensures empty { let f = forest_of result in (m : ℕ) → f.stands m ≡ false }
+        ensures epoch { let f = forest_of result in f.epoch ≡ epoch }
         ensures room { let f = forest_of result in f.room ≡ room }
+        ensures spare { let f = forest_of result in f.spare ≡ 0 }
     {
         MemorySets {
             nodes: Vec::new(alloc),

@@ -106,9 +106,17 @@ fn insert_both(
     let spare = tree.sets.spare();
     let old = tree.insert(alloc, leaf)?;
     assert_eq!(rt; old, list.put(leaf)?, "key {key}");
-    assert!(rt; room.saturating_sub(tree.sets.room()) <= 63, "room at {key}");
-    assert!(rt; spare.saturating_sub(tree.sets.spare()) <= 1, "spare at {key}");
+    assert!(rt;
+        room.saturating_sub(tree.sets.room()) <= 63,
+        "room at {key}"
+    );
+    assert!(rt;
+        spare.saturating_sub(tree.sets.spare()) <= 1,
+        "spare at {key}"
+    );
     assert_eq!(rt; tree.lookup(alloc, key)?, Some(leaf), "key {key}");
+    let next = key.saturating_add(1);
+    assert_eq!(rt; tree.lookup(alloc, next)?, list.find(next), "key {next}");
     Ok(())
 }
 
@@ -128,7 +136,10 @@ fn remove_both(
     let old = tree.remove(alloc, key)?;
     assert!(rt; old.is_some(), "key {key}");
     assert_eq!(rt; old, list.take(key), "key {key}");
-    assert!(rt; room.saturating_sub(tree.sets.room()) <= 62, "room at {key}");
+    assert!(rt;
+        room.saturating_sub(tree.sets.room()) <= 62,
+        "room at {key}"
+    );
     assert!(rt; spare <= tree.sets.spare(), "spare at {key}");
     assert_eq!(rt; tree.remove(alloc, key)?, None, "key {key}");
     assert_eq!(rt; tree.lookup(alloc, key)?, list.find(key), "key {key}");

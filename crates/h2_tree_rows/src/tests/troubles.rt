@@ -10,6 +10,7 @@ use std::test::Fail;
 
 /// How many leaves the tree has, and how far apart: enough for blocks below blocks.
 const LEAVES: u64 = 200;
+
 const STEP: u64 = 1 << 40;
 
 /// How a load fails.
@@ -107,18 +108,16 @@ fn is_caused(trouble: Trouble, failure: Failure) -> bool {
 
 // Each load of a call fails in its turn, and then the list is as before. Once none fails, the call succeeds. How many
 // loads it took.
-fn loads_of(
-    rt: &(impl Abort + AllocGlobal),
-    call: Call,
-    failure: Failure,
-) -> Result<u64, Fail> {
+fn loads_of(rt: &(impl Abort + AllocGlobal), call: Call, failure: Failure) -> Result<u64, Fail> {
     let (mut tree, mut list) = filled(rt)?;
     for n in 0..100u64 {
         tree.unload(0);
         fail(&mut tree, failure, n + 1);
         let done = call_both(rt, &mut tree, &mut list, call)?;
         fail(&mut tree, failure, 0);
-        call_both(rt, &mut tree, &mut list, Call::Range)?.ok().ok_or("range")?;
+        call_both(rt, &mut tree, &mut list, Call::Range)?
+            .ok()
+            .ok_or("range")?;
         match done {
             Ok(()) => return Ok(n),
             Err(trouble) => assert!(rt; is_caused(trouble, failure), "load {n}, {failure:?}"),
@@ -133,12 +132,76 @@ fn each_load_may_fail(rt: HostRuntime) -> Result<(), Fail> {
         assert!(rt; loads_of(&rt, Call::Range, failure)? >= 7);
         for i in 0..10u64 {
             let key = (20 * i + 3) * STEP;
-            assert!(rt; loads_of(&rt, Call::Lookup(key), failure)? >= 1, "key {key}");
-            assert!(rt; loads_of(&rt, Call::Insert(key), failure)? >= 1, "key {key}");
-            assert!(rt; loads_of(&rt, Call::Insert(key + 1), failure)? >= 1, "key {key}");
-            assert!(rt; loads_of(&rt, Call::Remove(key), failure)? >= 1, "key {key}");
+            assert!(rt;
+                loads_of(&rt, Call::Lookup(key), failure)? >= 1,
+                "key {key}"
+            );
+            assert!(rt;
+                loads_of(&rt, Call::Insert(key), failure)? >= 1,
+                "key {key}"
+            );
+            assert!(rt;
+                loads_of(&rt, Call::Insert(key + 1), failure)? >= 1,
+                "key {key}"
+            );
+            assert!(rt;
+                loads_of(&rt, Call::Remove(key), failure)? >= 1,
+                "key {key}"
+            );
         }
     }
+    Ok(())
+}
+
+// Adds a leaf where no node is spare: after a refusal the list is as before, and a second try succeeds. Whether it was
+// refused.
+fn insert_unspared(
+    rt: &(impl Abort + AllocGlobal),
+    tree: &mut Tree,
+    list: &mut PlainList,
+    key: u64,
+) -> Result<bool, Fail>
+    requires { IsTree tree.old.sets tree.old.root.0 tree.old.keys tree.old.leaf_bits }
+    ensures { IsTree tree.new.sets tree.new.root.0 tree.new.keys tree.new.leaf_bits }
+{
+    tree.refuse_spare(1);
+    let first = call_both(rt, tree, list, Call::Insert(key))?;
+    tree.refuse_spare(0);
+    assert_eq!(rt;
+        call_both(rt, tree, list, Call::Range)?,
+        Ok(()),
+        "key {key}"
+    );
+    if first == Ok(()) {
+        return Ok(false);
+    }
+    assert_eq!(rt; first, Err(Trouble::NoMemory), "key {key}");
+    assert_eq!(rt; list.find(key), None, "key {key}");
+    assert_eq!(rt;
+        call_both(rt, tree, list, Call::Insert(key))?,
+        Ok(()),
+        "key {key}"
+    );
+    assert_eq!(rt;
+        call_both(rt, tree, list, Call::Range)?,
+        Ok(()),
+        "key {key}"
+    );
+    Ok(true)
+}
+
+#[test]
+fn each_split_needs_a_spare_node(rt: HostRuntime) -> Result<(), Fail> {
+    let (mut tree, mut list) = filled(&rt)?;
+    let mut refused = 0u64;
+    for i in 0..LEAVES {
+        let key = i.saturating_mul(STEP).saturating_add(1);
+        if insert_unspared(&rt, &mut tree, &mut list, key)? {
+            refused = refused.saturating_add(1);
+        }
+    }
+    assert!(rt; refused >= 4, "{refused} splits");
+    assert_eq!(rt; list.leaves.len(), 400);
     Ok(())
 }
 

@@ -8,7 +8,7 @@ loop-i-preserved c = one_more _ _ _ _ c.loop-i.invariant _ c.at.ensures (c.fits_
 
 pub returns : goal.returns
 returns c = λ _. record {
-  set = c.len.ensures.set;
-  some = (let n = c.len.ensures.len in let some = c.if-len-eq0.false in omega (arith, n, some));
+  set = c.len-i-end.ensures.set;
+  some = c.has_some.ensures c.if-not-has_some.false;
   each = λ j r read. c.loop-i.invariant j r (let lt = slice_get_within _ j r read in let n = c.len-i-end.ensures.len in let past = c.loop-i-test.false in omega (arith, lt, n, past)) read;
 }
