@@ -59,3 +59,22 @@ position_finds key rs (Some i) e = (
   },
   tt,
 )
+
+remainder : (q m key p : ℕ) → q ≡ 0 → q * p + m ≡ key → m ≡ key
+remainder q m key p zero_is whole = let e : 0 * p + m ≡ key = subst (λ z. z * p + m ≡ key) zero_is whole in omega (arith, e)
+
+-- of a key below 2^64, a length from 2^64 on divides 0 alone
+pub aligned_all : (key bits : ℕ) → key < 2 ^ 64 → 64 ≤ bits → (nat_eq key 0 ≡ true → key % 2 ^ bits ≡ 0) × (key % 2 ^ bits ≡ 0 → nat_eq key 0 ≡ true)
+aligned_all key bits fits big =
+    let more : 2 ^ 64 ≤ 2 ^ bits = pow_mono big in
+    let whole = div-add-mod' key (2 ^ bits) in
+    let none : key / 2 ^ bits < 1 = div_below key (2 ^ bits) 1 (pow_pos bits) (omega (arith, fits, more)) in
+    let zero_is : key / 2 ^ bits ≡ 0 = omega (arith, none) in
+    let same : key % 2 ^ bits ≡ key = remainder (key / 2 ^ bits) (key % 2 ^ bits) key (2 ^ bits) zero_is whole in
+    (λ e. (let z : key ≡ 0 = grind (arith, nat_tests) in same ∙ z), λ e. (let z : key ≡ 0 = sym same ∙ e in grind (arith, nat_tests)))
+
+-- a range with more than 64 bits ends above 2^64
+pub ends_above : (key bits : ℕ) → 64 < bits → (false ≡ true → key + 2 ^ bits ≤ 2 ^ 64) × (key + 2 ^ bits ≤ 2 ^ 64 → false ≡ true)
+ends_above key bits big =
+    let more : 2 ^ 64 < 2 ^ bits = pow_below 64 bits big in
+    (λ e. absurd (let clash : false ≡ true = e in cc), λ le. absurd (omega (arith, le, more)))

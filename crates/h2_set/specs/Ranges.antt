@@ -84,6 +84,14 @@ lies key bits r = nat_le key r.key && nat_le (limit r) (key + 2 ^ bits)
 abbrev pub Sides : ℕ → ℕ → Ref → Type 0
 Sides key bits r = (lies key bits r ≡ true) ⊎ ((limit r ≤ key) ⊎ (key + 2 ^ bits ≤ r.key))
 
+-- all keys are below this one
+abbrev pub AllBelow : ℕ → List Ref → Type 0
+AllBelow end rs = (i : ℕ) (r : Ref) → slice_get rs i ≡ Some r → r.key < end
+
+-- no key is below this one
+abbrev pub AllFrom : ℕ → List Ref → Type 0
+AllFrom start rs = (i : ℕ) (r : Ref) → slice_get rs i ≡ Some r → start ≤ r.key
+
 -- the keys are all below 2^62, or all at least 2^63
 abbrev pub IsOneClass : List Ref → Type 0
-IsOneClass rs = ((i : ℕ) (r : Ref) → slice_get rs i ≡ Some r → r.key < 2 ^ 62) ⊎ ((i : ℕ) (r : Ref) → slice_get rs i ≡ Some r → 2 ^ 63 ≤ r.key)
+IsOneClass rs = AllBelow (2 ^ 62) rs ⊎ AllFrom (2 ^ 63) rs

@@ -1,7 +1,7 @@
 -- What a set of references is seen as, and where a set with one too many is split.
 use Rattle.std.specs.Prelude.{◌≡◌, ℕ, ◌+◌, ◌/◌, ◌%◌, ◌<◌, ◌≤◌, ◌⊎◌, ◌^◌, Bool, true, List, Option, Some, None, length, slice_get, count_by, if◌then◌else◌}
 use Rattle.h2_ref.specs.declared.reference.Ref.{Ref}
-use Rattle.h2_set.specs.Ranges.{Rising, lies, put}
+use Rattle.h2_set.specs.Ranges.{Rising, lies, put, limit, IsApart, AllAligned, IsOneClass}
 
 -- the references in order, and how many there is room for
 pub record RefSet : Type 0 where
@@ -37,3 +37,16 @@ rest_of key bits r = if lies key bits r then None else Some r
 abbrev pub with_rest : Option Ref → List Ref → List Ref
 with_rest None rs = rs
 with_rest (Some r) rs = put r rs
+
+-- what must hold of a reference that is put into a set
+pub record Takes (s : RefSet) (r : Ref) : Type 0 where
+  pub apart : IsApart r s.refs
+  pub small : limit r ≤ 2 ^ 64
+
+-- what must hold of a set and a reference for which it is split
+pub record Splits (s : RefSet) (r : Ref) : Type 0 where
+  pub full : length s.refs ≡ s.capacity
+  pub apart : IsApart r s.refs
+  pub small : limit r ≤ 2 ^ 64
+  pub aligned : AllAligned (put r s.refs)
+  pub class : IsOneClass (put r s.refs)

@@ -10,6 +10,7 @@
 //! call of the trait has one relation between the forest before and after it.
 #![tactic(auto)]
 
+mod conditions;
 mod laws;
 mod range;
 mod set;

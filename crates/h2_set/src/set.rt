@@ -2,10 +2,11 @@ ghost use Rattle.std.specs.Prelude.{◌≡◌, ℕ, ◌+◌, ◌%◌, ◌<◌, �
 ghost use Rattle.std.specs.List.{position, remove};
 ghost use Rattle.h2_ref.specs.declared.reference.Ref.{Ref};
 ghost use Rattle.h2_set.specs.Ranges.{holds, IsPlaceOf, NoneHolds, put, limit, IsApart, IsAligned, AllAligned, IsOneClass, Rising, lies};
-ghost use Rattle.h2_set.specs.RefSet.{RefSet, IsRefSet, IsSplitOf, rest_of, with_rest};
+ghost use Rattle.h2_set.specs.RefSet.{RefSet, IsRefSet, IsSplitOf, Takes, Splits, rest_of, with_rest};
 
 use crate::range::holds;
-use crate::split::{parts_of, place_for};
+use crate::conditions::{are_aligned, are_one_class, ends_in_keys, is_apart};
+use crate::split::{parts_of, place_for, with_one_more};
 use arrayvec::ArrayVec;
 use h2_ref::Ref;
 use std::marker::Model;
@@ -100,6 +101,34 @@ impl Set {
         ensures absent { IfNone result (NoneHolds key self.now.refs) }
     {
         place_in(&self.refs, key)
+    }
+
+    /// Whether a reference may be put in: its range is disjoint from all others and ends at 2^64 or before.
+    pub fn takes(&self, r: &Ref) -> bool
+        ensures takes { IsTrue result ↔ Takes self.now r.now }
+    {
+        if !is_apart(r, &self.refs) {
+            return false;
+        }
+        ends_in_keys(r)
+    }
+
+    /// Whether the set may be split for a reference: it is full, the reference may be put in but for that, each key is a
+    /// multiple of the length of its range, and the keys are all below 2^62 or all at least 2^63.
+    pub fn splits(&self, r: &Ref) -> bool
+        ensures splits { IsTrue result ↔ Splits self.now r.now }
+    {
+        if !self.is_full() {
+            return false;
+        }
+        if !self.takes(r) {
+            return false;
+        }
+        let all = with_one_more(&self.refs, *r);
+        if !are_aligned(&all) {
+            return false;
+        }
+        are_one_class(&all)
     }
 
     /// Adds a reference whose range is disjoint from all others and ends at 2^64 or before, in its order.

@@ -44,7 +44,7 @@ fn floor(key: u64, bits: u8) -> u64
 }
 
 /// The range by which references are split: the least aligned one that holds half of them, and the lowest.
-fn least_range(all: &[Ref]) -> (u64, u8)
+pub(crate) fn least_range(all: &[Ref]) -> (u64, u8)
     requires few { (3 ≤ length all.now) × (length all.now < 1000) }
     requires rising { Rising 0 (2 ^ 64) all.now }
     requires aligned { AllAligned all.now }
@@ -146,7 +146,7 @@ fn left_over(r: Ref, key: u64, bits: u8) -> Option<Ref>
 }
 
 /// The references with one more in its order.
-fn with_one_more(refs: &[Ref], r: Ref) -> ArrayVec<Ref, 33>
+pub(crate) fn with_one_more(refs: &[Ref], r: Ref) -> ArrayVec<Ref, 33>
     requires few { length refs.now ≤ 32 }
     requires apart { IsApart r refs.now }
     ensures { result.items ≡ put r refs.now }

@@ -9,6 +9,8 @@ mod Descend
 mod Readied
 mod Only
 mod Paths
+mod Leaving
+mod Touching
 mod Removal
 mod RemoveBelow
 mod Taking

@@ -1,6 +1,6 @@
 -- What inserting and removing a leaf do to a forest.
 use Rattle.std.specs.List.{remove}
-use Rattle.std.specs.Prelude.{slice_set, filter, not, ◌≡◌, ℕ, ◌+◌, ◌^◌, ◌<◌, ◌≤◌, ◌⊎◌, ◌&&◌, nat_le, Bool, true, false, List, Option, Some, None, slice_get, length}
+use Rattle.std.specs.Prelude.{slice_set, filter, not, ◌≡◌, ℕ, ◌+◌, ◌^◌, ◌<◌, ◌≤◌, ◌⊎◌, ◌&&◌, nat_le, nat_lt, Bool, true, false, List, Option, Some, None, slice_get, length}
 use Rattle.h2_ref.specs.declared.reference.Ref.{Ref}
 use Rattle.h2_set.specs.Ranges.{limit, holds, lies, NoneHolds, IsApart, Sides, put, without, at_key, is_indirect, IsAligned}
 use Rattle.h2_tree.specs.declared.removing.Taken.{Taken}
@@ -202,6 +202,19 @@ KeepsPaths f g at leaf = (key : ℕ) (o : Option Ref) → holds key leaf ≡ fal
 -- a leaf whose key is from `from` to `to`
 abbrev pub is_between : ℕ → ℕ → Ref → Bool
 is_between from to r = nat_le from r.key && nat_le r.key to
+
+-- the range of a reference has a key from `from` to `to`
+abbrev pub touches : ℕ → ℕ → Ref → Bool
+touches from to r = nat_le r.key to && nat_lt from (limit r)
+
+-- a node below node at whose range has a key from `from` to `to` isn't loaded
+pub data RangeUnloaded (f : Forest) (from to : ℕ) : ℕ → Type 0 where
+  missing : {at : ℕ} {r : Ref} → (i : ℕ) → slice_get (refs f at) i ≡ Some r → is_indirect r ≡ true → touches from to r ≡ true → ((c : ℕ) → f.link at r.key ≡ loaded c → ⊥) → RangeUnloaded f from to at
+  deeper : {at c : ℕ} {r : Ref} → (i : ℕ) → slice_get (refs f at) i ≡ Some r → is_indirect r ≡ true → touches from to r ≡ true → f.link at r.key ≡ loaded c → RangeUnloaded f from to c → RangeUnloaded f from to at
+
+-- each node that was loaded has a key from `from` to `to` in its range
+pub record LoadsTouched (f g : Forest) (from to : ℕ) : Type 0 where
+  pub only : (m : ℕ) → g.stands m ≡ true → (f.stands m ≡ true) ⊎ ((g.low m ≤ to) × (from < g.low m + 2 ^ g.bits m))
 
 -- no loaded path leads to what the key has
 abbrev pub PathUnloaded : Forest → ℕ → ℕ → Type 0

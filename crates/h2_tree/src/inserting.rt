@@ -91,8 +91,10 @@ fn add<N: Sets>(alloc: Global, n: &mut N, at: NodeId, leaf: Ref) -> Result<(), N
 }
 
 /// Adds a leaf to the tree, or puts it in place of the one with its range, which is answered; None exactly where
-/// there is none. The room is at least 63. Trouble only where a node on the path of its key isn't loaded, or no
-/// node is spare.
+/// there is none. It goes into the set of one node on the path of its key, and a full set is split by the split rule.
+/// The room is at least 63, and is lowered by the number of nodes that are copied and by one for a split, as spare is.
+/// No node is unloaded, and paths to all keys stay loaded. Trouble only where a node on the path of its key isn't
+/// loaded, or no node is spare; nothing but loads took place then.
 pub fn insert<N: Sets>(
     alloc: Global,
     n: &mut N,

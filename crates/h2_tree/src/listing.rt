@@ -1,10 +1,10 @@
-ghost use Rattle.std.specs.Prelude.{◌≡◌, ℕ, [], ◌∷◌, ◌++◌, true, List, IfOk, IfErr, OnOk, filter};
+ghost use Rattle.std.specs.Prelude.{◌≡◌, ◌⊎◌, ℕ, [], ◌∷◌, ◌++◌, true, List, IfOk, IfErr, OnOk, filter};
 ghost use Rattle.h2_ref.specs.declared.reference.Ref.{Ref};
 ghost use Rattle.h2_set.specs.Forest.{Forest, IsSound, Walks, HasCause, LeavesOf, KeepsBeside};
-ghost use Rattle.h2_tree.specs.Changes.{is_between};
+ghost use Rattle.h2_tree.specs.Changes.{is_between, touches, RangeUnloaded, LoadsTouched};
 
 use h2_ref::{Ref, Trouble};
-use h2_set::{NodeId, Sets, is_indirect};
+use h2_set::{NodeId, Sets, holds, is_indirect};
 use std::alloc::Global;
 
 // Appends a leaf whose key is from `from` to `to`.
@@ -24,6 +24,16 @@ fn take_leaf(r: Ref, from: u64, to: u64, out: &mut Vec<Ref>) -> Result<(), Troub
     }
 }
 
+// Whether the range of a reference has a key from `from` to `to`.
+fn touches(r: &Ref, from: u64, to: u64) -> bool
+    ensures { result ≡ touches from to r.now }
+{
+    if r.key > to {
+        return false;
+    }
+    from < r.key || holds(r, from)
+}
+
 // Appends the leaves below a node with keys from `from` to `to`.
 fn collect<N: Sets>(
     alloc: Global,
@@ -38,23 +48,28 @@ fn collect<N: Sets>(
     ensures ok { OnOk result ((l : List Ref) → LeavesOf (N.forest n.old) at.0 l → out.new.items ≡ out.old.items ++ filter (is_between from to) l) }
     ensures walks { Walks (N.forest n.old) (N.forest n.new) }
     ensures err { IfErr result (HasCause (N.forest n.old) (N.forest n.new)) }
+    ensures touched { LoadsTouched (N.forest n.old) (N.forest n.new) from to }
+    ensures unloaded { IfErr result (λ e. (e ≡ Trouble.NoMemory) ⊎ RangeUnloaded (N.forest n.old) from to at.0) }
     ensures beside { KeepsBeside (N.forest n.old) (N.forest n.new) (N.beside n.old) (N.beside n.new) }
     ensures later { N.later n.old n.new }
 {
     let len = n.get(at).len();
     for i in 0..len {
         let r = *n.get(at).at(i);
-        if is_indirect(&r) {
-            let child = n.child(alloc, at, i)?;
-            collect(alloc, n, child, from, to, out)?;
-        } else {
-            take_leaf(r, from, to, out)?;
+        if touches(&r, from, to) {
+            if is_indirect(&r) {
+                let child = n.child(alloc, at, i)?;
+                collect(alloc, n, child, from, to, out)?;
+            } else {
+                take_leaf(r, from, to, out)?;
+            }
         }
     }
     Ok(())
 }
 
-/// The leaves with keys from `from` to `to`, in order. Trouble only from a load or want of memory.
+/// The leaves with keys from `from` to `to`, in order. Only nodes whose ranges have a key from `from` to `to` are
+/// loaded. Trouble only where one of them isn't loaded, or for want of memory.
 pub fn range<N: Sets>(
     alloc: Global,
     n: &mut N,
@@ -67,6 +82,8 @@ pub fn range<N: Sets>(
     ensures found { IfOk result (λ v. (l : List Ref) → LeavesOf (N.forest n.old) root.0 l → v.items ≡ filter (is_between from to) l) }
     ensures walks { Walks (N.forest n.old) (N.forest n.new) }
     ensures err { IfErr result (HasCause (N.forest n.old) (N.forest n.new)) }
+    ensures touched { LoadsTouched (N.forest n.old) (N.forest n.new) from to }
+    ensures unloaded { IfErr result (λ e. (e ≡ Trouble.NoMemory) ⊎ RangeUnloaded (N.forest n.old) from to root.0) }
     ensures beside { KeepsBeside (N.forest n.old) (N.forest n.new) (N.beside n.old) (N.beside n.new) }
     ensures later { N.later n.old n.new }
 {

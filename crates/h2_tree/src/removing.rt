@@ -1,8 +1,8 @@
-ghost use Rattle.std.specs.Prelude.{◌≡◌, ◌<◌, ◌≤◌, ◌⊎◌, true, false, ℕ, List, Some, slice_get, length, IfOk, IfErr, IfSome, IfNone, OnOk, OnErr};
+ghost use Rattle.std.specs.Prelude.{◌≡◌, ◌<◌, ◌≤◌, ◌⊎◌, true, false, ℕ, List, Some, None, slice_get, length, IfOk, IfErr, IfSome, IfNone, OnOk, OnErr};
 ghost use Rattle.h2_ref.specs.declared.reference.Ref.{Ref};
 ghost use Rattle.h2_set.specs.Ranges.{at_key, is_indirect};
-ghost use Rattle.h2_set.specs.Forest.{Forest, refs, IsSound, Walks, HasCause, LeavesOf, KeepsBeside};
-ghost use Rattle.h2_tree.specs.Changes.{IsFree, LeadsOnly, Removes, TakesOut, PathUnloaded};
+ghost use Rattle.h2_set.specs.Forest.{Forest, refs, IsSound, Walks, HasCause, LeavesOf, Reaches, KeepsBeside};
+ghost use Rattle.h2_tree.specs.Changes.{IsFree, LeadsOnly, Removes, KeepsPaths, TakesOut, PathUnloaded};
 
 use h2_ref::{Ref, Trouble};
 use h2_set::{NodeId, Sets, is_indirect};
@@ -86,9 +86,11 @@ fn take<N: Sets>(alloc: Global, n: &mut N, at: NodeId, key: u64) -> Result<Taken
     }
 }
 
-/// Takes out the leaf with this key, which is answered; None exactly where there is none, and then nothing has
-/// changed. What the leaf names isn't held, and the room is at least 62. Indirect blocks that become empty go.
-/// Trouble only where a node on the key's path isn't loaded.
+/// Takes out the leaf with this key, which is answered; None exactly where there is none, and then nothing but loads
+/// took place. What the leaf names isn't held, and the room is at least 62; it is lowered by the number of nodes that
+/// are copied. Of the tree nothing goes but indirect blocks that would be left empty: the reference to the uppermost of
+/// them is cut. Paths to other keys stay loaded. Trouble only where a node on the key's path isn't loaded; nothing but
+/// loads took place then.
 pub fn remove<N: Sets>(
     alloc: Global,
     n: &mut N,
@@ -103,6 +105,8 @@ pub fn remove<N: Sets>(
     ensures answer { IfOk result (λ o. (l : List Ref) → LeavesOf (N.forest n.old) root.0 l → o ≡ at_key key l) }
     ensures removes { IfOk result (λ o. IfSome o (Removes (N.forest n.old) (N.forest n.new) root.0)) }
     ensures key { IfOk result (λ o. IfSome o (λ leaf. leaf.key ≡ key)) }
+    ensures paths { IfOk result (λ o. IfSome o (KeepsPaths (N.forest n.old) (N.forest n.new) root.0)) }
+    ensures path { IfOk result (λ o. IfSome o (λ leaf. Reaches (N.forest n.new) leaf.key root.0 None)) }
     ensures absent { IfOk result (λ o. IfNone o (Walks (N.forest n.old) (N.forest n.new))) }
     ensures walks { OnErr result (Walks (N.forest n.old) (N.forest n.new)) }
     ensures err { IfErr result (HasCause (N.forest n.old) (N.forest n.new)) }

@@ -1,4 +1,4 @@
-use Rattle.std.proofs.Common.{◌≡◌, ◌∙◌, sym, arith, ap, refl, true, false, List, ◌++◌, Some, subst, slice_get}
+use Rattle.std.proofs.Common.{◌≡◌, ◌⊎◌, inl, inr, ◌∙◌, sym, arith, ap, refl, true, false, List, ◌++◌, Some, subst, slice_get}
 use Rattle.std.specs.Prelude.{filter}
 use Rattle.std.proofs.lemmas.List.{append-nil}
 use Rattle.h2_ref.specs.declared.reference.Ref.{Ref}
@@ -6,16 +6,19 @@ use Rattle.h2_set.specs.Ranges.{is_indirect}
 use Rattle.h2_set.specs.RefSet.{RefSet}
 use Rattle.h2_set.specs.Forest.{refs}
 use Rattle.h2_set.specs.StayLaws.{Walks-refl, Walks-trans}
-use Rattle.h2_tree.specs.Changes.{is_between}
+use Rattle.h2_tree.specs.Changes.{is_between, touches, RangeUnloaded, missing, deeper}
+use Rattle.h2_tree.proofs.Touching.{Touched-refl, Touched-trans, touched_load, unloaded_back, skip_step, always_unloaded, carried_err}
+use Rattle.h2_ref.specs.declared.faults.Trouble.TheVariants.{NoMemory}
 use Rattle.h2_tree.proofs.Climb.{next_node}
 use Rattle.h2_tree.proofs.Answering.{beside_same, beside_on}
 use Rattle.h2_tree.proofs.Collect.{no_leaves, collected_more, leaf_step, child_step}
 use Rattle.h2_tree.proofs.listing.+collect.Goals as goal
-use Rattle.h2_tree.proofs.listing.+collect.Goals.{then-is_indirect+in_ok-child+in_ok-collect, else-is_indirect+in_ok-take_leaf}
+use Rattle.h2_tree.proofs.listing.+collect.Goals.{then-touches+then-is_indirect+in_ok-child+in_ok-collect, then-touches+else-is_indirect+in_ok-take_leaf, else-touches}
 
 pub loop-i-init : goal.loop-i-init
 loop-i-init g t c = record {
   walks = Walks-refl _ c.requires.sound;
+  touched = Touched-refl _ _ _;
   beside = beside_same _ _;
   later = g.met.N.Sets.same_later _;
   told = λ front h.
@@ -60,24 +63,88 @@ loop-i-preserved g t c =
     let at = c.args.at.0 in
     let read : slice_get (refs f at) i ≡ Some r = subst (λ (s : RefSet). slice_get s.refs i ≡ Some r) c.get-in-loop-i.ensures c.at.ensures in
     let read0 : slice_get (refs f0 at) i ≡ Some r = subst (λ (s : RefSet). slice_get s.refs i ≡ Some r) (c.get-in-loop-i.ensures ∙ inv.walks.sets at c.requires.stands) c.at.ensures in
-    elim c.if-is_indirect.branch [
-      | else-is_indirect+in_ok-take_leaf w ↦
-          let leaf : is_indirect r ≡ false = sym c.is_indirect.ensures ∙ w.if-is_indirect.false in
+    elim c.if-touches.branch [
+      | else-touches w ↦
+          let off : touches c.args.from c.args.to r ≡ false = sym c.touches.ensures ∙ w.if-touches.false in
           rw (w.n-is, w.out-is) (record {
             walks = inv.walks;
+            touched = inv.touched;
+            beside = inv.beside;
+            later = inv.later;
+            told = collected_more f0 at i p c.args.out.now.items c.loop-i.out.items c.loop-i.out.items r inv.told read0 (skip_step f0 at c.args.from c.args.to c.loop-i.out.items r off);
+          })
+      | then-touches+else-is_indirect+in_ok-take_leaf w ↦
+          let leaf : is_indirect r ≡ false = sym w.is_indirect.ensures ∙ w.if-is_indirect.false in
+          rw (w.n-is, w.out-is) (record {
+            walks = inv.walks;
+            touched = inv.touched;
             beside = inv.beside;
             later = inv.later;
             told = collected_more f0 at i p c.args.out.now.items c.loop-i.out.items w.take_leaf.new.out.items r inv.told read0 (leaf_step f0 at p c.loop-i.out.items w.take_leaf.new.out.items r leaf w.in_ok-take_leaf.ensures.ok);
           })
-      | then-is_indirect+in_ok-child+in_ok-collect w ↦
+      | then-touches+then-is_indirect+in_ok-child+in_ok-collect w ↦
           let child = w.in_ok-child.ensures in
           let rest = w.in_ok-collect.ensures in
-          let ind : is_indirect r ≡ true = sym c.is_indirect.ensures ∙ w.if-is_indirect.true in
+          let ind : is_indirect r ≡ true = sym w.is_indirect.ensures ∙ w.if-is_indirect.true in
+          let on : touches c.args.from c.args.to r ≡ true = sym c.touches.ensures ∙ w.if-touches.true in
+          let there = (inv.walks.stays at c.requires.stands).place.stands in
           let loaded_walk = Walks-trans _ _ _ inv.walks child.walks in
+          let loaded_touched = Touched-trans _ _ _ _ _ child.walks inv.touched (touched_load _ _ at i r _ _ there read ind on child.walks (child.loads r read)) in
           rw (w.n-is, w.out-is) (record {
             walks = Walks-trans _ _ _ loaded_walk rest.walks;
+            touched = Touched-trans _ _ _ _ _ rest.walks loaded_touched rest.touched;
             beside = beside_on _ _ _ _ _ _ (λ m st. (loaded_walk.stays m st).place.stands) (beside_on _ _ _ _ _ _ (λ m st. (inv.walks.stays m st).place.stands) inv.beside child.beside) rest.beside;
             later = g.met.N.Sets.later_later _ _ _ (g.met.N.Sets.later_later _ _ _ inv.later child.later) rest.later;
             told = collected_more f0 at i p c.args.out.now.items c.loop-i.out.items w.collect.new.out.items r inv.told read0 (child_step f0 _ at _ p c.loop-i.out.items w.collect.new.out.items r c.requires.sound loaded_walk c.requires.stands ind (child.ok _ read) rest.ok);
           })
     ]
+
+pub returns-in_err-child-clause-touched : goal.returns-in_err-child-clause-touched
+returns-in_err-child-clause-touched g t c =
+    let f = g.N.Sets.forest c.loop-i.n in
+    let inv = c.loop-i.invariant in
+    let child = c.in_err-child.ensures in
+    let ind : is_indirect c.at.result.now ≡ true = sym c.is_indirect.ensures ∙ c.if-is_indirect.true in
+    let on : touches c.args.from c.args.to c.at.result.now ≡ true = sym c.touches.ensures ∙ c.if-touches.true in
+    let read : slice_get (refs f c.args.at.0) c.loop-i.i ≡ Some c.at.result.now = subst (λ (s : RefSet). slice_get s.refs c.loop-i.i ≡ Some c.at.result.now) c.get-in-loop-i.ensures c.at.ensures in
+    let there = (inv.walks.stays c.args.at.0 c.requires.stands).place.stands in
+    Touched-trans _ _ _ _ _ child.walks inv.touched (touched_load _ _ c.args.at.0 c.loop-i.i c.at.result.now _ _ there read ind on child.walks (child.loads c.at.result.now read))
+
+pub returns-in_err-child-clause-unloaded : goal.returns-in_err-child-clause-unloaded
+returns-in_err-child-clause-unloaded g t c =
+    let f = g.N.Sets.forest c.loop-i.n in
+    let inv = c.loop-i.invariant in
+    let child = c.in_err-child.ensures in
+    let ind : is_indirect c.at.result.now ≡ true = sym c.is_indirect.ensures ∙ c.if-is_indirect.true in
+    let on : touches c.args.from c.args.to c.at.result.now ≡ true = sym c.touches.ensures ∙ c.if-touches.true in
+    let read : slice_get (refs f c.args.at.0) c.loop-i.i ≡ Some c.at.result.now = subst (λ (s : RefSet). slice_get s.refs c.loop-i.i ≡ Some c.at.result.now) c.get-in-loop-i.ensures c.at.ensures in
+    always_unloaded c.from_residual.result (unloaded_back c.requires.sound inv.walks c.requires.stands (missing c.loop-i.i read ind on (λ d link. child.unloaded c.at.result.now d read link)))
+
+pub returns-in_err-collect-clause-touched : goal.returns-in_err-collect-clause-touched
+returns-in_err-collect-clause-touched g t c =
+    let f = g.N.Sets.forest c.loop-i.n in
+    let inv = c.loop-i.invariant in
+    let child = c.in_ok-child.ensures in
+    let rest = c.in_err-collect.ensures in
+    let ind : is_indirect c.at.result.now ≡ true = sym c.is_indirect.ensures ∙ c.if-is_indirect.true in
+    let on : touches c.args.from c.args.to c.at.result.now ≡ true = sym c.touches.ensures ∙ c.if-touches.true in
+    let read : slice_get (refs f c.args.at.0) c.loop-i.i ≡ Some c.at.result.now = subst (λ (s : RefSet). slice_get s.refs c.loop-i.i ≡ Some c.at.result.now) c.get-in-loop-i.ensures c.at.ensures in
+    let there = (inv.walks.stays c.args.at.0 c.requires.stands).place.stands in
+    Touched-trans _ _ _ _ _ rest.walks (Touched-trans _ _ _ _ _ child.walks inv.touched (touched_load _ _ c.args.at.0 c.loop-i.i c.at.result.now _ _ there read ind on child.walks (child.loads c.at.result.now read))) rest.touched
+
+pub returns-in_err-collect-clause-unloaded : goal.returns-in_err-collect-clause-unloaded
+returns-in_err-collect-clause-unloaded g t c =
+    let f = g.N.Sets.forest c.loop-i.n in
+    let inv = c.loop-i.invariant in
+    let child = c.in_ok-child.ensures in
+    let ind : is_indirect c.at.result.now ≡ true = sym c.is_indirect.ensures ∙ c.if-is_indirect.true in
+    let on : touches c.args.from c.args.to c.at.result.now ≡ true = sym c.touches.ensures ∙ c.if-touches.true in
+    let read : slice_get (refs f c.args.at.0) c.loop-i.i ≡ Some c.at.result.now = subst (λ (s : RefSet). slice_get s.refs c.loop-i.i ≡ Some c.at.result.now) c.get-in-loop-i.ensures c.at.ensures in
+    let there = (inv.walks.stays c.args.at.0 c.requires.stands).place.stands in
+    let loaded_walk = Walks-trans _ _ _ inv.walks child.walks in
+    let node = child.walks.sound.node c.args.at.0 (child.walks.stays c.args.at.0 there).place.stands in
+    let read_h = ap (λ (s : RefSet). slice_get s.refs c.loop-i.i) (child.walks.sets c.args.at.0 there) ∙ read in
+    carried_err c.from_residual-in_err-collect.result c.in_err-collect.field-0.0 c.from_residual-in_err-collect.ensures.1 (elim c.in_err-collect.ensures.unloaded as (λ _. (c.in_err-collect.field-0.0 ≡ NoMemory) ⊎ RangeUnloaded (g.N.Sets.forest c.args.n.now) c.args.from c.args.to c.args.at.0) [
+      | inl none ↦ inl none
+      | inr u ↦ inr (unloaded_back c.requires.sound loaded_walk c.requires.stands (deeper c.loop-i.i read_h ind on (child.ok c.at.result.now read) u))
+    ])

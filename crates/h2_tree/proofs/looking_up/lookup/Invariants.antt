@@ -1,5 +1,6 @@
 use Rattle.std.proofs.Common.{◌≡◌, true}
 use Rattle.h2_set.specs.Forest.{Walks, KeepsBeside}
+use Rattle.h2_tree.specs.Changes.{LoadsTouched}
 use Rattle.h2_tree.proofs.Climb.{LeadsTo, LedBack}
 use Rattle.h2_tree.proofs.looking_up.lookup.Given as goal
 
@@ -8,6 +9,7 @@ invariant-loop-i g l =
     let f = g.N.Sets.forest l.n in
     record {
       walks : Walks (g.N.Sets.forest l.fn.n) f;
+      touched : LoadsTouched (g.N.Sets.forest l.fn.n) f l.key l.key;
       stands : f.stands l.at.0 ≡ true;
       leads : LeadsTo f l.key l.fn.root.0 l.at.0;
       led : LedBack (g.N.Sets.forest l.fn.n) l.key l.fn.root.0 l.at.0;

@@ -1,9 +1,20 @@
 use Rattle.std.proofs.Common.{inl, arith, ◌∙◌, subst}
 use Rattle.h2_tree.specs.Changes.{TakesOut}
-use Rattle.h2_tree.specs.declared.removing.Taken.TheVariants.{Sole}
+use Rattle.h2_tree.specs.declared.removing.Taken.TheVariants.{Out, Sole}
 use Rattle.h2_tree.proofs.Answering.{beside_on}
 use Rattle.h2_tree.proofs.TakeBelow.{root_free, root_room, root_answer, root_removes}
+use Rattle.h2_tree.proofs.Leaving.{removes_paths, removes_path}
 use Rattle.h2_tree.proofs.removing.remove.Goals as goal
+
+pub returns-in-Out-clause-paths : goal.returns-in-Out-clause-paths
+returns-in-Out-clause-paths g c =
+    let taken : TakesOut (g.N.Sets.forest c.args.n.now) (g.N.Sets.forest c.take.new.n) c.args.root.0 c.args.key (Out c.in-Out.leaf) = subst (λ t. TakesOut (g.N.Sets.forest c.args.n.now) (g.N.Sets.forest c.take.new.n) c.args.root.0 c.args.key t) c.in-Out.is c.in_ok-take.ensures.taken in
+    removes_paths _ _ _ c.in-Out.leaf c.requires.sound c.requires.stands taken.0
+
+pub returns-in-Out-clause-path : goal.returns-in-Out-clause-path
+returns-in-Out-clause-path g c =
+    let taken : TakesOut (g.N.Sets.forest c.args.n.now) (g.N.Sets.forest c.take.new.n) c.args.root.0 c.args.key (Out c.in-Out.leaf) = subst (λ t. TakesOut (g.N.Sets.forest c.args.n.now) (g.N.Sets.forest c.take.new.n) c.args.root.0 c.args.key t) c.in-Out.is c.in_ok-take.ensures.taken in
+    removes_path _ _ _ c.in-Out.leaf c.requires.stands taken.0
 
 pub take-requires-clause-room : goal.take-requires-clause-room
 take-requires-clause-room g c = let node = c.requires.sound.node c.args.root.0 c.requires.stands in (omega (arith, node.top c.requires.top), c.requires.room)
@@ -45,3 +56,9 @@ pub returns-in-Sole-clause-beside : goal.returns-in-Sole-clause-beside
 returns-in-Sole-clause-beside g c =
     let taken : TakesOut (g.N.Sets.forest c.args.n.now) (g.N.Sets.forest c.take.new.n) c.args.root.0 c.args.key (Sole c.in-Sole.leaf) = subst (λ t. TakesOut (g.N.Sets.forest c.args.n.now) (g.N.Sets.forest c.take.new.n) c.args.root.0 c.args.key t) c.in-Sole.is c.in_ok-take.ensures.taken in
     beside_on _ _ _ _ _ _ (λ m st. (taken.0.walks.stays m st).place.stands) c.in_ok-take.ensures.beside c.cut_at.ensures.beside
+
+pub returns-in-Sole-clause-paths : goal.returns-in-Sole-clause-paths
+returns-in-Sole-clause-paths g c = removes_paths _ _ _ c.in-Sole.leaf c.requires.sound c.requires.stands (returns-in-Sole-clause-removes g c)
+
+pub returns-in-Sole-clause-path : goal.returns-in-Sole-clause-path
+returns-in-Sole-clause-path g c = removes_path _ _ _ c.in-Sole.leaf c.requires.stands (returns-in-Sole-clause-removes g c)
