@@ -2,8 +2,39 @@ use super::by_hand::block;
 use crate::*;
 use h2_check::crc32c;
 use h2_num::{get32, get64, put32};
-use h2_ref::decode;
 use std::test::Fail;
+
+// Whether these bytes from a place up to another are zeros.
+fn are_zeros(b: &[u8], from: usize, to: usize) -> bool {
+    let mut zeros = true;
+    for at in from..to {
+        if at < b.len() && b[at] != 0 {
+            zeros = false;
+        }
+    }
+    zeros
+}
+
+/// Whether the first reference of the super-root is one to an inode, by the format's table: its kind, method,
+/// keybits and flags, the key, the place and radix, the id, any check, and zeros.
+fn is_inode_ref(b: &[u8]) -> bool {
+    if b.len() != 65536 {
+        return false;
+    }
+    let key = get64(b, 520);
+    let place = get64(b, 528);
+    let id = get64(b, 536);
+    get64(b, 512) == 0x0301
+        && key >= 1
+        && key < 1 << 62
+        && place % 1024 == 10
+        && place > 10
+        && place < 1 << 34
+        && id >= 1
+        && id <= 1 << 62
+        && are_zeros(b, 544, 576)
+        && are_zeros(b, 584, 640)
+}
 
 /// What a block with right magic, version and check is refused for, if one byte of it was changed. The block
 /// is that of the header of checkpoint 6 with 5 zones, whose second PFS has the key 3. The rules that a
@@ -40,19 +71,13 @@ fn field_refusal(b: &[u8], at: usize) -> Option<HeadFault> {
                 Some(32)
             }
         }
-        512..640 => {
-            let Some(bytes) = b[512..].first_chunk::<128>() else {
-                return None;
-            };
-            match decode(bytes) {
-                Ok(r) => match r.key {
-                    0..3 => None,
-                    3..0x4000_0000_0000_0000 => Some(640),
-                    _ => Some(512),
-                },
-                Err(_) => Some(512),
-            }
-        }
+        512..640 => if !is_inode_ref(b) {
+            Some(512)
+        } else if get64(b, 520) >= 3 {
+            Some(640)
+        } else {
+            None
+        },
         _ => if b[at] == 0 { None } else { Some(at as u32) },
     };
     match wrong {
@@ -77,25 +102,71 @@ fn after_zero(register: u32) -> u32 {
     r
 }
 
-// How the check changes where one bit does, the first of the byte at a place below 65532: it changes by the
-// same, whatever the other bytes are.
-fn check_change(at: usize) -> u32 {
-    let mut change = 1;
-    for _ in at..65532 {
-        change = after_zero(change);
-    }
-    change
+// How the check changes where a bit of a byte does, for each of its eight bits: it changes by the same, whatever
+// the other bytes are, and where several bits change by all of theirs.
+#[derive(Clone, Copy)]
+struct CheckChange {
+    of_bits: [u32; 8],
 }
 
-// Whether the block, with one bit changed, is refused for what comes before the fields.
-fn is_refused_early(b: &mut [u8], at: usize, change: u32) -> bool {
+impl CheckChange {
+    // For the last byte that the check covers.
+    fn of_the_last() -> CheckChange {
+        CheckChange {
+            of_bits: [1, 2, 4, 8, 16, 32, 64, 128],
+        }
+        .one_before()
+    }
+
+    // For the byte before.
+    fn one_before(self) -> CheckChange {
+        let [a, b, c, d, e, f, g, h] = self.of_bits;
+        CheckChange {
+            of_bits: [
+                after_zero(a),
+                after_zero(b),
+                after_zero(c),
+                after_zero(d),
+                after_zero(e),
+                after_zero(f),
+                after_zero(g),
+                after_zero(h),
+            ],
+        }
+    }
+
+    // For the byte at a place below 65532.
+    fn of_byte(at: usize) -> CheckChange {
+        let mut change = CheckChange::of_the_last();
+        for _ in at..65531 {
+            change = change.one_before();
+        }
+        change
+    }
+
+    // Where these bits of the byte change.
+    fn by(self, bits: u8) -> u32 {
+        let mut change = 0;
+        let mut left = bits;
+        for of_bit in self.of_bits {
+            if left & 1 == 1 {
+                change ^= of_bit;
+            }
+            left >>= 1;
+        }
+        change
+    }
+}
+
+// Whether the block, with these bits of a byte changed, is refused for what comes before the fields.
+fn is_refused_early(b: &mut [u8], at: usize, bits: u8, change: u32) -> bool {
     if b.len() != 65536 {
         return false;
     }
     if at >= 65536 {
         return false;
     }
-    b[at] ^= 1;
+    b[at] ^= bits;
     let expected = match at {
         0..8 => HeadFault::Magic,
         8..12 => HeadFault::Version(get32(b, 8)),
@@ -109,24 +180,24 @@ fn is_refused_early(b: &mut [u8], at: usize, change: u32) -> bool {
         },
     };
     let read = read_from(b, 1);
-    b[at] ^= 1;
+    b[at] ^= bits;
     read == Err(expected)
 }
 
 // Whether it is refused for the field, or read, if its check is made anew.
-fn is_refused_by_field(b: &mut [u8], at: usize, change: u32) -> bool {
+fn is_refused_by_field(b: &mut [u8], at: usize, bits: u8, change: u32) -> bool {
     if b.len() != 65536 {
         return false;
     }
     if at >= 65536 {
         return false;
     }
-    b[at] ^= 1;
+    b[at] ^= bits;
     put32(b, 65532, CHECK ^ change);
     let read = read_from(b, 1).err();
     let expected = field_refusal(b, at);
     if at < b.len() {
-        b[at] ^= 1;
+        b[at] ^= bits;
     }
     read == expected
 }
@@ -134,11 +205,13 @@ fn is_refused_by_field(b: &mut [u8], at: usize, change: u32) -> bool {
 #[test]
 fn the_first_bytes_are_covered(rt: HostRuntime) -> Result<(), Fail> {
     let mut b = block(rt.alloc())?;
-    let mut change = check_change(600);
+    let mut change = CheckChange::of_byte(600);
     for step in 0..600usize {
-        change = after_zero(change);
+        change = change.one_before();
         let at = 599 - step;
-        assert!(rt; is_refused_early(&mut b, at, change), "byte {at}");
+        for bits in 1..=255u8 {
+            assert!(rt; is_refused_early(&mut b, at, bits, change.by(bits)), "byte {at}, bits {bits}");
+        }
     }
     Ok(())
 }
@@ -146,13 +219,15 @@ fn the_first_bytes_are_covered(rt: HostRuntime) -> Result<(), Fail> {
 #[test]
 fn the_last_bytes_are_covered(rt: HostRuntime) -> Result<(), Fail> {
     let mut b = block(rt.alloc())?;
-    let mut change = 1;
+    let mut change = CheckChange::of_the_last();
     for step in 0..600usize {
         let at = 65535 - step;
-        if at < 65532 {
-            change = after_zero(change);
+        if at < 65531 {
+            change = change.one_before();
         }
-        assert!(rt; is_refused_early(&mut b, at, change), "byte {at}");
+        for bits in 1..=255u8 {
+            assert!(rt; is_refused_early(&mut b, at, bits, change.by(bits)), "byte {at}, bits {bits}");
+        }
     }
     Ok(())
 }
@@ -160,11 +235,13 @@ fn the_last_bytes_are_covered(rt: HostRuntime) -> Result<(), Fail> {
 #[test]
 fn the_first_fields_are_named(rt: HostRuntime) -> Result<(), Fail> {
     let mut b = block(rt.alloc())?;
-    let mut change = check_change(600);
+    let mut change = CheckChange::of_byte(600);
     for step in 0..588usize {
-        change = after_zero(change);
+        change = change.one_before();
         let at = 599 - step;
-        assert!(rt; is_refused_by_field(&mut b, at, change), "byte {at}");
+        for bits in 1..=255u8 {
+            assert!(rt; is_refused_by_field(&mut b, at, bits, change.by(bits)), "byte {at}, bits {bits}");
+        }
     }
     Ok(())
 }
@@ -172,11 +249,15 @@ fn the_first_fields_are_named(rt: HostRuntime) -> Result<(), Fail> {
 #[test]
 fn the_last_fields_are_named(rt: HostRuntime) -> Result<(), Fail> {
     let mut b = block(rt.alloc())?;
-    let mut change = 1;
+    let mut change = CheckChange::of_the_last();
     for step in 0..596usize {
-        change = after_zero(change);
         let at = 65531 - step;
-        assert!(rt; is_refused_by_field(&mut b, at, change), "byte {at}");
+        if step > 0 {
+            change = change.one_before();
+        }
+        for bits in 1..=255u8 {
+            assert!(rt; is_refused_by_field(&mut b, at, bits, change.by(bits)), "byte {at}, bits {bits}");
+        }
     }
     Ok(())
 }
