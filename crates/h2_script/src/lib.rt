@@ -2,8 +2,9 @@
 //!
 //! A script is lines; a line is skipped, ends a phase, or is a command of one of 8 clients. Which bytes are
 //! a script, and which script they are, is a relation by cases (`specs/Scripts`), and so is what is wrong
-//! first with bytes that are none. The text of a history has a line for each reply (`specs/Texts`), and a
-//! history has one text.
+//! first with bytes that are none. Bytes are one script or have one first fault, and never both, so reading
+//! is exact either way. Each command of a script is lawful, and its clients are below 8. The text of a
+//! history has a line for each reply (`specs/Texts`), and a history has one text.
 #![tactic(auto)]
 
 mod arguments;
