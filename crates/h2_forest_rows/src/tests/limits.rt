@@ -31,8 +31,17 @@ fn a_directory_has_4096_entries(rt: HostRuntime) -> Result<(), Fail> {
     Ok(())
 }
 
+// A snapshot, and its end, now and then.
+fn snapshot_line(alloc: Global, i: u32) -> Result<Option<String>, AllocError> {
+    match i % 256 {
+        6 => Ok(Some(format!(in alloc; "0 snapshot ROOT S{}\n", i / 256)?)),
+        7 => Ok(Some(format!(in alloc; "0 pfs-delete S{}\n", i / 256)?)),
+        _ => Ok(None),
+    }
+}
+
 // One of many commands on a directory of 4096 files, 8 of which are open and have some megabytes.
-fn long_line(alloc: Global, i: u32) -> Result<String, AllocError> {
+fn other_line(alloc: Global, i: u32) -> Result<String, AllocError> {
     let name = i % 4096;
     let handle = i / 8 % 8;
     let place = i as u64 * 7919 % 4_194_304;
@@ -49,6 +58,13 @@ fn long_line(alloc: Global, i: u32) -> Result<String, AllocError> {
         5 => format!(in alloc; "0 rm ROOT:/y{name}\n"),
         6 => format!(in alloc; "0 mv ROOT:/d/x{name} ROOT:/d/e{name}\n"),
         _ => format!(in alloc; "0 open ROOT:/d/e{name}\n"),
+    }
+}
+
+fn long_line(alloc: Global, i: u32) -> Result<String, AllocError> {
+    match snapshot_line(alloc, i)? {
+        Some(line) => Ok(line),
+        None => other_line(alloc, i),
     }
 }
 
