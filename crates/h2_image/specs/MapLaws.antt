@@ -51,9 +51,11 @@ module _ (image other : Places) (roots : List Ref) (same : SameReached volume im
       record {
         leaf = l.leaf;
         is_zone = l.is_zone;
-        check = check_same r block l.check;
-        valid = l.valid;
-        bytes = LeafBytes-same l.leaf (from_place image r.place) (from_place other r.place) l.valid block l.bytes;
+        leads = record {
+          check = check_same r block l.leads.check;
+          valid = l.leads.valid;
+          bytes = LeafBytes-same l.leaf (from_place image r.place) (from_place other r.place) l.leads.valid block l.leads.bytes;
+        };
       }
   leads_same zones segments (suc level) zone r reach names valid (refs, node, entries, below) =
       let radix = map_radix (suc level) r names.kind valid in

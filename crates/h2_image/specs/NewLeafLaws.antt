@@ -61,7 +61,7 @@ leaf_under : (image : Places) (zones : ℕ) (segments : List (List Code)) (level
 leaf_under image zones segments zero first zone r le names l from to inside =
     let same : first ≡ zone = omega arith in
     let there : node_place 0 first (turn_of 1) ≡ leaf_place first 0 = omega arith in
-    subst (LeafThere image segments) same (record { leaf = l.leaf; is_zone = l.is_zone; valid = l.valid; bytes = subst (λ (p : ℕ). LeafBytes l.leaf (from_place image p)) (names.place ∙ there) l.bytes })
+    subst (LeafThere image segments) same (record { leaf = l.leaf; is_zone = l.is_zone; valid = l.leads.valid; bytes = subst (λ (p : ℕ). LeafBytes l.leaf (from_place image p)) (names.place ∙ there) l.leads.bytes })
 leaf_under image zones segments (suc level) first zone r le names (refs, node, entries, below) from to inside =
     let u = under level first zone (omega arith) from to in
     let next = first + zones_under level * u.index in

@@ -1,0 +1,5 @@
+mod histories;
+mod judging;
+mod limits;
+mod running;
+mod scripts;
