@@ -1,8 +1,8 @@
 -- The blocks of a map, read one after the other in the order of their zones.
-use Rattle.std.proofs.Common.{◌≡◌, ◌≢◌, ◌<◌, ◌≤◌, ◌+◌, ◌*◌, ◌-◌, ◌++◌, min, ℕ, zero, suc, List, [], length, refl, sym, ap, ◌∙◌, subst, arith, inl, inr}
+use Rattle.std.proofs.Common.{◌≡◌, ◌≢◌, ◌<◌, ◌≤◌, ◌+◌, ◌*◌, ◌-◌, min, ℕ, zero, suc, List, length, refl, sym, ap, ◌∙◌, subst, arith, inl, inr}
 use Rattle.std.specs.Prelude.{slice_index_or, Result, Ok, Err, OnOk, IfErr}
 use Rattle.std.proofs.lemmas.Bool.{cases_lt}
-use Rattle.std.proofs.lemmas.List.{get_or-append-add, get_or_default}
+use Rattle.std.proofs.lemmas.List.{get_or_default}
 use mathlib.Core.Path.{fun_ext}
 use Rattle.h2_num.specs.Places.{Places, Same}
 use Rattle.h2_disk.specs.Trace.{Trace}
@@ -15,7 +15,7 @@ use Rattle.h2_header.specs.Map.{top_level, zones_under, IsMapRef, IsMapEntry, Is
 use Rattle.h2_freeleaf.specs.declared.fault.MapFault.{MapFault}
 use Rattle.h2_freeleaf.specs.declared.fault.MapRead.{MapRead}
 use Rattle.h2_freeleaf.specs.declared.fault.MapRead.TheVariants.{Fault, Disk, NoMemory}
-use Rattle.h2_freeleaf.specs.InImage.{LeadsToLeaf, LeadsToNode, AreEntries, LeadsTo, AllLead, AreCodesOf}
+use Rattle.h2_freeleaf.specs.InImage.{LeadsToNode, AreEntries, LeadsTo, AllLead, AreCodesOf}
 use Rattle.h2_freeleaf.specs.InImageLaws.{top_cases}
 use Rattle.h2_freeleaf.specs.FirstBad.{HasCause, IsBad, IsBadNode, IsFirstBadIn}
 use Rattle.h2_freeleaf.specs.Reading.{FillsTo, HasRoom, KeepsSegments, NamesMapBlock}
@@ -81,20 +81,6 @@ leads_kept image zones number s t (suc level) zone r kept le inside long (refs, 
       let within = block_within level i le lt in
       leads_kept image zones number s t level (zone + zones_under level * i) (slice_index_or refs i d) kept (omega arith) here (omega arith) (below i d lt here),
 )
-
--- a leaf was added
-pub leaf_added : (image : Places) (zones number zone : ℕ) (s t leaf : List (List Code)) (r : Ref) → zone < zones → FillsTo zones zone s → t ≡ s ++ leaf → LeadsToLeaf image leaf r → LeadsTo image zones number t 0 zone r
-leaf_added image zones number zone s t leaf r inside fills is leads =
-    let count : length leaf ≡ 8 = leads.valid.count in
-    let many : length s ≡ 8 * zone = omega (arith, fills) in
-    record {
-      leaf = leaf;
-      is_zone = λ k d lt.
-          let there : k < length leaf = omega arith in
-          sym (ap (λ (l : List (List Code)). slice_index_or l (8 * zone + k) []) is ∙ ap (λ (n : ℕ). slice_index_or (s ++ leaf) (n + k) []) (sym many) ∙ get_or-append-add s leaf k []
-          ∙ get_or_default leaf k [] d there);
-      leads = leads;
-    }
 
 -- What was read so far
 
