@@ -1,3 +1,4 @@
+ghost use Rattle.std.specs.Prelude.{OnOk};
 ghost use Rattle.h2_tree_rows.specs.TreeUnderTest.{IsTree};
 
 use super::plain_list::PlainList;
@@ -96,7 +97,7 @@ fn insert_both(
     version: u64,
 ) -> Result<(), Fail>
     requires { IsTree tree.old.sets tree.old.root.0 tree.old.keys tree.old.leaf_bits }
-    ensures { IsTree tree.new.sets tree.new.root.0 tree.new.keys tree.new.leaf_bits }
+    ensures { OnOk result (IsTree tree.new.sets tree.new.root.0 tree.new.keys tree.new.leaf_bits) }
 {
     let alloc = rt.alloc();
     let Some(leaf) = tree.leaf(key, version) else {
@@ -128,7 +129,7 @@ fn remove_both(
     key: u64,
 ) -> Result<(), Fail>
     requires { IsTree tree.old.sets tree.old.root.0 tree.old.keys tree.old.leaf_bits }
-    ensures { IsTree tree.new.sets tree.new.root.0 tree.new.keys tree.new.leaf_bits }
+    ensures { OnOk result (IsTree tree.new.sets tree.new.root.0 tree.new.keys tree.new.leaf_bits) }
 {
     let alloc = rt.alloc();
     let room = tree.sets.room();
@@ -155,7 +156,7 @@ fn compare(
     to: u64,
 ) -> Result<(), Fail>
     requires { IsTree tree.old.sets tree.old.root.0 tree.old.keys tree.old.leaf_bits }
-    ensures { IsTree tree.new.sets tree.new.root.0 tree.new.keys tree.new.leaf_bits }
+    ensures { OnOk result (IsTree tree.new.sets tree.new.root.0 tree.new.keys tree.new.leaf_bits) }
 {
     let alloc = rt.alloc();
     let found = tree.range(alloc, from, to)?;
@@ -172,7 +173,7 @@ fn fill(
     order: Order,
 ) -> Result<(), Fail>
     requires { IsTree tree.old.sets tree.old.root.0 tree.old.keys tree.old.leaf_bits }
-    ensures { IsTree tree.new.sets tree.new.root.0 tree.new.keys tree.new.leaf_bits }
+    ensures { OnOk result (IsTree tree.new.sets tree.new.root.0 tree.new.keys tree.new.leaf_bits) }
 {
     for step in 0..LEAVES {
         let key = key_of(shape, leaf_at(order, step));
@@ -197,7 +198,7 @@ fn empty(
     order: Order,
 ) -> Result<(), Fail>
     requires { IsTree tree.old.sets tree.old.root.0 tree.old.keys tree.old.leaf_bits }
-    ensures { IsTree tree.new.sets tree.new.root.0 tree.new.keys tree.new.leaf_bits }
+    ensures { OnOk result (IsTree tree.new.sets tree.new.root.0 tree.new.keys tree.new.leaf_bits) }
 {
     for step in 0..LEAVES {
         let key = key_of(shape, leaf_at(order, step));

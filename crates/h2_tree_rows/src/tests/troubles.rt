@@ -1,4 +1,4 @@
-ghost use Rattle.std.specs.Prelude.{IfOk};
+ghost use Rattle.std.specs.Prelude.{IfOk, OnOk};
 ghost use Rattle.h2_tree_rows.specs.TreeUnderTest.{IsTree};
 
 use super::plain_list::PlainList;
@@ -37,7 +37,7 @@ fn call_both(
     call: Call,
 ) -> Result<Result<(), Trouble>, Fail>
     requires { IsTree tree.old.sets tree.old.root.0 tree.old.keys tree.old.leaf_bits }
-    ensures { IsTree tree.new.sets tree.new.root.0 tree.new.keys tree.new.leaf_bits }
+    ensures { OnOk result (IsTree tree.new.sets tree.new.root.0 tree.new.keys tree.new.leaf_bits) }
 {
     let alloc = rt.alloc();
     match call {
@@ -162,7 +162,7 @@ fn insert_unspared(
     key: u64,
 ) -> Result<bool, Fail>
     requires { IsTree tree.old.sets tree.old.root.0 tree.old.keys tree.old.leaf_bits }
-    ensures { IsTree tree.new.sets tree.new.root.0 tree.new.keys tree.new.leaf_bits }
+    ensures { OnOk result (IsTree tree.new.sets tree.new.root.0 tree.new.keys tree.new.leaf_bits) }
 {
     tree.refuse_spare(1);
     let first = call_both(rt, tree, list, Call::Insert(key))?;
