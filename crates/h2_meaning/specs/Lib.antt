@@ -6,3 +6,7 @@ pub mod FileTree
 pub mod Forest
 pub mod Single
 pub mod Following
+pub mod ListLaws
+pub mod SingleLaws
+pub mod CarryLaws
+pub mod OrderLaws
