@@ -10,3 +10,6 @@ pub mod ListLaws
 pub mod SingleLaws
 pub mod CarryLaws
 pub mod OrderLaws
+pub mod Laws
+pub mod Example
+pub mod ExampleLaws
