@@ -9,7 +9,7 @@ use Rattle.h2_inode.specs.declared.kind.InodeKind.TheVariants.{Directory as Dire
 use Rattle.h2_inode.specs.declared.inode.Body.TheVariants.{Refs}
 use Rattle.h2_inode.specs.declared.inode.Inode.{Inode}
 use Rattle.h2_meaning.specs.Access.{Access}
-use Rattle.h2_meaning.specs.Following.{Passage}
+use Rattle.h2_meaning.specs.Following.{Passage, itself}
 
 -- A new volume: tree 0 is the super-root's, tree 1 that of its PFS, and tree 2 that of the empty root directory.
 
@@ -40,7 +40,7 @@ new_volume = record {
 
 -- the new volume beside itself
 abbrev pub unchanged : Passage
-unchanged = record { from = new_volume; to = new_volume; Matches = λ t u. u ≡ t; Like = λ t u r s. (u ≡ t) × (s ≡ r) }
+unchanged = itself new_volume
 
 -- Trees that are lists of leaves; each content block holds the same bytes, and then zeros.
 
@@ -69,3 +69,7 @@ entry_leaf name = record {
   check = Nothing;
   dirent = Some (record { number = 2; len = length name; target = 1; name = name ++ replicate (64 - length name) 0 });
 }
+
+-- an entry names the directory with number 2
+abbrev pub IsSecond : ℕ → ℕ → Type 0
+IsSecond target number = (target ≡ 1) × (number ≡ 2)

@@ -2,7 +2,7 @@
 use Rattle.std.specs.Prelude.{◌≡◌, ◌≢◌, ◌<◌, ◌≤◌, ℕ, zero, suc, ◌+◌, ◌*◌, ◌-◌, ◌/◌, ◌^◌, Bool, true, false, cond, List, [], ◌∷◌, ◌++◌, length, replicate, slice_index, map, sum, count_by, nat_eq, All, AllPairs, Option, Some, None, IsSome, Result, Ok, Err, if◌then◌else◌, refl}
 use Rattle.std.proofs.Common.{ap, sym, ◌∙◌, arith, inl, inr, subst}
 use Rattle.std.proofs.lemmas.Option.{none-some}
-use Rattle.std.proofs.lemmas.List.{get_or_past}
+use Rattle.std.proofs.lemmas.List.{get_or_past, take-append-le, take_all}
 use Rattle.std.specs.Ordering.{nat_cmp, eq_by_cmp, is_eq}
 use Rattle.std.specs.Cmp.{nat_cmp_total}
 use Rattle.std.specs.Cmp.Lexicographic.{slice_cmp}
@@ -29,8 +29,11 @@ use Rattle.h2_meaning.specs.Contents.{IsPart, IsContents}
 use Rattle.h2_meaning.specs.Directory.{IsDirectory}
 use Rattle.h2_meaning.specs.FileTree.{names_in, names_of, LeadsTo, IsReached, IsFileTree}
 use Rattle.h2_meaning.specs.Forest.{IsForest}
+use Rattle.h2_meaning.specs.Single.{IsSingle}
+use Rattle.h2_meaning.specs.Following.{Follows}
+use Rattle.h2_meaning.specs.Targets.{itself_follows}
 use Rattle.h2_meaning.specs.ListLaws.{all_none, all_cons, pairs_none, pairs_cons}
-use Rattle.h2_meaning.specs.Example.{inode_leaf, pfs_inode, root_inode, new_volume, one_block, content_leaf, entry_leaf}
+use Rattle.h2_meaning.specs.Example.{inode_leaf, leaves_at, pfs_inode, root_inode, new_volume, unchanged, one_block, content_leaf, entry_leaf, IsSecond}
 
 -- The table with an empty root directory
 
@@ -187,3 +190,48 @@ file_stands bytes some few = record {
   holes = past_the_block bytes few;
   sized = refl;
 }
+
+-- Directories with one entry
+
+key_fits : (name : List ℕ) → limit (entry_leaf name) ≤ 2 ^ 64
+key_fits name = let high : upper_bits name < 2 ^ 49 = upper_bits-high name in omega (arith, high)
+
+key_upper : (name : List ℕ) → least_key name / 2 ^ 15 ≡ upper_bits name
+key_upper name = omega arith
+
+-- A name of at most 64 bytes stands in its entry.
+pub entry_stands : (name : List ℕ) → IsName name → length name ≤ 64 → IsDirectory (one_block []) IsSecond (entry_leaf name ∷ []) 1 (insert empty name 2)
+entry_stands name good few = record {
+  leaves = entry_leaf name ∷ [];
+  has = record { read = refl; ordered = (omega arith, key_fits name) };
+  named = (name, 2) ∷ [];
+  each = (
+    record {
+      kind_is = refl;
+      entry = record { number = 2; len = length name; target = 1; name = name ++ replicate (64 - length name) 0 };
+      entry_is = refl;
+      number_is = refl;
+      name_is = inl (few, sym (take-append-le (length name) name (replicate (64 - length name) 0) (omega arith) ∙ take_all (length name) name (omega arith)));
+      length_is = refl;
+      under = record { good = good; upper = key_upper name };
+      target_fits = (refl, refl);
+    },
+    tt,
+  );
+  differ = pairs_cons (λ (x y : List ℕ × ℕ). x.0 ≢ y.0) (name, 2) [] (all_none (λ (y : List ℕ × ℕ). name ≢ y.0)) (pairs_none (λ (x y : List ℕ × ℕ). x.0 ≢ y.0));
+  counted = refl;
+  entries_are = refl;
+}
+
+-- The reading of a new volume gives one answer at most, and follows itself.
+
+pub new_volume_single : IsSingle new_volume
+new_volume_single = record {
+  leaves = λ t l m p q. q ∙ sym p;
+  inode = λ t r i j c d p q. (q.0 ∙ sym p.0, q.1 ∙ sym p.1);
+  name = λ t r n m p q. absurd p;
+  content = λ t r x y p q. absurd p;
+}
+
+pub unchanged_follows : Follows unchanged
+unchanged_follows = itself_follows new_volume

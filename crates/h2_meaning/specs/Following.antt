@@ -46,3 +46,7 @@ pub record Follows (p : Passage) : Type 0 where
     → (j : Inode) × (d : p.to.Tree) × p.to.InodeOf u s j d × SameInode i j × p.Matches c d
   pub name : (t : p.from.Tree) (u : p.to.Tree) (r s : Ref) (n : List ℕ) → p.Like t u r s → p.from.NameOf t r n → p.to.NameOf u s n
   pub content : (t : p.from.Tree) (u : p.to.Tree) (r s : Ref) (x : Places) → p.Like t u r s → p.from.ContentOf t r x → p.to.ContentOf u s x
+
+-- a reading beside itself
+abbrev pub itself : Access → Passage
+itself a = record { from = a; to = a; Matches = λ t u. u ≡ t; Like = λ t u r s. (u ≡ t) × (s ≡ r) }

@@ -10,6 +10,9 @@ pub mod ListLaws
 pub mod SingleLaws
 pub mod CarryLaws
 pub mod OrderLaws
+pub mod Targets
 pub mod Laws
+pub mod Image
+pub mod ImageLaws
 pub mod Example
 pub mod ExampleLaws

@@ -1,3 +1,9 @@
+ghost use Rattle.std.specs.Prelude.{◌≡◌, ℕ, List};
+ghost use Rattle.h2_num.specs.Places.{Places};
+ghost use Rattle.h2_ref.specs.declared.reference.Ref.{Ref};
+ghost use Rattle.h2_forest.specs.Forest.{PlainForest};
+ghost use Rattle.h2_meaning.specs.Forest.{IsForest};
+ghost use Rattle.h2_meaning.specs.Image.{in_image};
 ghost use Rattle.h2_meaning.specs.Single.{IsSingle};
 ghost use Rattle.h2_meaning.specs.Following.{Follows};
 ghost use Rattle.h2_meaning.specs.Laws.{OneContents, OneDirectory, OneTable, OneForest, NumbersAscend, IdsAscend, CarriesContents, CarriesDirectories, CarriesTables, CarriesForests};
@@ -26,4 +32,12 @@ pub fn carry_law<C: Change>()
     ensures directories { Follows C.passage → CarriesDirectories C.passage }
     ensures tables { Follows C.passage → CarriesTables C.passage }
     ensures forests { Follows C.passage → CarriesForests C.passage }
+{}
+
+/// A law: the bytes of an image give one answer at most, so at most one forest stands in an image under the
+/// references of a header.
+pub fn image_law()
+    ensures single { (image : Places) → IsSingle (in_image image) }
+    ensures one_forest { (image : Places) (root : List Ref) (next : ℕ) (f g : PlainForest)
+        → IsForest (in_image image) root next f → IsForest (in_image image) root next g → g ≡ f }
 {}
