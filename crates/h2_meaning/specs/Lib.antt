@@ -14,5 +14,7 @@ pub mod Targets
 pub mod Laws
 pub mod Image
 pub mod ImageLaws
+pub mod RisingLaws
+pub mod LocalLaws
 pub mod Example
 pub mod ExampleLaws

@@ -1,5 +1,5 @@
 -- Lists one by one, all of a list, and the leaf whose range holds a key.
-use Rattle.std.specs.Prelude.{◌≡◌, ◌<◌, ◌≤◌, ℕ, zero, suc, ◌+◌, ◌^◌, Bool, true, false, List, [], ◌∷◌, length, slice_index_or, All, AllPairs, Option, Some, None, if◌then◌else◌, refl}
+use Rattle.std.specs.Prelude.{◌≡◌, ◌<◌, ◌≤◌, ℕ, zero, suc, ◌+◌, ◌^◌, Bool, true, false, List, [], ◌∷◌, ◌++◌, length, slice_index_or, All, AllPairs, Option, Some, None, if◌then◌else◌, refl}
 use Rattle.std.proofs.Common.{ap, sym, ◌∙◌, arith, subst}
 use Rattle.std.proofs.lemmas.Option.{none-some, same_Some}
 use Rattle.std.proofs.lemmas.Nat.{pow_pos}
@@ -48,6 +48,10 @@ all_through R P Q f [] [] p h = all_none Q
 all_through R P Q f [] (y ∷ ys) p h = absurd p
 all_through R P Q f (x ∷ xs) [] p h = absurd p
 all_through R P Q f (x ∷ xs) (y ∷ ys) p h = all_cons Q y ys (f x y p.0 (all_head P x xs h)) (all_through R P Q f xs ys p.1 (all_tail P x xs h))
+
+pub all_append : {X : Type 0} (P : X → Type 0) (xs ys : List X) → All P xs → All P ys → All P (xs ++ ys)
+all_append P [] ys h g = g
+all_append P (x ∷ xs) ys h g = all_cons P x (xs ++ ys) (all_head P x xs h) (all_append P xs ys (all_tail P x xs h) g)
 
 pub pairs_none : {X : Type 0} (R : X → X → Type 0) → AllPairs R []
 pairs_none R = λ i j d lt len. absurd (omega (arith, len))

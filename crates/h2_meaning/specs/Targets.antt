@@ -15,7 +15,7 @@ same_body : (b : Body) → SameBody b b
 same_body (Refs s) = tt
 same_body (Bytes b) = refl
 
-same_inode : (i : Inode) → SameInode i i
+pub same_inode : (i : Inode) → SameInode i i
 same_inode i = record { kind = refl; number = refl; size = refl; links = refl; next = refl; name = refl; body = same_body i.body }
 
 beside : (a : Access) (t u : a.Tree) → u ≡ t → (l : List Ref) → OneByOne (λ (r s : Ref). (u ≡ t) × (s ≡ r)) l l
