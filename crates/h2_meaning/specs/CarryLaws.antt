@@ -1,7 +1,6 @@
 -- What trees stand for in one reading, they stand for in each that follows it.
-use Rattle.std.specs.Prelude.{◌≡◌, ◌<◌, ◌≤◌, ℕ, ◌+◌, ◌%◌, ◌^◌, List, [], ◌∷◌, refl, slice_index}
+use Rattle.std.specs.Prelude.{◌≡◌, ◌<◌, ℕ, ◌+◌, ◌%◌, ◌^◌, List, slice_index}
 use Rattle.std.proofs.Common.{ap, sym, ◌∙◌, inl, inr, subst}
-use Rattle.h2_contents.specs.Bytes.{read_at}
 use Rattle.h2_ref.specs.declared.reference.Ref.{Ref}
 use Rattle.h2_ref.specs.declared.reference.Dirent.{Dirent}
 use Rattle.h2_dirkey.specs.Key.{IsNameUnder}
@@ -16,12 +15,12 @@ use Rattle.h2_forest.specs.declared.table.Node.TheVariants.{File, Directory}
 use Rattle.h2_forest.specs.Table.{Table}
 use Rattle.h2_forest.specs.declared.pfs.Pfs.{Pfs}
 use Rattle.h2_forest.specs.Forest.{PlainForest}
-use Rattle.h2_meaning.specs.Access.{Access, HasLeaves, OneByOne}
+use Rattle.h2_meaning.specs.Access.{HasLeaves, OneByOne}
 use Rattle.h2_meaning.specs.Contents.{IsPart, IsContents, IsEmbedded}
 use Rattle.h2_meaning.specs.Directory.{IsNameOf, IsEntry, IsDirectory}
 use Rattle.h2_meaning.specs.Node.{IsNodeBy, IsNode, IsMember, HasMembers}
 use Rattle.h2_meaning.specs.Forest.{InTable, IsTable, IsPfs, IsForest}
-use Rattle.h2_meaning.specs.Following.{SameLeaf, SameBody, SameInode, Passage, Follows}
+use Rattle.h2_meaning.specs.Following.{SameBody, SameInode, Passage, Follows}
 use Rattle.h2_meaning.specs.ListLaws.{through, all_through, hole_carried, rising_carried}
 
 embedded_sized : (m n : ℕ) (x y bytes : List ℕ) → n ≡ m → y ≡ x → IsEmbedded m x bytes → IsEmbedded n y bytes

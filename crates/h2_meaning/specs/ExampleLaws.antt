@@ -1,16 +1,15 @@
 -- What the small readings stand for.
-use Rattle.std.specs.Prelude.{◌≡◌, ◌≢◌, ◌<◌, ◌≤◌, ℕ, zero, suc, ◌+◌, ◌*◌, ◌-◌, ◌/◌, ◌^◌, Bool, true, false, cond, List, [], ◌∷◌, ◌++◌, length, replicate, slice_index, map, sum, count_by, nat_eq, All, AllPairs, Option, Some, None, IsSome, Result, Ok, Err, if◌then◌else◌, refl}
+use Rattle.std.specs.Prelude.{◌≡◌, ◌≢◌, ◌<◌, ◌≤◌, ℕ, ◌+◌, ◌-◌, ◌/◌, ◌^◌, Bool, true, false, cond, List, [], ◌∷◌, ◌++◌, length, replicate, slice_index, map, sum, count_by, nat_eq, Option, Some, None, IsSome, Result, Ok, Err, if◌then◌else◌, refl}
 use Rattle.std.proofs.Common.{ap, sym, ◌∙◌, arith, inl, inr, subst}
 use Rattle.std.proofs.lemmas.Option.{none-some}
 use Rattle.std.proofs.lemmas.List.{get_or_past, take-append-le, take_all}
 use Rattle.std.specs.Ordering.{nat_cmp, eq_by_cmp, is_eq}
 use Rattle.std.specs.Cmp.{nat_cmp_total}
 use Rattle.std.specs.Cmp.Lexicographic.{slice_cmp}
-use Rattle.std.specs.FinMap.{FinMap, get, empty, insert, entries, from_entries, put, len-empty, len-entries, entries-insert, get-insert, get-empty, nat_cmp-IsAntisymmetric}
+use Rattle.std.specs.FinMap.{get, empty, insert, entries, put, len-empty, len-entries, entries-insert, get-insert, get-empty, nat_cmp-IsAntisymmetric}
 use Rattle.std.specs.declared.cmp.Ordering.{Ordering}
 use Rattle.std.specs.declared.cmp.Ordering.TheVariants.{Less, Equal, Greater}
 use Rattle.h2_num.specs.Places.{places}
-use Rattle.h2_ref.specs.declared.reference.Ref.{Ref}
 use Rattle.h2_set.specs.Ranges.{find, holds, limit}
 use Rattle.h2_set.specs.LeafLaws.{holds_outside}
 use Rattle.h2_dirkey.specs.Name.{IsName}
@@ -21,19 +20,19 @@ use Rattle.h2_command.specs.declared.reply.Reply.TheVariants.{NoEntry}
 use Rattle.h2_forest.specs.Node.{Entries}
 use Rattle.h2_forest.specs.declared.table.Node.{Node}
 use Rattle.h2_forest.specs.declared.table.Node.TheVariants.{File, Directory}
-use Rattle.h2_forest.specs.Table.{Table, entries_of, entries_at, looked_up, found, walk}
+use Rattle.h2_forest.specs.Table.{entries_of, entries_at, looked_up, found}
 use Rattle.h2_forest.specs.TableLaws.{has_looked, directory_at}
 use Rattle.h2_forest.specs.declared.pfs.Pfs.{Pfs}
 use Rattle.h2_forest.specs.Forest.{bare_table, fresh}
 use Rattle.h2_meaning.specs.Contents.{IsPart, IsContents}
 use Rattle.h2_meaning.specs.Directory.{IsDirectory}
-use Rattle.h2_meaning.specs.FileTree.{names_in, names_of, LeadsTo, IsReached, IsFileTree}
+use Rattle.h2_meaning.specs.FileTree.{names_in, names_of, HasEntry, IsFileTree}
 use Rattle.h2_meaning.specs.Forest.{IsForest}
 use Rattle.h2_meaning.specs.Single.{IsSingle}
 use Rattle.h2_meaning.specs.Following.{Follows}
 use Rattle.h2_meaning.specs.Targets.{itself_follows}
 use Rattle.h2_meaning.specs.ListLaws.{all_none, all_cons, pairs_none, pairs_cons}
-use Rattle.h2_meaning.specs.Example.{inode_leaf, leaves_at, pfs_inode, root_inode, new_volume, unchanged, one_block, content_leaf, entry_leaf, IsSecond}
+use Rattle.h2_meaning.specs.Example.{inode_leaf, pfs_inode, root_inode, new_volume, unchanged, one_block, content_leaf, entry_leaf, IsSecond}
 
 -- The table with an empty root directory
 
@@ -85,9 +84,9 @@ unnamed n = ap (λ es. sum (map (λ e. names_in n e.1) es)) bare_entries ∙ ap 
 refused : (number : ℕ) (r : Result ℕ Reply) → r ≡ Err NoEntry → r ≡ Ok number → ⊥
 refused number r e f = absurd (cc)
 
-leads_nowhere : (dir number : ℕ) (name : List ℕ) → LeadsTo bare_table dir name number → ⊥
+has_no_entry : (dir number : ℕ) (name : List ℕ) → HasEntry bare_table dir name number → ⊥
 unfolding held_entries
-leads_nowhere dir number name h =
+has_no_entry dir number name h =
     let d = directory_at bare_table dir (has_looked (entries_at bare_table dir) name number h) in
     let same : d.0 ≡ no_entries = ap (λ v. held_entries v no_entries) (only_one dir (Directory d.0) d.1).1 in
     let here : entries_at bare_table dir ≡ Some no_entries = ap entries_of d.1 ∙ ap Some same in
@@ -100,7 +99,7 @@ bare_tree : IsFileTree 2 bare_table
 bare_tree = record {
   root = subst (λ o. IsSome (entries_of o)) (sym root_here) refl;
   root_unnamed = unnamed 1;
-  named = λ dir number name h. absurd (leads_nowhere dir number name h);
+  named = λ dir number name h. absurd (has_no_entry dir number name h);
   links_are = λ number links bytes h. absurd (not_file bytes links (only_one number (File bytes links) h).1);
   once = λ number es h other. absurd (other (only_one number (Directory es) h).0);
   reached = λ number es h. ([], ap Ok (sym (only_one number (Directory es) h).0));

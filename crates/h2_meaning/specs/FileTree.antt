@@ -15,9 +15,9 @@ names_in number (Directory es) = count_by (λ e. nat_eq e.1 number) (entries es)
 abbrev pub names_of : Table → ℕ → ℕ
 names_of t number = sum (map (λ e. names_in number e.1) (entries t))
 
--- a directory of the table has this name, with this number
-abbrev pub LeadsTo : Table → ℕ → List ℕ → ℕ → Type 0
-LeadsTo t dir name number = looked_up (entries_at t dir) name ≡ Ok number
+-- the directory with the first number has this name, for the second number
+abbrev pub HasEntry : Table → ℕ → List ℕ → ℕ → Type 0
+HasEntry t dir name number = looked_up (entries_at t dir) name ≡ Ok number
 
 -- names lead to the number from the root directory, which is number 1
 abbrev pub IsReached : Table → ℕ → Type 0
@@ -35,7 +35,7 @@ pub record IsFileTree (next : ℕ) (t : Table) : Type 0 where
   pub root : IsSome (entries_at t 1)
   pub root_unnamed : names_of t 1 ≡ 0
   -- each entry names an inode
-  pub named : (dir number : ℕ) (name : List ℕ) → LeadsTo t dir name number → IsSome (get t number)
+  pub named : (dir number : ℕ) (name : List ℕ) → HasEntry t dir name number → IsSome (get t number)
   -- a file's links are the entries that name it
   pub links_are : (number links : ℕ) (bytes : List ℕ) → get t number ≡ Some (File bytes links) → names_of t number ≡ links
   -- each other directory has one entry, and names lead to it

@@ -43,7 +43,7 @@ pub record Follows (p : Passage) : Type 0 where
   pub leaves : (t : p.from.Tree) (u : p.to.Tree) (l : List Ref) → p.Matches t u → p.from.LeavesOf t l → (m : List Ref) × p.to.LeavesOf u m × OneByOne (p.Like t u) l m
   pub like : (t : p.from.Tree) (u : p.to.Tree) (r s : Ref) → p.Like t u r s → SameLeaf r s
   pub inode : (t : p.from.Tree) (u : p.to.Tree) (r s : Ref) (i : Inode) (c : p.from.Tree) → p.Like t u r s → p.from.InodeOf t r i c
-    → (j : Inode) × (d : p.to.Tree) × p.to.InodeOf u s j d × SameInode i j × p.Matches c d
+      → (j : Inode) × (d : p.to.Tree) × p.to.InodeOf u s j d × SameInode i j × p.Matches c d
   pub name : (t : p.from.Tree) (u : p.to.Tree) (r s : Ref) (n : List ℕ) → p.Like t u r s → p.from.NameOf t r n → p.to.NameOf u s n
   pub content : (t : p.from.Tree) (u : p.to.Tree) (r s : Ref) (x : Places) → p.Like t u r s → p.from.ContentOf t r x → p.to.ContentOf u s x
 

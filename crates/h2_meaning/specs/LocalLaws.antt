@@ -1,6 +1,6 @@
 -- What stands in an image depends on the blocks alone that are reached.
-use Rattle.std.specs.Prelude.{◌≡◌, ◌<◌, ◌≤◌, ℕ, zero, suc, ◌+◌, ◌^◌, ◌==◌, if◌then◌else◌, List, [], ◌∷◌, ◌++◌, length, slice_index_or, All, Contains, refl}
-use Rattle.std.proofs.Common.{ap, sym, ◌∙◌, arith, subst}
+use Rattle.std.specs.Prelude.{◌≡◌, ℕ, ◌^◌, ◌==◌, if◌then◌else◌, List, [], ◌∷◌, slice_index_or, All, refl}
+use Rattle.std.proofs.Common.{ap, sym, ◌∙◌, subst}
 use Rattle.std.proofs.lemmas.List.Elements.{Contains-get_or}
 use Rattle.h2_num.specs.Places.{Places, SameBelow}
 use Rattle.h2_check.specs.XxhLaws.{xxh64_of-same}
@@ -25,7 +25,7 @@ use Rattle.h2_meaning.specs.Forest.{IsForest}
 use Rattle.h2_meaning.specs.ListLaws.{all_head, all_tail, all_cons, all_none, all_append}
 use Rattle.h2_meaning.specs.Targets.{same_inode}
 use Rattle.h2_meaning.specs.CarryLaws.{forest_carried}
-use Rattle.h2_meaning.specs.Image.{block, LeavesIn, nothing_left, a_leaf, a_block, in_image, LeadsTo, by_root, by_block, SameReached, IsKnown, between}
+use Rattle.h2_meaning.specs.Image.{block, LeavesIn, nothing_left, a_leaf, a_block, in_image, by_root, by_block, SameReached, IsKnown, between}
 
 -- Blocks by their bytes alone
 
@@ -112,11 +112,10 @@ module _ (x : Places) (roots : List Ref) (y : Places) (agree : SameReached x roo
   beside_known (r ∷ l) h = ((refl, all_head Known r l h), beside_known l (all_tail Known r l h))
 
   inode_follows : (r : Ref) (i : Inode) → Known r → IsInodeBlock r (block x r) i → IsInodeBlock r (block y r) i × All Known (refs_of_body i.body)
-  inode_follows r i known h =
-      (
-        inode_same r (block x r) (block y r) i (same_block r 1024 known (inode_size r known.valid h.kind_is)) h,
-        below_known r (refs_of_body i.body) known (by_inode i h) (body_valid i.kind i.size i.body h.inode.body_fits),
-      )
+  inode_follows r i known h = (
+    inode_same r (block x r) (block y r) i (same_block r 1024 known (inode_size r known.valid h.kind_is)) h,
+    below_known r (refs_of_body i.body) known (by_inode i h) (body_valid i.kind i.size i.body h.inode.body_fits),
+  )
 
   content_follows : (r : Ref) (b : Places) → Known r → IsContentBlock r (block x r) → SameBelow 16384 (block x r) b → IsContentBlock r (block y r) × SameBelow 16384 (block y r) b
   content_follows r b known h is =

@@ -1,5 +1,5 @@
 -- What a tree holds stands in the order of the keys.
-use Rattle.std.specs.Prelude.{◌≡◌, ◌<◌, ℕ, ◌^◌, List, AllPairs}
+use Rattle.std.specs.Prelude.{◌<◌, ℕ, ◌^◌, List, AllPairs}
 use Rattle.h2_forest.specs.declared.table.Node.{Node}
 use Rattle.h2_forest.specs.declared.pfs.Pfs.{Pfs}
 use Rattle.h2_forest.specs.Forest.{PlainForest}

@@ -1,10 +1,9 @@
 -- By a reading that gives one answer at most, a tree stands for one thing at most.
-use Rattle.std.specs.Prelude.{◌≡◌, ◌<◌, ◌≤◌, ℕ, ◌+◌, ◌-◌, ◌^◌, List, [], ◌∷◌, length, All, Option, Some, None, refl, slice_index}
+use Rattle.std.specs.Prelude.{◌≡◌, ◌<◌, ◌≤◌, ℕ, ◌+◌, ◌-◌, ◌^◌, List, All, Option, Some, None, refl, slice_index}
 use Rattle.std.proofs.Common.{ap, sym, ◌∙◌, arith, inl, inr, subst}
 use Rattle.std.proofs.lemmas.List.{ext_get_or}
 use Rattle.std.proofs.lemmas.Option.{same_Some}
-use Rattle.std.specs.FinMap.{get, from_entries}
-use Rattle.h2_contents.specs.Bytes.{read_at}
+use Rattle.std.specs.FinMap.{from_entries}
 use Rattle.h2_ref.specs.declared.reference.Ref.{Ref}
 use Rattle.h2_ref.specs.declared.reference.Dirent.{Dirent}
 use Rattle.h2_set.specs.Ranges.{find, limit}
@@ -21,7 +20,7 @@ use Rattle.h2_forest.specs.Table.{Table}
 use Rattle.h2_forest.specs.declared.pfs.Pfs.{Pfs}
 use Rattle.h2_forest.specs.Forest.{PlainForest}
 use Rattle.h2_meaning.specs.Access.{Access, HasLeaves, OneByOne}
-use Rattle.h2_meaning.specs.Contents.{IsPart, IsContents, IsEmbedded}
+use Rattle.h2_meaning.specs.Contents.{IsPart, IsContents}
 use Rattle.h2_meaning.specs.Directory.{IsNameOf, IsEntry, IsDirectory}
 use Rattle.h2_meaning.specs.Node.{IsNodeBy, IsNode, IsMember, HasMembers}
 use Rattle.h2_meaning.specs.Forest.{InTable, IsTable, IsPfs, IsForest}
