@@ -1,0 +1,75 @@
+-- Small readings, by which the definitions are tried.
+use Rattle.std.specs.Prelude.{◌≡◌, ℕ, ◌+◌, ◌-◌, nat_lt, nat_eq, cond, List, [], ◌∷◌, ◌++◌, length, replicate, None, Some}
+use Rattle.h2_num.specs.Places.{places, SameBelow}
+use Rattle.h2_ref.specs.declared.reference.Kind.TheVariants.{Inode as Inode_kind, Content, Dirent as Entry_kind}
+use Rattle.h2_ref.specs.declared.reference.Check.TheVariants.{Nothing, Xx}
+use Rattle.h2_ref.specs.declared.reference.Ref.{Ref}
+use Rattle.h2_dirkey.specs.Key.{least_key}
+use Rattle.h2_inode.specs.declared.kind.InodeKind.TheVariants.{Directory as Directory_kind, Pfs as Pfs_kind}
+use Rattle.h2_inode.specs.declared.inode.Body.TheVariants.{Refs}
+use Rattle.h2_inode.specs.declared.inode.Inode.{Inode}
+use Rattle.h2_meaning.specs.Access.{Access}
+use Rattle.h2_meaning.specs.Following.{Passage, itself}
+
+-- A new volume: tree 0 is the super-root's, tree 1 that of its PFS, and tree 2 that of the empty root directory.
+
+abbrev pub inode_leaf : Ref
+inode_leaf = record { kind = Inode_kind; key = 1; keybits = 0; place = 4194304; radix = 10; id = 1; check = Xx 0; dirent = None }
+
+abbrev pub leaves_at : ℕ → List Ref
+leaves_at t = cond (nat_lt t 2) (inode_leaf ∷ []) []
+
+abbrev pub pfs_inode : Inode
+pfs_inode = record { kind = Pfs_kind; number = 1; size = 0; links = 1; next = 2; name = 82 ∷ 79 ∷ 79 ∷ 84 ∷ []; body = Refs (record { refs = inode_leaf ∷ []; capacity = 4 }) }
+
+abbrev pub root_inode : Inode
+root_inode = record { kind = Directory_kind; number = 1; size = 0; links = 1; next = 0; name = []; body = Refs (record { refs = []; capacity = 4 }) }
+
+-- the inode that the leaf of a tree names; the tree below it is the next one
+abbrev pub inode_at : ℕ → Inode
+inode_at t = cond (nat_eq t 0) pfs_inode root_inode
+
+abbrev pub new_volume : Access
+new_volume = record {
+  Tree = ℕ;
+  LeavesOf = λ t l. l ≡ leaves_at t;
+  InodeOf = λ t r i u. (i ≡ inode_at t) × (u ≡ t + 1);
+  NameOf = λ t r name. ⊥;
+  ContentOf = λ t r b. ⊥;
+}
+
+-- the new volume beside itself
+abbrev pub unchanged : Passage
+unchanged = itself new_volume
+
+-- Trees that are lists of leaves; each content block holds the same bytes, and then zeros.
+
+abbrev pub one_block : List ℕ → Access
+one_block bytes = record {
+  Tree = List Ref;
+  LeavesOf = λ t l. l ≡ t;
+  InodeOf = λ t r i u. ⊥;
+  NameOf = λ t r name. ⊥;
+  ContentOf = λ t r b. SameBelow 16384 (places bytes) b;
+}
+
+-- the leaf of a file's first block
+abbrev pub content_leaf : Ref
+content_leaf = record { kind = Content; key = 0; keybits = 14; place = 4194304; radix = 14; id = 1; check = Xx 0; dirent = None }
+
+-- the entry of a directory with number 2 and a name of at most 64 bytes
+abbrev pub entry_leaf : List ℕ → Ref
+entry_leaf name = record {
+  kind = Entry_kind;
+  key = least_key name;
+  keybits = 0;
+  place = 0;
+  radix = 0;
+  id = 1;
+  check = Nothing;
+  dirent = Some (record { number = 2; len = length name; target = 1; name = name ++ replicate (64 - length name) 0 });
+}
+
+-- an entry names the directory with number 2
+abbrev pub IsSecond : ℕ → ℕ → Type 0
+IsSecond target number = (target ≡ 1) × (number ≡ 2)

@@ -1,0 +1,32 @@
+ghost use Rattle.std.specs.Prelude.{◌<◌, ◌≤◌, ℕ, List, [], ◌∷◌, length};
+ghost use Rattle.std.specs.FinMap as map;
+ghost use Rattle.h2_dirkey.specs.Name.{IsName};
+ghost use Rattle.h2_forest.specs.Forest.{fresh};
+ghost use Rattle.h2_meaning.specs.Contents.{IsContents};
+ghost use Rattle.h2_meaning.specs.Directory.{IsDirectory};
+ghost use Rattle.h2_meaning.specs.Forest.{IsForest};
+ghost use Rattle.h2_meaning.specs.Single.{IsSingle};
+ghost use Rattle.h2_meaning.specs.Following.{Follows};
+ghost use Rattle.h2_meaning.specs.Example.{new_volume, unchanged, one_block, content_leaf, entry_leaf, IsSecond};
+
+/// A law: the trees of a new volume, one PFS with an empty root directory, stand for the forest of a formatted
+/// volume. Their reading gives one answer at most, and follows itself.
+pub fn new_volume_law()
+    ensures forest { IsForest new_volume 0 2 fresh }
+    ensures single { IsSingle new_volume }
+    ensures follows { Follows unchanged }
+{}
+
+/// A law: a tree with one block at key 0, in which some bytes stand and then zeros, stands for a file of these
+/// bytes, be it one or all 16384.
+pub fn one_block_law()
+    ensures { (bytes : List ℕ) → 0 < length bytes → length bytes ≤ 16384
+        → IsContents (one_block bytes) (content_leaf ∷ []) (length bytes) bytes }
+{}
+
+/// A law: a tree with one entry under the least key of its name, which has at most 64 bytes, stands for a
+/// directory with this name.
+pub fn one_entry_law()
+    ensures { (name : List ℕ) → IsName name → length name ≤ 64
+        → IsDirectory (one_block []) IsSecond (entry_leaf name ∷ []) 1 (map.insert map.empty name 2) }
+{}

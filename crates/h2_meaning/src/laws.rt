@@ -1,0 +1,50 @@
+ghost use Rattle.std.specs.Prelude.{◌≡◌, ℕ, List, All};
+ghost use Rattle.h2_num.specs.Places.{Places};
+ghost use Rattle.h2_ref.specs.declared.reference.Ref.{Ref};
+ghost use Rattle.h2_ref.specs.Ref.{IsValid};
+ghost use Rattle.h2_set.specs.Ranges.{Rising};
+ghost use Rattle.h2_forest.specs.Forest.{PlainForest};
+ghost use Rattle.h2_meaning.specs.Forest.{IsForest};
+ghost use Rattle.h2_meaning.specs.Image.{in_image, LeavesIn, SameReached};
+ghost use Rattle.h2_meaning.specs.Single.{IsSingle};
+ghost use Rattle.h2_meaning.specs.Following.{Follows};
+ghost use Rattle.h2_meaning.specs.Laws.{OneContents, OneDirectory, OneTable, OneForest, NumbersAscend, IdsAscend, CarriesContents, CarriesDirectories, CarriesTables, CarriesForests};
+
+use crate::change::Change;
+use crate::reading::Reading;
+
+/// A law: by a reading that gives one answer at most, a tree stands for the bytes of one file at most, for one
+/// directory, one table and one forest.
+pub fn one_meaning_law<R: Reading>()
+    ensures contents { IsSingle R.access → OneContents R.access }
+    ensures directory { IsSingle R.access → OneDirectory R.access }
+    ensures table { IsSingle R.access → OneTable R.access }
+    ensures forest { IsSingle R.access → OneForest R.access }
+{}
+
+/// A law: the inodes that a tree holds stand in the order of their numbers, and the PFSs in that of their ids.
+pub fn order_law<R: Reading>()
+    ensures numbers { NumbersAscend R.access }
+    ensures ids { IdsAscend R.access }
+{}
+
+/// A law: where a second reading gives whatever a first one gives, trees stand for the same in both.
+pub fn carry_law<C: Change>()
+    ensures contents { Follows C.passage → CarriesContents C.passage }
+    ensures directories { Follows C.passage → CarriesDirectories C.passage }
+    ensures tables { Follows C.passage → CarriesTables C.passage }
+    ensures forests { Follows C.passage → CarriesForests C.passage }
+{}
+
+/// A law: the bytes of an image give one answer at most, so at most one forest stands in an image under the
+/// references of a header. It depends on the blocks alone that these lead to. Where they are in order, the leaves
+/// are.
+pub fn image_law()
+    ensures single { (image : Places) → IsSingle (in_image image) }
+    ensures one_forest { (image : Places) (root : List Ref) (next : ℕ) (f g : PlainForest)
+        → IsForest (in_image image) root next f → IsForest (in_image image) root next g → g ≡ f }
+    ensures local { (image other : Places) (root : List Ref) (next : ℕ) (f : PlainForest) → All IsValid root
+        → SameReached image root other → IsForest (in_image image) root next f → IsForest (in_image other) root next f }
+    ensures order { (image : Places) (t leaves : List Ref) (low high : ℕ) → LeavesIn image t leaves
+        → Rising low high t → Rising low high leaves }
+{}

@@ -1,0 +1,23 @@
+//! What the trees of references of a volume stand for: files, directories, tables of PFSs, and the forest.
+//!
+//! The crate has definitions and laws alone. A reading (`Access` in `specs/Access`) says how trees are read, be
+//! it from the bytes of an image or from loaded nodes over one. Over any reading, `specs/Contents` says which
+//! bytes a file's tree stands for, `specs/Directory` which entries, `specs/Node` which inodes, and
+//! `specs/Forest` which table a PFS's tree and which forest the super-root's tree stands for; the forest is the
+//! plain one of `h2_forest`. `specs/FileTree` says what holds of every table, whatever it is read from. The laws
+//! stand on functions with empty bodies: a tree stands for one thing at most, and it stands for the same in a
+//! second reading that gives whatever the first one gives (`specs/Following`).
+#![tactic(auto)]
+
+mod change;
+mod example;
+mod laws;
+mod reading;
+
+pub use change::Change;
+pub use example::{new_volume_law, one_block_law, one_entry_law};
+pub use laws::{carry_law, image_law, one_meaning_law, order_law};
+pub use reading::Reading;
+
+#[cfg(test)]
+mod tests;
