@@ -137,9 +137,9 @@ module _ (f : PlainForest) (ids : IdsAscend f) where
       by : (o : Option (ℕ × (Pfs × ℕ))) → opened f client number ≡ o → IdsAscend (write_reply f o off new).1
       by None is = ids
       by (Some here) is =
-        let done : Reply × PlainForest = (Wrote (length new), with_file f here (λ bytes. written_at bytes off new)) in
-        keeps_refuse IdsAscend f (nat_lt (2 ^ 40) (off + length new)) Long (refuse f (nat_eq (length new) 0) (Wrote 0) done) ids
-        (keeps_refuse IdsAscend f (nat_eq (length new) 0) (Wrote 0) done ids (file_ids here (λ bytes. written_at bytes off new) (opened_at f (get f.handles (client, number)) here is)))
+          let done : Reply × PlainForest = (Wrote (length new), with_file f here (λ bytes. written_at bytes off new)) in
+          keeps_refuse IdsAscend f (nat_lt (2 ^ 40) (off + length new)) Long (refuse f (nat_eq (length new) 0) (Wrote 0) done) ids
+          (keeps_refuse IdsAscend f (nat_eq (length new) 0) (Wrote 0) done ids (file_ids here (λ bytes. written_at bytes off new) (opened_at f (get f.handles (client, number)) here is)))
 
   cut_ids : (client number size : ℕ) → IdsAscend (cut_reply f (opened f client number) size).1
   cut_ids client number size = by (opened f client number) refl
@@ -153,8 +153,8 @@ module _ (f : PlainForest) (ids : IdsAscend f) where
 
   new_ids : (name : List ℕ) (next : ℕ) (table : Table) → IdsAscend (refuse f (is_some (pfs_named name f.pfss)) Exists (refuse f (is_crowded f) Full (Done, with_pfs f name next table))).1
   new_ids name next table =
-    keeps_refuse IdsAscend f (is_some (pfs_named name f.pfss)) Exists (refuse f (is_crowded f) Full (Done, with_pfs f name next table)) ids
-    (keeps_refuse IdsAscend f (is_crowded f) Full (Done, with_pfs f name next table) ids (more_ids name next table))
+      keeps_refuse IdsAscend f (is_some (pfs_named name f.pfss)) Exists (refuse f (is_crowded f) Full (Done, with_pfs f name next table)) ids
+      (keeps_refuse IdsAscend f (is_crowded f) Full (Done, with_pfs f name next table) ids (more_ids name next table))
 
   snapshot_ids : (source name : List ℕ) → IdsAscend (snapshot_reply f source name).1
   snapshot_ids source name = by (pfs_named source f.pfss)
