@@ -1,5 +1,7 @@
 -- The laws of readings, as statements that a contract can name.
-use Rattle.std.specs.Prelude.{◌≡◌, ◌<◌, ℕ, List, AllPairs}
+use Rattle.std.specs.Prelude.{◌≡◌, ◌<◌, ℕ, List, AllPairs, Contains, Some}
+use Rattle.std.specs.FinMap.{get}
+use Rattle.h2_ref.specs.declared.reference.Ref.{Ref}
 use Rattle.h2_forest.specs.Node.{Entries}
 use Rattle.h2_forest.specs.declared.table.Node.{Node}
 use Rattle.h2_forest.specs.Table.{Table}
@@ -7,8 +9,8 @@ use Rattle.h2_forest.specs.declared.pfs.Pfs.{Pfs}
 use Rattle.h2_forest.specs.Forest.{PlainForest}
 use Rattle.h2_meaning.specs.Access.{Access}
 use Rattle.h2_meaning.specs.Contents.{IsContents}
-use Rattle.h2_meaning.specs.Directory.{IsDirectory}
-use Rattle.h2_meaning.specs.Node.{HasMembers}
+use Rattle.h2_meaning.specs.Directory.{IsEntry, IsDirectory}
+use Rattle.h2_meaning.specs.Node.{IsMember, HasMembers}
 use Rattle.h2_meaning.specs.Forest.{InTable, IsTable, IsForest}
 use Rattle.h2_meaning.specs.Following.{Passage}
 
@@ -24,6 +26,24 @@ OneTable a = (t : a.Tree) (m n : ℕ) (x y : Table) → IsTable a t m x → IsTa
 
 abbrev pub OneForest : Access → Type 0
 OneForest a = (t : a.Tree) (next : ℕ) (f g : PlainForest) → IsForest a t next f → IsForest a t next g → g ≡ f
+
+-- a leaf of a directory's tree is an entry that the directory has, and each entry is a leaf's
+abbrev pub LeavesAreEntries : Access → Type 0
+LeavesAreEntries a = (table : Table) (t : a.Tree) (size : ℕ) (entries : Entries) (h : IsDirectory a (InTable table) t size entries) (r : Ref) → Contains h.leaves r
+    → (e : List ℕ × ℕ) × IsEntry a (InTable table) t r e × (get entries e.0 ≡ Some e.1)
+
+abbrev pub EntriesAreLeaves : Access → Type 0
+EntriesAreLeaves a = (table : Table) (t : a.Tree) (size : ℕ) (entries : Entries) (h : IsDirectory a (InTable table) t size entries) (name : List ℕ) (number : ℕ) → get entries name ≡ Some number
+    → (r : Ref) × Contains h.leaves r × IsEntry a (InTable table) t r (name, number)
+
+-- a leaf of a PFS's tree names an inode that the table has, and each inode is named by a leaf
+abbrev pub LeavesAreNodes : Access → Type 0
+LeavesAreNodes a = (t : a.Tree) (next : ℕ) (table : Table) (h : IsTable a t next table) (r : Ref) → Contains h.has.leaves r
+    → (m : ℕ × Node) × IsMember a (InTable table) t r m × (get table m.0 ≡ Some m.1)
+
+abbrev pub NodesAreLeaves : Access → Type 0
+NodesAreLeaves a = (t : a.Tree) (next : ℕ) (table : Table) (h : IsTable a t next table) (number : ℕ) (node : Node) → get table number ≡ Some node
+    → (r : Ref) × Contains h.has.leaves r × IsMember a (InTable table) t r (number, node)
 
 -- the inodes of a tree stand in the order of their numbers, and PFSs in that of their ids
 abbrev pub NumbersAscend : Access → Type 0

@@ -10,6 +10,7 @@ pub mod ListLaws
 pub mod SingleLaws
 pub mod CarryLaws
 pub mod OrderLaws
+pub mod FoundLaws
 pub mod Targets
 pub mod Laws
 pub mod Image

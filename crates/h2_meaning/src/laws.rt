@@ -8,7 +8,7 @@ ghost use Rattle.h2_meaning.specs.Forest.{IsForest};
 ghost use Rattle.h2_meaning.specs.Image.{in_image, LeavesIn, SameReached};
 ghost use Rattle.h2_meaning.specs.Single.{IsSingle};
 ghost use Rattle.h2_meaning.specs.Following.{Follows};
-ghost use Rattle.h2_meaning.specs.Laws.{OneContents, OneDirectory, OneTable, OneForest, NumbersAscend, IdsAscend, CarriesContents, CarriesDirectories, CarriesTables, CarriesForests};
+ghost use Rattle.h2_meaning.specs.Laws.{OneContents, OneDirectory, OneTable, OneForest, LeavesAreEntries, EntriesAreLeaves, LeavesAreNodes, NodesAreLeaves, NumbersAscend, IdsAscend, CarriesContents, CarriesDirectories, CarriesTables, CarriesForests};
 
 use crate::change::Change;
 use crate::reading::Reading;
@@ -26,6 +26,15 @@ pub fn one_meaning_law<R: Reading>()
 pub fn order_law<R: Reading>()
     ensures numbers { NumbersAscend R.access }
     ensures ids { IdsAscend R.access }
+{}
+
+/// A law: a directory has a name with a number exactly where a leaf of its tree is that entry, and a table has an
+/// inode exactly where a leaf of the PFS's tree names it.
+pub fn leaf_law<R: Reading>()
+    ensures leaves_of_directory { LeavesAreEntries R.access }
+    ensures entries { EntriesAreLeaves R.access }
+    ensures leaves_of_table { LeavesAreNodes R.access }
+    ensures nodes { NodesAreLeaves R.access }
 {}
 
 /// A law: where a second reading gives whatever a first one gives, trees stand for the same in both.

@@ -16,7 +16,7 @@ mod reading;
 
 pub use change::Change;
 pub use example::{new_volume_law, one_block_law, one_entry_law};
-pub use laws::{carry_law, image_law, one_meaning_law, order_law};
+pub use laws::{carry_law, image_law, leaf_law, one_meaning_law, order_law};
 pub use reading::Reading;
 
 #[cfg(test)]

@@ -21,6 +21,7 @@ impl Change for NewVolume {
 fn laws_hold_of_a_new_volume() {
     one_meaning_law::<NewVolume>();
     order_law::<NewVolume>();
+    leaf_law::<NewVolume>();
     carry_law::<NewVolume>();
     new_volume_law();
     one_block_law();
