@@ -6,7 +6,7 @@ use Rattle.h2_ref.specs.declared.reference.Ref.{Ref}
 use Rattle.h2_inode.specs.declared.inode.Inode.{Inode}
 use Rattle.h2_inode.specs.Block.{IsInodeBlock, IsSetBlock, IsNameBlock, refs_of_body}
 use Rattle.h2_inode.specs.InodeLaws.{inode_one}
-use Rattle.h2_inode.specs.SetBytesLaws.{set_one}
+use Rattle.h2_set.specs.SetBytesLaws.{set_one}
 use Rattle.h2_dirkey.specs.BlockLaws.{name_one}
 use Rattle.h2_forest.specs.Forest.{PlainForest}
 use Rattle.h2_meaning.specs.Single.{IsSingle}

@@ -16,7 +16,7 @@ use Rattle.h2_inode.specs.declared.inode.Body.TheVariants.{Refs, Bytes}
 use Rattle.h2_inode.specs.declared.inode.Inode.{Inode}
 use Rattle.h2_inode.specs.Inode.{BodyFits}
 use Rattle.h2_inode.specs.InodeLaws.{InodeBytes-same}
-use Rattle.h2_inode.specs.SetBytesLaws.{SetBytes-same}
+use Rattle.h2_set.specs.SetBytesLaws.{SetBytes-same}
 use Rattle.h2_inode.specs.Block.{HasCheck, IsInodeBlock, IsSetBlock, IsContentBlock, IsNameBlock, HoldsRefs, by_inode, by_set, refs_of_body}
 use Rattle.h2_forest.specs.Forest.{PlainForest}
 use Rattle.h2_meaning.specs.Access.{OneByOne}
