@@ -1,14 +1,13 @@
 -- What a change of one node's set leaves of all others.
-use Rattle.std.proofs.Common.{◌≡◌, ℕ, ◌+◌, ◌<◌, ◌≤◌, ◌^◌, true, arith, refl, sym, ◌∙◌, ap, List, [], ◌∷◌, length, Some, None, subst, ◌⊎◌, inl, inr, slice_get, suc, zero}
-use Rattle.std.proofs.lemmas.Option.{none-some}
+use Rattle.std.proofs.Common.{◌≡◌, ℕ, true, arith, refl, sym, ◌∙◌, ap, List, [], ◌∷◌, length, Some, subst, inl, inr, slice_get, suc}
 use Rattle.h2_ref.specs.declared.reference.Ref.{Ref}
 use Rattle.h2_set.specs.Ranges.{holds, is_indirect}
 use Rattle.h2_set.specs.RefSet.{RefSet}
-use Rattle.h2_set.specs.Forest.{Forest, refs, loaded, IsSoundNode, IsSound, InPlace, Stays, Same, Walks, ReadiesOnly, Alters, OnWay, inside, across, IsAbove, itself}
+use Rattle.h2_set.specs.Forest.{Forest, refs, loaded, IsSoundNode, IsSound, InPlace, Same, Walks, ReadiesOnly, Alters, OnWay, inside, across, itself}
 use Rattle.h2_set.specs.StayLaws.{Fixed-refl, Fixed-trans, InPlace-trans, Stays-refl, Stays-trans, Same-Stays}
 use Rattle.h2_set.specs.ChangeLaws.{same_or_not, Keeps-trans, Same-Keeps}
 use Rattle.h2_set.specs.RenewLaws.{Alike-length, Keeps-Renews, Renews-trans}
-use Rattle.h2_tree.specs.Changes.{ChangesOnly, Prepares, Descends, arrived, onward, NoneEmpty}
+use Rattle.h2_tree.specs.Changes.{ChangesOnly, Prepares, Descends, onward, NoneEmpty}
 
 -- lists of one length, of which one has all that the other has, each at its place
 same_list : (rs qs : List Ref) → length qs ≡ length rs → ((i : ℕ) (r : Ref) → slice_get rs i ≡ Some r → slice_get qs i ≡ Some r) → qs ≡ rs

@@ -1,17 +1,17 @@
 -- Paths that stay loaded when a leaf goes out.
-use Rattle.std.proofs.Common.{◌≡◌, ℕ, ◌+◌, ◌<◌, ◌≤◌, ◌^◌, ◌⊎◌, inl, inr, Bool, true, false, arith, refl, sym, ◌∙◌, ap, List, Option, Some, None, subst, slice_get}
+use Rattle.std.proofs.Common.{◌≡◌, ℕ, ◌+◌, ◌<◌, ◌≤◌, ◌^◌, inl, inr, Bool, true, false, arith, refl, sym, ◌∙◌, ap, Option, Some, None, subst, slice_get}
 use Rattle.std.specs.List.{remove}
 use Rattle.std.proofs.lemmas.Nat.{pow_pos}
 use Rattle.h2_ref.specs.declared.reference.Ref.{Ref}
 use Rattle.h2_set.specs.RefSet.{RefSet}
-use Rattle.h2_set.specs.Ranges.{leads_on, limit, holds, Apart, NoneHolds, is_indirect}
+use Rattle.h2_set.specs.Ranges.{leads_on, limit, holds, NoneHolds, is_indirect}
 use Rattle.h2_set.specs.Forest.{Forest, refs, loaded, IsSound, Keeps, Stays, Reaches, nowhere, here, below}
 use Rattle.h2_set.specs.LeafLaws.{holds_inside, place_above}
 use Rattle.h2_set.specs.SplitLaws.{below_high}
 use Rattle.h2_set.specs.EditLaws.{remove_from, remove_keeps, remove_lacks}
 use Rattle.h2_set.specs.ChangeLaws.{Keeps-Stays, same_or_not, apart_places}
 use Rattle.h2_set.specs.RenewLaws.{like_at, Alike-sym}
-use Rattle.h2_tree.specs.Changes.{ChangesOnly, LeadsOnly, itself, down, GoesAway, below_it, named, Descends, arrived, onward, GoesOut, Removes, KeepsPaths}
+use Rattle.h2_tree.specs.Changes.{ChangesOnly, LeadsOnly, itself, down, GoesAway, below_it, named, Descends, arrived, onward, Removes, KeepsPaths}
 use Rattle.h2_tree.proofs.Climb.{same_holder}
 use Rattle.h2_tree.proofs.Only.{only_holds, only_reaches}
 use Rattle.h2_tree.proofs.Going.{Walks-prepares}
@@ -163,8 +163,7 @@ module _ (h g : Forest) (n place : ℕ) (leaf : Ref) (sound : IsSound h) (stands
             let r_size = ap (λ z. 2 ^ z) bits_c in
             let clear : (m : ℕ) → In h n x (h.bits at) m → (m ≡ n → ⊥) × (holds (h.low m) q ≡ true → ⊥) = λ m p.
             let pos = pow_pos (h.bits m) in
-            let pos_n = pow_pos (h.bits n) in
-            (
+            let pos_n = pow_pos (h.bits n) in (
               λ e. (let low_is = ap h.low e in let bits_is = ap (λ z. 2 ^ h.bits z) e in elim apart as (λ _. ⊥) [
                 | inl before ↦ omega (arith, before, p.high, pos, low_is, ends.low, kid.low)
                 | inr behind ↦ omega (arith, behind, p.low, low_is, ends.high, pos_n, kid.low, r_size)

@@ -1,14 +1,13 @@
 -- Paths that stay loaded when a leaf goes in.
-use Rattle.std.proofs.Common.{◌≡◌, ℕ, ◌+◌, ◌<◌, ◌≤◌, ◌^◌, ◌⊎◌, inl, inr, Bool, true, false, arith, refl, sym, ◌∙◌, ap, cond, List, [], ◌∷◌, length, Option, Some, None, subst, slice_get, slice_set, suc, zero}
+use Rattle.std.proofs.Common.{◌≡◌, ℕ, ◌+◌, ◌<◌, ◌≤◌, ◌^◌, ◌⊎◌, inl, inr, Bool, true, false, arith, refl, sym, ◌∙◌, ap, cond, List, [], ◌∷◌, Option, Some, None, subst, slice_get, slice_set, suc, zero}
 use Rattle.std.specs.Prelude.{filter, not, IfOk, Result, Ok, Err}
-use Rattle.std.proofs.lemmas.Bool.Decides.{nat_tests}
 use Rattle.std.proofs.lemmas.Nat.{pow_pos}
 use Rattle.std.proofs.lemmas.Option.{none-some}
 use Rattle.h2_ref.specs.declared.reference.Ref.{Ref}
 use Rattle.h2_ref.specs.declared.faults.Trouble.{Trouble}
 use Rattle.h2_set.specs.RefSet.{RefSet}
-use Rattle.h2_set.specs.Ranges.{leads_on, limit, holds, lies, put, Apart, IsApart, Sides, NoneHolds, is_indirect}
-use Rattle.h2_set.specs.Forest.{Forest, refs, loaded, IsSound, Alike, Keeps, Stays, Reaches, nowhere, here, below}
+use Rattle.h2_set.specs.Ranges.{leads_on, limit, holds, lies, put, Apart, IsApart, NoneHolds, is_indirect}
+use Rattle.h2_set.specs.Forest.{Forest, refs, loaded, IsSound, Stays, Reaches, nowhere, here, below}
 use Rattle.h2_set.specs.LeafLaws.{holds_inside}
 use Rattle.h2_set.specs.EditLaws.{before_apart, behind_apart, apart_tail}
 use Rattle.h2_set.specs.PutLaws.{put_from, put_keeps}

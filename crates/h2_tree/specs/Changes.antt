@@ -6,7 +6,7 @@ use Rattle.h2_set.specs.Ranges.{limit, holds, lies, NoneHolds, IsApart, Sides, p
 use Rattle.h2_tree.specs.declared.removing.Taken.{Taken}
 use Rattle.h2_tree.specs.declared.removing.Taken.TheVariants.{Nothing, Out, Sole}
 use Rattle.h2_set.specs.Forest.{Forest, refs, loaded, IsSound, LeavesOf, Walks, Fixed, InPlace, Keeps, Renews, Stays, Reaches, OnWay, IsAbove}
-use Rattle.h2_set.specs.RefSet.{RefSet, IsSplitOf}
+use Rattle.h2_set.specs.RefSet.{IsSplitOf}
 
 -- the range of m lies in that of node at
 pub record Under (f : Forest) (m at : ℕ) : Type 0 where
