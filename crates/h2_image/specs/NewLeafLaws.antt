@@ -45,7 +45,7 @@ under (suc (suc (suc level))) first zone le from to = absurd (omega arith)
 -- the volume has no more zones than eight blocks of the level that its header names stand for
 zones_most : (zones : ℕ) → zones ≤ 512 → zones ≤ zones_under (suc (top_level zones))
 zones_most zones most = elim (cases_lt 8 zones) [
-  | inl more ↦ elim (cases_lt 64 zones) [ | inl many ↦ grind arith | inr few ↦ grind arith ]
+  | inl more ↦ elim (cases_lt 64 zones) [ inl many ↦ grind arith | inr few ↦ grind arith ]
   | inr few ↦ grind arith
 ]
 
@@ -88,8 +88,8 @@ zone_codes zones segments leaf zone inside new is segment chunk segment_lt chunk
     let which : n / 256 ≡ 8 * zone + segment = omega arith in
     let at : n % 256 ≡ chunk = omega arith in
     let here : code_in segments n ≡ code_at (slice_index_or leaf segment []) chunk =
-        ap (λ (s : ℕ). slice_index_or (slice_index_or segments s []) (n % 256) Reserved) which ∙ ap (λ (c : ℕ). slice_index_or (slice_index_or segments (8 * zone + segment) []) c Reserved) at
-        ∙ ap (λ (codes : List Code). slice_index_or codes chunk Reserved) (sym (is segment [] segment_lt)) in
+    ap (λ (s : ℕ). slice_index_or (slice_index_or segments s []) (n % 256) Reserved) which ∙ ap (λ (c : ℕ). slice_index_or (slice_index_or segments (8 * zone + segment) []) c Reserved) at
+    ∙ ap (λ (codes : List Code). slice_index_or codes chunk Reserved) (sym (is segment [] segment_lt)) in
     subst (IsNewCode n) here (new.codes n (omega arith))
 
 pub new_leaves : (image : Places) (h : Header) (zones : ℕ) → IsNewVolume image h zones → (zone : ℕ) → zone < zones → HasNewLeaf image zone

@@ -41,7 +41,7 @@ pub data IsPart (image : Places) (zones : ℕ) (segments : List (List Code)) (r 
 -- the level of the blocks that a header names
 pub top_most : (zones : ℕ) → top_level zones ≤ 2
 top_most zones = elim (cases_lt 8 zones) [
-  | inl more ↦ elim (cases_lt 64 zones) [ | inl most ↦ grind arith | inr few ↦ grind arith ]
+  | inl more ↦ elim (cases_lt 64 zones) [ inl most ↦ grind arith | inr few ↦ grind arith ]
   | inr few ↦ grind arith
 ]
 
@@ -113,7 +113,7 @@ node_child image zones segments (suc level) zone r s le kind (refs, node, entrie
     let lt : c.index < 8 = c.below in
     let here : c.index < length refs = omega arith in
     let same : s ≡ slice_index_or refs c.index s =
-        one_value (slice_index_or refs c.index s) s (from_place (from_place image r.place) (128 * c.index)) (node.valid.valid c.index s here) c.valid (node.bytes c.index s here) c.spelled in
+    one_value (slice_index_or refs c.index s) s (from_place (from_place image r.place) (128 * c.index)) (node.valid.valid c.index s here) c.valid (node.bytes c.index s here) c.spelled in
     elim (cases_lt (zone + zones_under level * c.index) zones) [
       | inl inside ↦ record {
         level = level;

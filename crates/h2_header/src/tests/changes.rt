@@ -210,7 +210,10 @@ fn the_first_bytes_are_covered(rt: HostRuntime) -> Result<(), Fail> {
         change = change.one_before();
         let at = 599 - step;
         for bits in 1..=255u8 {
-            assert!(rt; is_refused_early(&mut b, at, bits, change.by(bits)), "byte {at}, bits {bits}");
+            assert!(rt;
+                is_refused_early(&mut b, at, bits, change.by(bits)),
+                "byte {at}, bits {bits}"
+            );
         }
     }
     Ok(())
@@ -226,7 +229,10 @@ fn the_last_bytes_are_covered(rt: HostRuntime) -> Result<(), Fail> {
             change = change.one_before();
         }
         for bits in 1..=255u8 {
-            assert!(rt; is_refused_early(&mut b, at, bits, change.by(bits)), "byte {at}, bits {bits}");
+            assert!(rt;
+                is_refused_early(&mut b, at, bits, change.by(bits)),
+                "byte {at}, bits {bits}"
+            );
         }
     }
     Ok(())
@@ -240,7 +246,10 @@ fn the_first_fields_are_named(rt: HostRuntime) -> Result<(), Fail> {
         change = change.one_before();
         let at = 599 - step;
         for bits in 1..=255u8 {
-            assert!(rt; is_refused_by_field(&mut b, at, bits, change.by(bits)), "byte {at}, bits {bits}");
+            assert!(rt;
+                is_refused_by_field(&mut b, at, bits, change.by(bits)),
+                "byte {at}, bits {bits}"
+            );
         }
     }
     Ok(())
@@ -256,7 +265,10 @@ fn the_last_fields_are_named(rt: HostRuntime) -> Result<(), Fail> {
             change = change.one_before();
         }
         for bits in 1..=255u8 {
-            assert!(rt; is_refused_by_field(&mut b, at, bits, change.by(bits)), "byte {at}, bits {bits}");
+            assert!(rt;
+                is_refused_by_field(&mut b, at, bits, change.by(bits)),
+                "byte {at}, bits {bits}"
+            );
         }
     }
     Ok(())

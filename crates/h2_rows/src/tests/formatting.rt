@@ -27,14 +27,30 @@ fn a_disk_in_memory_is_formatted_once(rt: HostRuntime) -> Result<(), Fail> {
 // freemap and for the header, and two syncs of two moments each.
 const VOLUMES: [(&str, &str, u64); 6] = [
     ("4", FORMATTED_4, 11),
-    ("8", "formatted zones 8 chunks 16384 reserved 2048 free 14335\n", 15),
+    (
+        "8",
+        "formatted zones 8 chunks 16384 reserved 2048 free 14335\n",
+        15,
+    ),
     // nine leaves and two nodes
     ("9", FORMATTED_9, 18),
     // 64 leaves and eight nodes, then 65 leaves, nine nodes and two of level 2
-    ("64", "formatted zones 64 chunks 131072 reserved 16384 free 114687\n", 79),
-    ("65", "formatted zones 65 chunks 133120 reserved 16640 free 116479\n", 83),
+    (
+        "64",
+        "formatted zones 64 chunks 131072 reserved 16384 free 114687\n",
+        79,
+    ),
+    (
+        "65",
+        "formatted zones 65 chunks 133120 reserved 16640 free 116479\n",
+        83,
+    ),
     // 512 leaves, 64 nodes and eight of level 2
-    ("512", "formatted zones 512 chunks 1048576 reserved 131072 free 917503\n", 591),
+    (
+        "512",
+        "formatted zones 512 chunks 1048576 reserved 131072 free 917503\n",
+        591,
+    ),
 ];
 
 #[test]
