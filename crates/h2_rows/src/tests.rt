@@ -5,6 +5,7 @@ mod failing_sinks;
 mod files;
 mod formatting;
 mod hostile_images;
+mod maps;
 mod new_volumes;
 mod running;
 mod usage;

@@ -1,4 +1,4 @@
-use Rattle.std.proofs.Common.{◌≡◌, ap, sym, ◌∙◌}
+use Rattle.std.proofs.Common.{ap, sym, ◌∙◌}
 use Rattle.h2_num.specs.Names.{names_eq, names_same, names_self}
 use Rattle.h2_command.proofs.same.same_names.Goals as goal
 

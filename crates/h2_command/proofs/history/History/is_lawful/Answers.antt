@@ -1,4 +1,4 @@
-use Rattle.std.proofs.Common.{refl, ap, subst, All}
+use Rattle.std.proofs.Common.{refl, subst, All}
 use Rattle.h2_command.specs.Lawful.{IsLawfulItem}
 use Rattle.h2_command.proofs.Elements.{one_more, all_seen}
 use Rattle.h2_command.proofs.history.History.is_lawful.Goals as goal
