@@ -1,9 +1,9 @@
 -- Loops that push what passes.
-use Rattle.std.proofs.Common.{◌≡◌, ℕ, ◌+◌, ◌<◌, ◌≤◌, Bool, true, false, arith, refl, cond, sym, ◌∙◌, ap, List, [], ◌∷◌, ◌++◌, length, take, drop, get_or}
+use Rattle.std.proofs.Common.{◌≡◌, ℕ, ◌+◌, ◌<◌, ◌≤◌, Bool, true, arith, refl, sym, ◌∙◌, ap, List, ◌∷◌, ◌++◌, length, take, drop, get_or}
 use Rattle.std.specs.Prelude.{filter, count_by}
 use Rattle.std.proofs.lemmas.List.{drop_more, length-append, take-append-drop}
 use Rattle.std.proofs.lemmas.List.Elements.{filter-append}
-use Rattle.std.proofs.lemmas.List.Sums.{length-filter, count_by-le-length}
+use Rattle.std.proofs.lemmas.List.Sums.{length-filter}
 
 -- what is still to come has room beside what passed so far
 pub room_left : {X : Type 0} (p : X → Bool) (xs : List X) (i n : ℕ) (d : X) → i < length xs → count_by p xs ≤ n → p (get_or xs i d) ≡ true → length (filter p (take i xs)) < n

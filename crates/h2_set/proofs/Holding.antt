@@ -1,6 +1,5 @@
 -- Ranges of keys.
-use Rattle.std.proofs.Common.{◌≡◌, ℕ, ◌+◌, ◌-◌, ◌*◌, ◌<◌, ◌≤◌, ◌/◌, ◌%◌, ◌^◌, Bool, true, false, nat_eq, nat_lt, nat_le, ◌&&◌, arith, refl, cond, sym, ◌∙◌, ap, List, [], ◌∷◌, ◌++◌, length, get_or, Option, Some, None, subst, inl, inr, pow_mono, zero, suc, slice_get}
-use Rattle.std.specs.Option.{option_map}
+use Rattle.std.proofs.Common.{◌≡◌, ℕ, ◌+◌, ◌-◌, ◌*◌, ◌<◌, ◌≤◌, ◌/◌, ◌%◌, ◌^◌, Bool, true, false, nat_eq, nat_lt, nat_le, ◌&&◌, arith, refl, cond, sym, ◌∙◌, List, [], ◌∷◌, length, Option, Some, None, subst, inl, inr, pow_mono, zero, suc, slice_get}
 use Rattle.std.specs.List.{position, position_or_len}
 use mathlib.Core.Bool.{not}
 use Rattle.std.proofs.lemmas.Option.{none-some}
@@ -13,7 +12,7 @@ use Rattle.std.proofs.lemmas.Nat.{div-add-mod', div_below, pow_pos, pow_below}
 use Rattle.h2_ref.specs.declared.reference.Ref.{Ref}
 use Rattle.h2_ref.specs.declared.reference.Kind.TheVariants.{Empty}
 use Rattle.h2_ref.specs.declared.reference.Check.TheVariants.{Nothing}
-use Rattle.h2_set.specs.Ranges.{holds, limit, Rising, find, NoneHolds, IsPlaceOf}
+use Rattle.h2_set.specs.Ranges.{holds, NoneHolds, IsPlaceOf}
 
 -- a shift tells whether a key lies less than 2 ^ bits above low
 pub holds_by_shift : (key low p : ℕ) → 0 < p → low ≤ key → nat_eq ((key - low) / p) 0 ≡ (nat_le low key && nat_lt key (low + p))

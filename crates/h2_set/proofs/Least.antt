@@ -1,11 +1,10 @@
 -- The least range that holds half of the references.
-use Rattle.std.proofs.Common.{◌≡◌, ℕ, ◌+◌, ◌-◌, ◌*◌, ◌/◌, ◌%◌, ◌<◌, ◌≤◌, ◌^◌, Bool, true, false, nat_lt, nat_le, ◌&&◌, arith, refl, cond, sym, ◌∙◌, ap, List, [], ◌∷◌, length, Option, Some, None, subst, ◌⊎◌, inl, inr, slice_get, suc, zero}
+use Rattle.std.proofs.Common.{◌≡◌, ℕ, ◌+◌, ◌-◌, ◌*◌, ◌/◌, ◌%◌, ◌<◌, ◌≤◌, ◌^◌, Bool, true, false, nat_le, ◌&&◌, arith, refl, cond, sym, ◌∙◌, ap, List, [], ◌∷◌, length, Some, subst, ◌⊎◌, inl, inr, slice_get, suc, zero}
 use Rattle.std.specs.Prelude.{count_by, filter}
 use Rattle.std.proofs.lemmas.Bool.Decides.{nat_tests}
 use Rattle.std.proofs.lemmas.Bool.{cases_lt}
 use Rattle.std.proofs.lemmas.Nat.{pow_pos, pow_below, div-add-mod', div-mul-add, mod_below}
 use Rattle.std.proofs.Math.Nat.{mod-eq_of_lt, mul-mod_left, mul-le-mul_left}
-use Rattle.std.proofs.Common.{pow_mono}
 use Rattle.std.proofs.lemmas.Option.{none-some, slice_get-get_or, slice_get_within}
 use Rattle.std.proofs.lemmas.List.Sums.{sum_by-cons}
 use Rattle.std.proofs.Common.{get_or}

@@ -1,16 +1,16 @@
 -- The leaves of a tree after a change of one node.
-use Rattle.std.proofs.Common.{◌≡◌, ℕ, ◌+◌, ◌-◌, ◌*◌, ◌/◌, ◌%◌, ◌<◌, ◌≤◌, ◌^◌, Bool, true, false, arith, refl, cond, sym, ◌∙◌, ap, List, [], ◌∷◌, ◌++◌, length, Option, Some, None, subst, ◌⊎◌, inl, inr, slice_get, slice_set, suc, zero, nat_lt, pow_mono}
+use Rattle.std.proofs.Common.{◌≡◌, ℕ, ◌+◌, ◌-◌, ◌*◌, ◌/◌, ◌%◌, ◌<◌, ◌≤◌, ◌^◌, Bool, true, false, arith, refl, cond, sym, ◌∙◌, ap, List, [], ◌∷◌, ◌++◌, Some, subst, ◌⊎◌, inl, inr, slice_get, slice_set, suc, zero, nat_lt}
 use Rattle.std.proofs.lemmas.Bool.Decides.{nat_tests}
 use Rattle.std.proofs.lemmas.Bool.{cases_lt}
 use Rattle.std.proofs.lemmas.Nat.{pow_pos, div-add-mod', mod-pow-add}
 use Rattle.std.proofs.Math.Nat.{mul-le-mul_left, mul-mod_left, mod_self}
 use Rattle.std.proofs.lemmas.Option.{none-some}
 use Rattle.h2_ref.specs.declared.reference.Ref.{Ref}
-use Rattle.h2_set.specs.Ranges.{leads_on, Rising, limit, holds, find, NoneHolds, put, Apart, IsApart, IsAligned, is_indirect}
+use Rattle.h2_set.specs.Ranges.{leads_on, Rising, limit, holds, put, Apart, IsApart, IsAligned, is_indirect}
 use Rattle.h2_set.specs.RefSet.{RefSet}
-use Rattle.h2_set.specs.Forest.{Link, loaded, told, untold, Forest, refs, HasLeaves, done, one, near, far, LeavesOf, KeepsLeaves, IsSoundNode, IsSound, Alike, Stays, Keeps, Same}
+use Rattle.h2_set.specs.Forest.{loaded, told, Forest, refs, HasLeaves, done, one, near, far, LeavesOf, KeepsLeaves, IsSound, Alike, Stays, Keeps, Same}
 use Rattle.h2_set.specs.StayLaws.{Alike-refl, Alike-trans, InPlace-refl, InPlace-trans, leaves_stay}
-use Rattle.h2_set.specs.LeafLaws.{Rising-le, Rising-low, Rising-append, leaves_rising, holds_inside, holds_outside, place_above}
+use Rattle.h2_set.specs.LeafLaws.{Rising-le, Rising-append, leaves_rising, holds_inside, holds_outside, place_above}
 use Rattle.h2_set.specs.EditLaws.{before_apart, behind_apart, apart_tail}
 
 pub Keeps-Stays : (f g : Forest) (m : ℕ) → Keeps f g m → Stays f g m

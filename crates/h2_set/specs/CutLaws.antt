@@ -1,13 +1,13 @@
 -- The leaves of a tree after a reference was cut out.
-use Rattle.std.proofs.Common.{◌≡◌, ℕ, ◌+◌, ◌<◌, ◌≤◌, ◌^◌, Bool, true, false, nat_eq, arith, refl, cond, sym, ◌∙◌, ap, List, [], ◌∷◌, ◌++◌, length, Option, Some, None, subst, ◌⊎◌, inl, inr, slice_get, suc, zero}
+use Rattle.std.proofs.Common.{◌≡◌, ℕ, ◌<◌, ◌≤◌, Bool, true, false, nat_eq, arith, refl, cond, sym, ◌∙◌, ap, List, [], ◌∷◌, ◌++◌, Some, subst, slice_get, suc, zero}
 use Rattle.std.specs.List.{remove}
 use Rattle.std.proofs.lemmas.Bool.Decides.{nat_tests}
 use Rattle.std.proofs.lemmas.Nat.{pow_pos}
 use Rattle.std.proofs.lemmas.Option.{none-some}
 use Rattle.h2_ref.specs.declared.reference.Ref.{Ref}
-use Rattle.h2_set.specs.Ranges.{Rising, limit, holds, without, is_indirect}
-use Rattle.h2_set.specs.Forest.{Link, loaded, told, untold, Forest, refs, HasLeaves, done, one, near, far, LeavesOf}
-use Rattle.h2_set.specs.LeafLaws.{Rising-le, holds_inside, place_above}
+use Rattle.h2_set.specs.Ranges.{Rising, limit, without, is_indirect}
+use Rattle.h2_set.specs.Forest.{loaded, told, Forest, HasLeaves, done, one, near, far, LeavesOf}
+use Rattle.h2_set.specs.LeafLaws.{Rising-le, place_above}
 
 apart_keys : (a b : ℕ) → a < b → nat_eq a b ≡ false
 apart_keys a b lt = grind (arith, nat_tests)

@@ -1,5 +1,5 @@
 -- Edits of a set.
-use Rattle.std.proofs.Common.{◌≡◌, ℕ, ◌+◌, ◌<◌, ◌≤◌, ◌^◌, ◌≢◌, Bool, true, false, arith, refl, cond, sym, ◌∙◌, ap, List, [], ◌∷◌, ◌++◌, length, take, drop, Option, Some, None, subst, ◌⊎◌, inl, inr, slice_get, slice_set, suc, zero, nat_lt, slice_index_or}
+use Rattle.std.proofs.Common.{◌≡◌, ℕ, ◌<◌, ◌≤◌, ◌^◌, true, false, arith, refl, sym, ◌∙◌, ap, List, [], ◌∷◌, length, Some, inl, inr, slice_get, slice_set, suc, zero, nat_lt, slice_index_or}
 use Rattle.std.specs.List.{insert, remove, take_while, prefix_len}
 use Rattle.std.proofs.Math.Numerals.{one-add}
 use Rattle.std.proofs.lemmas.Bool.Decides.{nat_tests}
@@ -8,7 +8,7 @@ use Rattle.std.proofs.lemmas.Option.{none-some, slice_get_read}
 use Rattle.std.proofs.lemmas.List.Folds.{length-prefix_len}
 use Rattle.h2_set.specs.RefSet.{RefSet, IsRefSet}
 use Rattle.h2_ref.specs.declared.reference.Ref.{Ref}
-use Rattle.h2_set.specs.Ranges.{Rising, limit, put, Apart, IsApart}
+use Rattle.h2_set.specs.Ranges.{Rising, limit, put, IsApart}
 
 -- which way a reference goes that is apart from q
 pub before_apart : (r q : Ref) → limit r ≤ q.key → nat_lt r.key q.key ≡ true

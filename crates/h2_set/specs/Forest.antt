@@ -1,12 +1,12 @@
 -- A forest of sets: trees whose nodes have a set of references each, some of them loaded.
-use Rattle.std.specs.Prelude.{◌≡◌, ℕ, ◌+◌, ◌-◌, ◌%◌, ◌^◌, ◌≤◌, ◌<◌, min, ◌⊎◌, cond, Bool, true, false, List, [], ◌∷◌, ◌++◌, length, Option, Some, None, slice_get, Result, IfOk, IfErr, filter, not}
+use Rattle.std.specs.Prelude.{◌≡◌, ℕ, ◌+◌, ◌%◌, ◌^◌, ◌≤◌, ◌<◌, ◌⊎◌, cond, Bool, true, false, List, [], ◌∷◌, ◌++◌, length, Option, Some, None, slice_get, filter, not}
 use Rattle.h2_num.specs.Causes.{Rose}
 use Rattle.h2_ref.specs.declared.reference.Ref.{Ref}
 use Rattle.h2_ref.specs.declared.reference.Kind.{Kind}
 use Rattle.h2_ref.specs.declared.reference.Kind.TheVariants.{Empty, Inode, Indirect, Content, Dirent, MapNode, MapLeaf}
 use Rattle.h2_ref.specs.declared.faults.Trouble.{Trouble}
 use Rattle.h2_ref.specs.declared.faults.Trouble.TheVariants.{Failed, Bad, NoMemory}
-use Rattle.h2_set.specs.Ranges.{Rising, limit, holds, NoneHolds, IsAligned, IsApart, put, lies, is_indirect, Sides}
+use Rattle.h2_set.specs.Ranges.{Rising, limit, holds, NoneHolds, IsAligned, IsApart, put, lies, is_indirect}
 use Rattle.h2_set.specs.RefSet.{RefSet, IsRefSet, IsSplitOf, with_rest}
 use Rattle.h2_set.specs.declared.set.Split.{Split}
 

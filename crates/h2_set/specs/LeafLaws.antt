@@ -1,11 +1,11 @@
 -- The leaves of a tree, by their keys.
-use Rattle.std.proofs.Common.{◌≡◌, ℕ, ◌+◌, ◌<◌, ◌≤◌, ◌^◌, Bool, true, false, arith, refl, cond, sym, ◌∙◌, ap, List, [], ◌∷◌, ◌++◌, length, Option, Some, None, subst, ◌⊎◌, inl, inr, slice_get, suc, zero}
+use Rattle.std.proofs.Common.{◌≡◌, ℕ, ◌<◌, ◌≤◌, Bool, true, false, arith, refl, cond, sym, ◌∙◌, ap, List, [], ◌∷◌, ◌++◌, Option, Some, None, ◌⊎◌, inl, inr, slice_get, suc, zero}
 use Rattle.std.proofs.lemmas.Bool.Decides.{nat_tests}
 use Rattle.std.proofs.lemmas.Nat.{pow_pos}
 use Rattle.std.proofs.lemmas.Option.{none-some}
 use Rattle.h2_ref.specs.declared.reference.Ref.{Ref}
 use Rattle.h2_set.specs.Ranges.{Rising, limit, holds, find, NoneHolds, is_indirect}
-use Rattle.h2_set.specs.Forest.{Link, loaded, told, untold, Forest, refs, HasLeaves, done, one, near, far, LeavesOf, IsSoundNode, IsSound, Reaches, nowhere, here, below}
+use Rattle.h2_set.specs.Forest.{loaded, told, Forest, HasLeaves, done, one, near, far, LeavesOf, IsSound, Reaches, nowhere, here, below}
 
 -- a key outside from low to high
 abbrev pub Outside : ℕ → ℕ → ℕ → Type 0

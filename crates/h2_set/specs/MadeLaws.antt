@@ -1,12 +1,11 @@
 -- How the split rule's range parts the set of a node.
-use Rattle.std.proofs.Common.{◌≡◌, ℕ, ◌+◌, ◌<◌, ◌≤◌, ◌^◌, ◌%◌, Bool, true, false, arith, refl, cond, sym, ◌∙◌, ap, List, [], ◌∷◌, length, Option, Some, None, subst, ◌⊎◌, inl, inr, slice_get, suc, zero}
+use Rattle.std.proofs.Common.{◌≡◌, ℕ, ◌+◌, ◌<◌, ◌≤◌, ◌^◌, ◌%◌, Bool, true, false, arith, refl, sym, length, Some, subst, ◌⊎◌, inl, inr, slice_get, suc}
 use Rattle.std.specs.Prelude.{count_by}
 use Rattle.std.proofs.lemmas.Nat.{pow_pos}
-use Rattle.std.proofs.lemmas.Option.{none-some}
 use Rattle.h2_ref.specs.declared.reference.Ref.{Ref}
 use Rattle.h2_set.specs.declared.set.Split.{Split}
-use Rattle.h2_set.specs.Ranges.{Rising, limit, put, lies, is_indirect, IsApart, AllAligned, IsAligned, IsOneClass, Sides}
-use Rattle.h2_set.specs.RefSet.{RefSet, IsRefSet, IsSplitOf, HoldsAll}
+use Rattle.h2_set.specs.Ranges.{Rising, limit, put, lies, is_indirect, IsApart, AllAligned, IsOneClass, Sides}
+use Rattle.h2_set.specs.RefSet.{RefSet, HoldsAll}
 use Rattle.h2_set.specs.Forest.{Forest, refs, Fits, IsSoundNode, MadeFrom}
 use Rattle.h2_set.specs.LeafLaws.{place_above}
 use Rattle.h2_set.specs.EditLaws.{Rising-put, length-put}

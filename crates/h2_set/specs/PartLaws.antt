@@ -1,12 +1,12 @@
 -- The leaves of a node whose set was split.
-use Rattle.std.proofs.Common.{◌≡◌, ℕ, ◌+◌, ◌<◌, ◌≤◌, ◌^◌, Bool, true, false, arith, refl, cond, sym, ◌∙◌, ap, List, [], ◌∷◌, ◌++◌, length, Option, Some, None, subst, ◌⊎◌, inl, inr, slice_get, suc, zero, nat_lt, append_assoc}
+use Rattle.std.proofs.Common.{◌≡◌, ℕ, ◌+◌, ◌<◌, ◌≤◌, ◌^◌, true, false, arith, refl, sym, ◌∙◌, ap, List, [], ◌∷◌, ◌++◌, Some, subst, ◌⊎◌, inl, inr, slice_get, suc, append_assoc}
 use Rattle.std.specs.Prelude.{filter, not}
 use Rattle.std.proofs.lemmas.Bool.Decides.{nat_tests}
 use Rattle.std.proofs.lemmas.Nat.{pow_pos}
 use Rattle.h2_ref.specs.declared.reference.Ref.{Ref}
 use Rattle.h2_set.specs.Ranges.{Rising, limit, put, lies, Sides, is_indirect}
-use Rattle.h2_set.specs.Forest.{Link, loaded, told, untold, Forest, refs, HasLeaves, done, one, near, far, LeavesOf, KeepsLeaves}
-use Rattle.h2_set.specs.LeafLaws.{Rising-le, Rising-low, Rising-append, leaves_rising}
+use Rattle.h2_set.specs.Forest.{loaded, Forest, refs, HasLeaves, done, one, near, far, KeepsLeaves}
+use Rattle.h2_set.specs.LeafLaws.{Rising-low, Rising-append}
 use Rattle.h2_set.specs.EditLaws.{behind_apart}
 use Rattle.h2_set.specs.ChangeLaws.{put_below}
 

@@ -1,10 +1,10 @@
 -- What putting and filtering do to references in order.
-use Rattle.std.proofs.Common.{◌≡◌, ℕ, ◌+◌, ◌<◌, ◌≤◌, ◌^◌, Bool, true, false, arith, refl, cond, sym, ◌∙◌, ap, List, [], ◌∷◌, length, Option, Some, None, subst, ◌⊎◌, inl, inr, slice_get, suc, zero, nat_lt}
+use Rattle.std.proofs.Common.{◌≡◌, ℕ, Bool, true, false, arith, refl, cond, sym, ◌∙◌, ap, List, [], ◌∷◌, Some, None, ◌⊎◌, inl, inr, slice_get, suc, zero, nat_lt}
 use Rattle.std.specs.Prelude.{filter, not}
 use Rattle.std.proofs.lemmas.Nat.{pow_pos}
 use Rattle.std.proofs.lemmas.Option.{none-some}
 use Rattle.h2_ref.specs.declared.reference.Ref.{Ref}
-use Rattle.h2_set.specs.Ranges.{Rising, limit, put, lies, Apart, IsApart}
+use Rattle.h2_set.specs.Ranges.{Rising, limit, put, lies, IsApart}
 use Rattle.h2_set.specs.RefSet.{rest_of, with_rest}
 use Rattle.h2_set.specs.LeafLaws.{Rising-low}
 use Rattle.h2_set.specs.EditLaws.{before_apart, behind_apart, apart_tail}

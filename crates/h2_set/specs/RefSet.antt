@@ -1,5 +1,5 @@
 -- What a set of references is seen as, and where a set with one too many is split.
-use Rattle.std.specs.Prelude.{◌≡◌, ℕ, ◌+◌, ◌/◌, ◌%◌, ◌<◌, ◌≤◌, ◌⊎◌, ◌^◌, Bool, true, List, Option, Some, None, length, slice_get, count_by, if◌then◌else◌}
+use Rattle.std.specs.Prelude.{◌≡◌, ℕ, ◌+◌, ◌/◌, ◌%◌, ◌<◌, ◌≤◌, ◌⊎◌, ◌^◌, true, List, Option, Some, None, length, slice_get, count_by, if◌then◌else◌}
 use Rattle.h2_ref.specs.declared.reference.Ref.{Ref}
 use Rattle.h2_set.specs.Ranges.{Rising, lies, put, limit, IsApart, AllAligned, IsOneClass}
 

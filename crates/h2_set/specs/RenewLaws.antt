@@ -1,13 +1,12 @@
 -- Nodes that stand where they stood, while references name other blocks.
-use Rattle.std.proofs.Common.{◌≡◌, ℕ, ◌+◌, ◌<◌, ◌≤◌, ◌^◌, Bool, true, false, arith, refl, cond, sym, ◌∙◌, ap, List, [], ◌∷◌, ◌++◌, length, Option, Some, None, subst, ◌⊎◌, inl, inr, slice_get, suc, zero}
+use Rattle.std.proofs.Common.{◌≡◌, ℕ, true, false, refl, sym, ◌∙◌, ap, List, [], ◌∷◌, ◌++◌, length, Some, subst, inl, inr, slice_get, suc, zero}
 use Rattle.std.proofs.lemmas.Option.{none-some}
 use Rattle.h2_ref.specs.declared.reference.Ref.{Ref}
 use Rattle.h2_ref.specs.declared.reference.Kind.{Kind}
 use Rattle.h2_ref.specs.declared.reference.Kind.TheVariants.{Empty, Inode, Indirect, Content, Dirent, MapNode, MapLeaf}
-use Rattle.h2_set.specs.Ranges.{leads_on, is_indirect, IsApart, Apart, Rising, limit}
-use Rattle.h2_set.specs.Forest.{Forest, refs, IsAlike, Alike, names_node, IsRenewed, AllRenewed, InPlace, IsSound, Keeps, LeavesOf, Renews, Same, loaded, told, HasLeaves, done, one, near, far}
-use Rattle.h2_set.specs.StayLaws.{InPlace-trans, InPlace-refl}
-use Rattle.h2_set.specs.ChangeLaws.{Same-Keeps}
+use Rattle.h2_set.specs.Ranges.{leads_on, IsApart, Apart, Rising, limit}
+use Rattle.h2_set.specs.Forest.{Forest, refs, IsAlike, Alike, names_node, IsRenewed, AllRenewed, IsSound, Keeps, LeavesOf, Renews, loaded, told, HasLeaves, done, one, near, far}
+use Rattle.h2_set.specs.StayLaws.{InPlace-trans}
 
 -- what names no node leads to no further references
 not_node : (k : Kind) → names_node k ≡ false → leads_on k ≡ false

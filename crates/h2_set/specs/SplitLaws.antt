@@ -1,14 +1,14 @@
 -- What the split rule's range is: one exists, it lies in each aligned range that holds all, and it parts them.
-use Rattle.std.proofs.Common.{◌≡◌, ℕ, ◌+◌, ◌-◌, ◌*◌, ◌/◌, ◌%◌, ◌<◌, ◌≤◌, ◌^◌, Bool, true, false, arith, refl, cond, sym, ◌∙◌, ap, List, [], ◌∷◌, length, Option, Some, None, subst, ◌⊎◌, inl, inr, slice_get, suc, zero, nat_le, nat_lt, pow_mono}
-use Rattle.std.specs.Prelude.{count_by, filter, not}
+use Rattle.std.proofs.Common.{◌≡◌, ℕ, ◌+◌, ◌/◌, ◌%◌, ◌<◌, ◌≤◌, ◌^◌, Bool, true, false, arith, refl, cond, sym, ◌∙◌, ap, List, [], ◌∷◌, length, Some, subst, ◌⊎◌, inl, inr, slice_get, suc, zero, pow_mono}
+use Rattle.std.specs.Prelude.{count_by}
 use Rattle.std.proofs.lemmas.Bool.Decides.{nat_tests}
 use Rattle.std.proofs.lemmas.Bool.{cases_lt}
-use Rattle.std.proofs.lemmas.Nat.{pow_pos, pow_below, div-add-mod', mod-pow-add, pow-add}
+use Rattle.std.proofs.lemmas.Nat.{pow_pos, pow_below, pow-add}
 use Rattle.std.proofs.Math.Nat.{mod_self, mod-eq_of_lt}
 use Rattle.std.proofs.lemmas.Option.{none-some}
 use Rattle.std.proofs.lemmas.List.Sums.{sum_by-cons}
 use Rattle.h2_ref.specs.declared.reference.Ref.{Ref}
-use Rattle.h2_set.specs.Ranges.{Rising, limit, lies, put, Apart, IsApart, IsAligned, AllAligned, IsOneClass, Sides}
+use Rattle.h2_set.specs.Ranges.{Rising, limit, lies, AllAligned, IsOneClass, Sides}
 use Rattle.h2_set.specs.RefSet.{HoldsHalf, HoldsAll, IsSplitOf}
 use Rattle.h2_set.specs.LeafLaws.{Rising-le}
 use Rattle.h2_set.specs.ChangeLaws.{step_up, lower_power, multiple_add, apart_places}

@@ -1,9 +1,9 @@
 -- Leaves stay where nodes stay.
-use Rattle.std.proofs.Common.{◌≡◌, ℕ, ◌+◌, ◌<◌, ◌≤◌, ◌^◌, Bool, true, false, arith, refl, cond, sym, ◌∙◌, ap, List, [], ◌∷◌, ◌++◌, length, get_or, Option, Some, None, subst, ◌⊎◌, inl, inr, slice_get}
+use Rattle.std.proofs.Common.{◌≡◌, ℕ, true, arith, refl, sym, ◌∙◌, ap, List, [], ◌∷◌, ◌++◌, Option, subst, inl, inr, slice_get}
 use Rattle.h2_ref.specs.declared.reference.Ref.{Ref}
-use Rattle.h2_set.specs.Ranges.{Rising, limit, holds, find, leads_on, is_indirect}
+use Rattle.h2_set.specs.Ranges.{Rising, limit, leads_on}
 use Rattle.h2_set.specs.RefSet.{RefSet}
-use Rattle.h2_set.specs.Forest.{Link, loaded, told, untold, Forest, refs, HasLeaves, done, one, near, far, LeavesOf, KeepsLeaves, IsChild, IsSoundNode, IsSound, IsAlike, Alike, Below, Fixed, InPlace, Stays, Same, Walks, Unchanged, ReadiesOnly, Reaches, nowhere, here, below}
+use Rattle.h2_set.specs.Forest.{loaded, Forest, refs, HasLeaves, done, one, near, far, KeepsLeaves, IsSound, IsAlike, Alike, Below, Fixed, InPlace, Stays, Same, Walks, Unchanged, ReadiesOnly, Reaches, nowhere, here, below}
 
 IsAlike-refl : (r : Ref) → IsAlike r r
 IsAlike-refl r = record { kind = refl; key = refl; keybits = refl; radix = refl; dirent = refl; leaf = λ _. refl }

@@ -1,4 +1,4 @@
-use Rattle.std.proofs.Common.{rules, arith, sym, ◌∙◌}
+use Rattle.std.proofs.Common.{arith}
 use Rattle.std.proofs.lemmas.Nat.{pow_pos}
 use Rattle.h2_set.proofs.Holding.{holds_by_shift, holds_all}
 use Rattle.h2_set.proofs.range.holds.Goals as goal

@@ -1,4 +1,4 @@
-use Rattle.std.proofs.Common.{arith, ◌≡◌, ◌≤◌, ◌<◌, ◌∙◌, ◌^◌, pow_mono}
+use Rattle.std.proofs.Common.{arith, ◌^◌, pow_mono}
 use Rattle.h2_set.proofs.Least.{shift_is, lies_by_size, lies_longer}
 use Rattle.std.proofs.lemmas.Nat.{pow_below}
 use Rattle.h2_set.proofs.range.lies_in.Goals as goal

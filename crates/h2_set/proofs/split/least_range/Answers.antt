@@ -1,4 +1,4 @@
-use Rattle.std.proofs.Common.{arith, ◌⊎◌, inl, inr, ◌≤◌, ◌<◌}
+use Rattle.std.proofs.Common.{arith}
 use Rattle.h2_set.proofs.Least.{is_split, never_none}
 use Rattle.h2_set.proofs.split.least_range.Goals as goal
 

@@ -1,4 +1,4 @@
-use Rattle.std.proofs.Common.{◌≡◌, ℕ, ◌<◌}
+use Rattle.std.proofs.Common.{ℕ, ◌<◌}
 use Rattle.h2_set.specs.RefSet.{HoldsHalf}
 use Rattle.h2_set.proofs.split.least_range.Given as goal
 

@@ -1,8 +1,5 @@
-use Rattle.std.proofs.Common.{rules, ◌≡◌, ℕ, ◌+◌, ◌^◌, ◌<◌, ◌≤◌, arith, ap, sym, ◌∙◌, subst, length, List, refl, ◌⊎◌, inl, inr}
-use Rattle.std.specs.Prelude.{filter, not}
-use Rattle.h2_ref.specs.declared.reference.Ref.{Ref}
-use Rattle.h2_set.specs.Ranges.{Rising, put, lies, AllAligned}
-use Rattle.h2_set.specs.RefSet.{rest_of, with_rest, IsRefSet, IsSplitOf}
+use Rattle.std.proofs.Common.{◌≡◌, ◌^◌, arith, ap, sym, ◌∙◌, subst, length}
+use Rattle.h2_set.specs.Ranges.{Rising, put}
 use Rattle.h2_set.specs.EditLaws.{Rising-put, length-put}
 use Rattle.h2_set.specs.PutLaws.{Rising-filter, kept_rest}
 use Rattle.h2_set.proofs.Least.{few_enough, inner_is_set}

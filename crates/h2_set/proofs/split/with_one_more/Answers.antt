@@ -1,4 +1,4 @@
-use Rattle.std.proofs.Common.{rules, ◌≡◌, ◌∙◌, sym, ap, arith, List}
+use Rattle.std.proofs.Common.{◌∙◌, ap, List}
 use Rattle.std.specs.List.{insert}
 use Rattle.h2_ref.specs.declared.reference.Ref.{Ref}
 use Rattle.h2_set.specs.EditLaws.{items_put}

@@ -1,5 +1,3 @@
-use Rattle.std.proofs.Common.{rules, ◌≡◌, ℕ, ◌∙◌, sym, arith, ap, List, subst, ◌<◌, length}
-use Rattle.h2_set.specs.RefSet.{RefSet}
 use Rattle.h2_set.specs.EditLaws.{set_cut, read_at}
 use Rattle.h2_set.proofs.set.Set.cut.Goals as goal
 

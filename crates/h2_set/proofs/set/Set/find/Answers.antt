@@ -1,6 +1,5 @@
-use Rattle.std.proofs.Common.{rules, ◌≡◌, ℕ, ◌∙◌, sym, arith, ap, Option, List}
+use Rattle.std.proofs.Common.{rules, ◌≡◌}
 use Rattle.std.specs.List.{position}
-use Rattle.h2_ref.specs.declared.reference.Ref.{Ref}
 use Rattle.h2_set.specs.Ranges.{holds}
 use Rattle.h2_set.proofs.Holding.{position_finds}
 use Rattle.h2_set.proofs.set.Set.find.Goals as goal

@@ -1,7 +1,7 @@
-use Rattle.std.proofs.Common.{rules, ◌≡◌, ℕ, ◌∙◌, sym, arith, ap, List, subst, ◌<◌, length}
+use Rattle.std.proofs.Common.{◌≡◌, ◌∙◌, sym, arith, ap, List, subst, ◌<◌, length}
 use Rattle.h2_ref.specs.declared.reference.Ref.{Ref}
 use Rattle.h2_set.specs.Ranges.{put, IsApart}
-use Rattle.h2_set.specs.RefSet.{RefSet, IsRefSet}
+use Rattle.h2_set.specs.RefSet.{RefSet}
 use Rattle.h2_set.specs.EditLaws.{items_put, set_put}
 use Rattle.h2_set.proofs.set.Set.put.Goals as goal
 

@@ -1,7 +1,7 @@
-use Rattle.std.proofs.Common.{rules, ◌≡◌, ℕ, ◌∙◌, sym, arith, ap, List, subst, ◌<◌, length, Some, slice_get, slice_set}
+use Rattle.std.proofs.Common.{◌≡◌, ◌∙◌, ap, List, ◌<◌, length, Some, slice_get, slice_set}
 use Rattle.h2_ref.specs.declared.reference.Ref.{Ref}
 use Rattle.std.specs.List.{insert}
-use Rattle.h2_set.specs.RefSet.{RefSet, IsRefSet}
+use Rattle.h2_set.specs.RefSet.{RefSet}
 use Rattle.h2_set.specs.EditLaws.{read_at, insert-remove, set_swap}
 use Rattle.h2_set.proofs.set.Set.swap.Goals as goal
 
