@@ -1,5 +1,5 @@
 -- What the references of a map lead to depends on the bytes of the blocks that are reached alone.
-use Rattle.std.specs.Prelude.{◌≡◌, ◌<◌, ◌≤◌, ℕ, zero, suc, ◌+◌, ◌*◌, ◌^◌, ◌==◌, ◌++◌, List, length, slice_index_or, if◌then◌else◌}
+use Rattle.std.specs.Prelude.{◌≡◌, ◌<◌, ℕ, zero, suc, ◌+◌, ◌*◌, ◌^◌, ◌==◌, ◌++◌, List, length, slice_index_or, if◌then◌else◌}
 use Rattle.std.specs.List.{Contains}
 use Rattle.std.proofs.Common.{ap, sym, subst, ◌∙◌, arith}
 use Rattle.std.proofs.lemmas.List.{get_or_default}
@@ -8,15 +8,15 @@ use Rattle.h2_num.specs.Places.{Places, from_place, SameBelow}
 use Rattle.h2_check.specs.CrcLaws.{crc32c_of-same}
 use Rattle.h2_codes.specs.declared.code.Code.{Code}
 use Rattle.h2_ref.specs.declared.reference.Kind.{Kind}
-use Rattle.h2_ref.specs.declared.reference.Kind.TheVariants.{Empty, MapNode, MapLeaf}
+use Rattle.h2_ref.specs.declared.reference.Kind.TheVariants.{Empty}
 use Rattle.h2_ref.specs.declared.reference.Check.TheVariants.{Crc}
 use Rattle.h2_ref.specs.declared.reference.Ref.{Ref}
 use Rattle.h2_ref.specs.Ref.{IsValid, FitsRow, method_number, size_of}
 use Rattle.h2_ref.specs.Table.{row_of}
-use Rattle.h2_header.specs.Map.{top_level, zones_under, map_kind, IsMapRef, IsMap}
+use Rattle.h2_header.specs.Map.{top_level, zones_under, map_kind, IsMapRef}
 use Rattle.h2_freeleaf.specs.LeafLaws.{LeafBytes-same}
 use Rattle.h2_freeleaf.specs.NodeLaws.{NodeBytes-same}
-use Rattle.h2_freeleaf.specs.InImage.{HasCheck, LeadsTo, AreMapped}
+use Rattle.h2_freeleaf.specs.InImage.{HasCheck, LeadsTo}
 use Rattle.h2_checkpoint.specs.Format.{Reach, by_root, by_child, SameReached}
 use Rattle.h2_image.specs.NewVolume.{LeadToNewCodes}
 use Rattle.h2_image.specs.VolumeFormat.{in_node, volume}

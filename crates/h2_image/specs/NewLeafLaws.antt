@@ -1,5 +1,5 @@
 -- The leaves of a new volume: each zone has its leaf at its place, with the codes of a new volume.
-use Rattle.std.specs.Prelude.{◌≡◌, ◌<◌, ◌≤◌, ℕ, zero, suc, ◌+◌, ◌-◌, ◌*◌, ◌/◌, ◌%◌, List, [], length, slice_index_or}
+use Rattle.std.specs.Prelude.{◌≡◌, ◌<◌, ◌≤◌, ℕ, zero, suc, ◌+◌, ◌-◌, ◌*◌, ◌/◌, ◌%◌, List, [], slice_index_or}
 use Rattle.std.proofs.Common.{ap, sym, subst, ◌∙◌, arith, inl, inr}
 use Rattle.std.proofs.lemmas.Bool.{cases_lt}
 use Rattle.h2_num.specs.Places.{Places, from_place}
@@ -10,7 +10,6 @@ use Rattle.h2_ref.specs.declared.reference.Ref.{Ref}
 use Rattle.h2_ref.specs.Ref.{empty_ref}
 use Rattle.h2_header.specs.declared.header.Header.{Header}
 use Rattle.h2_header.specs.Map.{turn_of, top_level, zones_under, IsMapRef}
-use Rattle.h2_geom.specs.Geometry.{chunks_of}
 use Rattle.h2_geom.specs.Places.{leaf_place, node_place}
 use Rattle.h2_freemap.specs.Space.{code_in}
 use Rattle.h2_freeleaf.specs.Leaf.{IsLeaf, LeafBytes}
