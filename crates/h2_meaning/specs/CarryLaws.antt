@@ -1,5 +1,5 @@
 -- What trees stand for in one reading, they stand for in each that follows it.
-use Rattle.std.specs.Prelude.{◌≡◌, ◌<◌, ℕ, ◌+◌, ◌%◌, ◌^◌, List, slice_index}
+use Rattle.std.specs.Prelude.{◌≡◌, ◌<◌, ℕ, ◌+◌, ◌%◌, ◌^◌, List, map, slice_index}
 use Rattle.std.proofs.Common.{ap, sym, ◌∙◌, inl, inr, subst}
 use Rattle.h2_ref.specs.declared.reference.Ref.{Ref}
 use Rattle.h2_ref.specs.declared.reference.Dirent.{Dirent}
@@ -19,7 +19,7 @@ use Rattle.h2_meaning.specs.Access.{HasLeaves, OneByOne}
 use Rattle.h2_meaning.specs.Contents.{IsPart, IsContents, IsEmbedded}
 use Rattle.h2_meaning.specs.Directory.{IsNameOf, IsEntry, IsDirectory}
 use Rattle.h2_meaning.specs.Node.{IsNodeBy, IsNode, IsMember, HasMembers}
-use Rattle.h2_meaning.specs.Forest.{InTable, IsTable, IsPfs, IsForest}
+use Rattle.h2_meaning.specs.Forest.{InTable, ListedPfs, listed_of, IsTable, IsPfs, IsPfsList, IsWhole, IsForest}
 use Rattle.h2_meaning.specs.Following.{SameBody, SameInode, Passage, Follows}
 use Rattle.h2_meaning.specs.ListLaws.{through, all_through, hole_carried, rising_carried}
 
@@ -134,7 +134,7 @@ module _ (p : Passage) (f : Follows p) where
           each = through (p.Like t u) (IsMember p.from S t) (IsMember p.to T u) (member_carried t u) h.leaves g.0 members g.2 h.each;
         }
 
-  -- Tables and forests
+  -- Tables, lists of PFSs, and forests
 
   pub table_carried : (t : p.from.Tree) (u : p.to.Tree) (next : ℕ) (table : Table) → p.Matches t u → IsTable p.from t next table → IsTable p.to u next table
   table_carried t u next table sim h = record {
@@ -144,33 +144,55 @@ module _ (p : Passage) (f : Follows p) where
     whole = h.whole;
   }
 
-  pfs_carried : (t : p.from.Tree) (u : p.to.Tree) (r s : Ref) (pfs : Pfs) → p.Like t u r s → IsPfs p.from t r pfs → IsPfs p.to u s pfs
+  pfs_carried : (t : p.from.Tree) (u : p.to.Tree) (r s : Ref) (pfs : ListedPfs) → p.Like t u r s → (h : IsPfs p.from t r pfs) → (g : IsPfs p.to u s pfs) × p.Matches h.tree g.tree
   pfs_carried t u r s pfs like h =
       let same = f.like t u r s like in
       let g = f.inode t u r s h.inode h.tree like h.read in
-      let alike : SameInode h.inode g.0 = g.3 in
-      record {
-        kind_is = same.kind ∙ h.kind_is;
-        inode = g.0;
-        tree = g.1;
-        read = g.2;
-        pfs_is = alike.kind ∙ h.pfs_is;
-        numbered = alike.number ∙ h.numbered ∙ sym same.key;
-        id_is = h.id_is ∙ sym same.key;
-        name_is = h.name_is ∙ sym alike.name;
-        next_is = h.next_is ∙ sym alike.next;
-        holds = table_carried h.tree g.1 pfs.next pfs.table g.4 h.holds;
-      }
+      let alike : SameInode h.inode g.0 = g.3 in (
+        record {
+          kind_is = same.kind ∙ h.kind_is;
+          inode = g.0;
+          tree = g.1;
+          read = g.2;
+          pfs_is = alike.kind ∙ h.pfs_is;
+          numbered = alike.number ∙ h.numbered ∙ sym same.key;
+          id_is = h.id_is ∙ sym same.key;
+          name_is = h.name_is ∙ sym alike.name;
+          next_is = h.next_is ∙ sym alike.next;
+        },
+        g.4,
+      )
+
+  -- the list, beside the leaves of the tree that matches
+  listed_beside : (t : p.from.Tree) (u : p.to.Tree) (next : ℕ) (pfss : List ListedPfs) → p.Matches t u → (h : IsPfsList p.from t next pfss)
+      → (g : IsPfsList p.to u next pfss) × OneByOne (p.Like t u) h.leaves g.leaves
+  listed_beside t u next pfss sim h =
+      let g = leaves_carried t u h.leaves sim h.has in (
+        record {
+          leaves = g.0;
+          has = g.1;
+          each = through (p.Like t u) (IsPfs p.from t) (IsPfs p.to u) (λ r s x like k. (pfs_carried t u r s x like k).0) h.leaves g.0 pfss g.2 h.each;
+          good = h.good;
+          differ = h.differ;
+          below = h.below;
+        },
+        g.2,
+      )
+
+  pub pfs_list_carried : (t : p.from.Tree) (u : p.to.Tree) (next : ℕ) (pfss : List ListedPfs) → p.Matches t u → IsPfsList p.from t next pfss → IsPfsList p.to u next pfss
+  pfs_list_carried t u next pfss sim h = (listed_beside t u next pfss sim h).0
+
+  whole_carried : (t : p.from.Tree) (u : p.to.Tree) (r s : Ref) (pfs : Pfs) → p.Like t u r s → IsWhole p.from t r pfs → IsWhole p.to u s pfs
+  whole_carried t u r s pfs like h =
+      let g = pfs_carried t u r s (listed_of pfs) like h.named in
+      record { named = g.0; holds = table_carried h.named.tree (g.0).tree pfs.next pfs.table g.1 h.holds }
 
   pub forest_carried : (t : p.from.Tree) (u : p.to.Tree) (next : ℕ) (forest : PlainForest) → p.Matches t u → IsForest p.from t next forest → IsForest p.to u next forest
   forest_carried t u next forest sim h =
-      let g = leaves_carried t u h.leaves sim h.has in
+      let g = listed_beside t u next (map listed_of forest.pfss) sim h.list in
       record {
-        leaves = g.0;
-        has = g.1;
-        each = through (p.Like t u) (IsPfs p.from t) (IsPfs p.to u) (pfs_carried t u) h.leaves g.0 forest.pfss g.2 h.each;
-        differ = h.differ;
+        list = g.0;
+        each = through (p.Like t u) (IsWhole p.from t) (IsWhole p.to u) (whole_carried t u) h.list.leaves (g.0).leaves forest.pfss g.1 h.each;
         next_is = h.next_is;
-        below = h.below;
         no_handles = h.no_handles;
       }

@@ -9,6 +9,7 @@ use Rattle.h2_inode.specs.declared.kind.InodeKind.TheVariants.{Directory as Dire
 use Rattle.h2_inode.specs.declared.inode.Body.TheVariants.{Refs}
 use Rattle.h2_inode.specs.declared.inode.Inode.{Inode}
 use Rattle.h2_meaning.specs.Access.{Access}
+use Rattle.h2_meaning.specs.Forest.{ListedPfs}
 use Rattle.h2_meaning.specs.Following.{Passage, itself}
 
 -- A new volume: tree 0 is the super-root's, tree 1 that of its PFS, and tree 2 that of the empty root directory.
@@ -21,6 +22,10 @@ leaves_at t = cond (nat_lt t 2) (inode_leaf ∷ []) []
 
 abbrev pub pfs_inode : Inode
 pfs_inode = record { kind = Pfs_kind; number = 1; size = 0; links = 1; next = 2; name = 82 ∷ 79 ∷ 79 ∷ 84 ∷ []; body = Refs (record { refs = inode_leaf ∷ []; capacity = 4 }) }
+
+-- what the new volume's list of PFSs tells of its one PFS, ROOT
+abbrev pub listed_root : ListedPfs
+listed_root = record { id = 1; name = 82 ∷ 79 ∷ 79 ∷ 84 ∷ []; next = 2 }
 
 abbrev pub root_inode : Inode
 root_inode = record { kind = Directory_kind; number = 1; size = 0; links = 1; next = 0; name = []; body = Refs (record { refs = []; capacity = 4 }) }

@@ -1,5 +1,5 @@
 -- What the small readings stand for.
-use Rattle.std.specs.Prelude.{◌≡◌, ◌≢◌, ◌<◌, ◌≤◌, ℕ, ◌+◌, ◌-◌, ◌/◌, ◌^◌, Bool, true, false, cond, List, [], ◌∷◌, ◌++◌, length, replicate, slice_index, map, sum, count_by, nat_eq, Option, Some, None, IsSome, Result, Ok, Err, if◌then◌else◌, refl}
+use Rattle.std.specs.Prelude.{◌≡◌, ◌≢◌, ◌<◌, ◌≤◌, ℕ, ◌+◌, ◌-◌, ◌/◌, ◌^◌, Bool, true, false, cond, List, [], ◌∷◌, ◌++◌, length, replicate, slice_index, All, map, sum, count_by, nat_eq, Option, Some, None, IsSome, Result, Ok, Err, if◌then◌else◌, refl}
 use Rattle.std.proofs.Common.{ap, sym, ◌∙◌, arith, inl, inr, subst}
 use Rattle.std.proofs.lemmas.Option.{none-some}
 use Rattle.std.proofs.lemmas.List.{get_or_past, take-append-le, take_all}
@@ -13,6 +13,7 @@ use Rattle.h2_num.specs.Places.{places}
 use Rattle.h2_set.specs.Ranges.{find, holds, limit}
 use Rattle.h2_set.specs.LeafLaws.{holds_outside}
 use Rattle.h2_dirkey.specs.Name.{IsName}
+use Rattle.h2_dirkey.specs.PfsName.{IsPfsName, IsPfsNameByte}
 use Rattle.h2_dirkey.specs.Key.{least_key, upper_bits}
 use Rattle.h2_dirkey.specs.KeyLaws.{upper_bits-high}
 use Rattle.h2_command.specs.declared.reply.Reply.{Reply}
@@ -22,17 +23,16 @@ use Rattle.h2_forest.specs.declared.table.Node.{Node}
 use Rattle.h2_forest.specs.declared.table.Node.TheVariants.{File, Directory}
 use Rattle.h2_forest.specs.Table.{entries_of, entries_at, looked_up, found}
 use Rattle.h2_forest.specs.TableLaws.{has_looked, directory_at}
-use Rattle.h2_forest.specs.declared.pfs.Pfs.{Pfs}
 use Rattle.h2_forest.specs.Forest.{bare_table, fresh}
 use Rattle.h2_meaning.specs.Contents.{IsPart, IsContents}
 use Rattle.h2_meaning.specs.Directory.{IsDirectory}
 use Rattle.h2_meaning.specs.FileTree.{names_in, names_of, HasEntry, IsFileTree}
-use Rattle.h2_meaning.specs.Forest.{IsForest}
+use Rattle.h2_meaning.specs.Forest.{ListedPfs, IsTable, IsPfs, IsPfsList, IsForest}
 use Rattle.h2_meaning.specs.Single.{IsSingle}
 use Rattle.h2_meaning.specs.Following.{Follows}
 use Rattle.h2_meaning.specs.Targets.{itself_follows}
 use Rattle.h2_meaning.specs.ListLaws.{all_none, all_cons, pairs_none, pairs_cons}
-use Rattle.h2_meaning.specs.Example.{inode_leaf, pfs_inode, root_inode, new_volume, unchanged, one_block, content_leaf, entry_leaf, IsSecond}
+use Rattle.h2_meaning.specs.Example.{inode_leaf, pfs_inode, listed_root, root_inode, new_volume, unchanged, one_block, content_leaf, entry_leaf, IsSecond}
 
 -- The table with an empty root directory
 
@@ -106,57 +106,80 @@ bare_tree = record {
   below = λ number h. let x = some_at (get bare_table number) h in let e : number ≡ 1 = (only_one number x.0 x.1).0 in omega arith;
 }
 
--- A new volume stands for the new forest.
-pub new_volume_stands : IsForest new_volume 0 2 fresh
-new_volume_stands = record {
+-- The list of a new volume has one PFS.
+
+root_named : IsPfs new_volume 0 inode_leaf listed_root
+root_named = record {
+  kind_is = refl;
+  inode = pfs_inode;
+  tree = 1;
+  read = (refl, refl);
+  pfs_is = refl;
+  numbered = refl;
+  id_is = refl;
+  name_is = refl;
+  next_is = refl;
+}
+
+is_letter : (b : ℕ) → 65 ≤ b → b ≤ 90 → IsPfsNameByte b
+is_letter b low high = inr (inl (low, high))
+
+letters : All IsPfsNameByte listed_root.name
+letters =
+    all_cons IsPfsNameByte 82 (79 ∷ 79 ∷ 84 ∷ []) (is_letter 82 (omega arith) (omega arith))
+    (all_cons IsPfsNameByte 79 (79 ∷ 84 ∷ []) (is_letter 79 (omega arith) (omega arith))
+    (all_cons IsPfsNameByte 79 (84 ∷ []) (is_letter 79 (omega arith) (omega arith))
+    (all_cons IsPfsNameByte 84 [] (is_letter 84 (omega arith) (omega arith)) (all_none IsPfsNameByte))))
+
+pub new_volume_lists : IsPfsList new_volume 0 2 (listed_root ∷ [])
+new_volume_lists = record {
   leaves = inode_leaf ∷ [];
   has = record { read = refl; ordered = (omega arith, omega arith) };
-  each = (
-    record {
-      kind_is = refl;
-      inode = pfs_inode;
-      tree = 1;
-      read = (refl, refl);
-      pfs_is = refl;
-      numbered = refl;
-      id_is = refl;
-      name_is = refl;
-      next_is = refl;
-      holds = record {
-        members = (1, Directory no_entries) ∷ [];
-        has = record {
-          leaves = inode_leaf ∷ [];
-          has = record { read = refl; ordered = (omega arith, omega arith) };
-          each = (
-            record {
-              kind_is = refl;
-              inode = root_inode;
-              tree = 2;
-              read = (refl, refl);
-              number_is = refl;
-              numbered = refl;
-              node_is = record {
-                leaves = [];
-                has = record { read = refl; ordered = omega arith };
-                named = [];
-                each = tt;
-                differ = pairs_none (λ x y. x.0 ≢ y.0);
-                counted = refl;
-                entries_are = refl;
-              };
-            },
-            tt,
-          );
+  each = (root_named, tt);
+  good = all_cons (λ (p : ListedPfs). IsPfsName p.name) listed_root [] (record { some = omega arith; few = omega arith; bytes = letters }) (all_none (λ (p : ListedPfs). IsPfsName p.name));
+  differ = pairs_cons (λ (p q : ListedPfs). p.name ≢ q.name) listed_root [] (all_none (λ (q : ListedPfs). listed_root.name ≢ q.name)) (pairs_none (λ (p q : ListedPfs). p.name ≢ q.name));
+  below = all_cons (λ (p : ListedPfs). p.id < 2) listed_root [] (omega arith) (all_none (λ (p : ListedPfs). p.id < 2));
+}
+
+-- A new volume stands for the new forest.
+
+root_holds : IsTable new_volume 1 2 bare_table
+root_holds = record {
+  members = (1, Directory no_entries) ∷ [];
+  has = record {
+    leaves = inode_leaf ∷ [];
+    has = record { read = refl; ordered = (omega arith, omega arith) };
+    each = (
+      record {
+        kind_is = refl;
+        inode = root_inode;
+        tree = 2;
+        read = (refl, refl);
+        number_is = refl;
+        numbered = refl;
+        node_is = record {
+          leaves = [];
+          has = record { read = refl; ordered = omega arith };
+          named = [];
+          each = tt;
+          differ = pairs_none (λ x y. x.0 ≢ y.0);
+          counted = refl;
+          entries_are = refl;
         };
-        table_is = refl;
-        whole = bare_tree;
-      };
-    },
-    tt,
-  );
-  differ = pairs_cons (λ (p q : Pfs). p.name ≢ q.name) _ [] (all_none _) (pairs_none (λ (p q : Pfs). p.name ≢ q.name));
+      },
+      tt,
+    );
+  };
+  table_is = refl;
+  whole = bare_tree;
+}
+
+pub new_volume_stands : IsForest new_volume 0 2 fresh
+unfolding root_named new_volume_lists
+new_volume_stands = record {
+  list = new_volume_lists;
+  each = (record { named = root_named; holds = root_holds }, tt);
   next_is = refl;
-  below = all_cons (λ (p : Pfs). p.id < 2) _ [] (omega arith) (all_none (λ (p : Pfs). p.id < 2));
   no_handles = refl;
 }
 

@@ -1,8 +1,9 @@
--- What a PFS's tree and the super-root stand for: a table, and the forest.
-use Rattle.std.specs.Prelude.{◌≡◌, ◌≢◌, ◌<◌, ℕ, List, AllPairs, All}
+-- What the super-root and a PFS's tree stand for: the list of PFSs, a table, and the forest.
+use Rattle.std.specs.Prelude.{◌≡◌, ◌≢◌, ◌<◌, ℕ, List, map, AllPairs, All}
 use Rattle.std.specs.FinMap.{from_entries, get, empty}
 use Rattle.h2_ref.specs.declared.reference.Kind.TheVariants.{Inode as Inode_kind}
 use Rattle.h2_ref.specs.declared.reference.Ref.{Ref}
+use Rattle.h2_dirkey.specs.PfsName.{IsPfsName}
 use Rattle.h2_inode.specs.declared.kind.InodeKind.TheVariants.{Pfs as Pfs_kind}
 use Rattle.h2_inode.specs.declared.inode.Inode.{Inode}
 use Rattle.h2_forest.specs.declared.table.Node.{Node}
@@ -17,6 +18,15 @@ use Rattle.h2_meaning.specs.FileTree.{IsTarget, IsFileTree}
 abbrev pub InTable : Table → ℕ → ℕ → Type 0
 InTable table target number = IsTarget target (get table number)
 
+-- what the list of PFSs tells of one: its id, its name, and its next inode number
+pub record ListedPfs : Type 0 where
+  pub id : ℕ
+  pub name : List ℕ
+  pub next : ℕ
+
+abbrev pub listed_of : Pfs → ListedPfs
+listed_of p = record { id = p.id; name = p.name; next = p.next }
+
 module _ (a : Access) where
   -- the tree holds the table of a PFS with this next inode number
   pub record IsTable (t : a.Tree) (next : ℕ) (table : Table) : Type 0 where
@@ -25,8 +35,8 @@ module _ (a : Access) where
     pub table_is : table ≡ from_entries members
     pub whole : IsFileTree next table
 
-  -- the leaf names this PFS
-  pub record IsPfs (t : a.Tree) (r : Ref) (p : Pfs) : Type 0 where
+  -- the leaf names this PFS, whatever its tree holds
+  pub record IsPfs (t : a.Tree) (r : Ref) (p : ListedPfs) : Type 0 where
     pub kind_is : r.kind ≡ Inode_kind
     pub inode : Inode
     pub tree : a.Tree
@@ -36,15 +46,25 @@ module _ (a : Access) where
     pub id_is : p.id ≡ r.key
     pub name_is : p.name ≡ inode.name
     pub next_is : p.next ≡ inode.next
-    pub holds : IsTable tree p.next p.table
 
-  -- The super-root's tree holds the PFSs of a forest without handles, in the order of their ids.
-  -- Their names differ, and each id is below the next PFS id.
-  pub record IsForest (t : a.Tree) (next : ℕ) (f : PlainForest) : Type 0 where
+  -- The super-root's tree holds these PFSs, in the order of their ids, which are the keys of its leaves. Their
+  -- names are those of PFSs and differ, and each id is below the next PFS id.
+  pub record IsPfsList (t : a.Tree) (next : ℕ) (pfss : List ListedPfs) : Type 0 where
     pub leaves : List Ref
     pub has : HasLeaves a t leaves
-    pub each : OneByOne (IsPfs t) leaves f.pfss
-    pub differ : AllPairs (λ (p q : Pfs). p.name ≢ q.name) f.pfss
+    pub each : OneByOne (IsPfs t) leaves pfss
+    pub good : All (λ (p : ListedPfs). IsPfsName p.name) pfss
+    pub differ : AllPairs (λ (p q : ListedPfs). p.name ≢ q.name) pfss
+    pub below : All (λ (p : ListedPfs). p.id < next) pfss
+
+  -- the leaf names the PFS, and the tree below it holds its table
+  pub record IsWhole (t : a.Tree) (r : Ref) (p : Pfs) : Type 0 where
+    pub named : IsPfs t r (listed_of p)
+    pub holds : IsTable named.tree p.next p.table
+
+  -- The super-root's tree holds the list of the PFSs of a forest without handles, and each PFS's tree its table.
+  pub record IsForest (t : a.Tree) (next : ℕ) (f : PlainForest) : Type 0 where
+    pub list : IsPfsList t next (map listed_of f.pfss)
+    pub each : OneByOne (IsWhole t) list.leaves f.pfss
     pub next_is : f.next_pfs ≡ next
-    pub below : All (λ (p : Pfs). p.id < next) f.pfss
     pub no_handles : f.handles ≡ empty

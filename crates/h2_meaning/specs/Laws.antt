@@ -11,10 +11,11 @@ use Rattle.h2_meaning.specs.Access.{Access}
 use Rattle.h2_meaning.specs.Contents.{IsContents}
 use Rattle.h2_meaning.specs.Directory.{IsEntry, IsDirectory}
 use Rattle.h2_meaning.specs.Node.{IsMember, HasMembers}
-use Rattle.h2_meaning.specs.Forest.{InTable, IsTable, IsForest}
+use Rattle.h2_meaning.specs.Forest.{InTable, ListedPfs, IsTable, IsPfsList, IsForest}
 use Rattle.h2_meaning.specs.Following.{Passage}
 
--- a tree stands for the bytes of one file of a size at most, for one directory, one table, and one forest
+-- a tree stands for the bytes of one file of a size at most, for one directory, one table, one list of PFSs, and
+-- one forest
 abbrev pub OneContents : Access → Type 0
 OneContents a = (t : a.Tree) (size : ℕ) (b c : List ℕ) → IsContents a t size b → IsContents a t size c → c ≡ b
 
@@ -23,6 +24,9 @@ OneDirectory a = (s u : Table) (t : a.Tree) (m n : ℕ) (d e : Entries) → IsDi
 
 abbrev pub OneTable : Access → Type 0
 OneTable a = (t : a.Tree) (m n : ℕ) (x y : Table) → IsTable a t m x → IsTable a t n y → y ≡ x
+
+abbrev pub OnePfsList : Access → Type 0
+OnePfsList a = (t : a.Tree) (m n : ℕ) (x y : List ListedPfs) → IsPfsList a t m x → IsPfsList a t n y → y ≡ x
 
 abbrev pub OneForest : Access → Type 0
 OneForest a = (t : a.Tree) (next : ℕ) (f g : PlainForest) → IsForest a t next f → IsForest a t next g → g ≡ f
@@ -49,6 +53,9 @@ NodesAreLeaves a = (t : a.Tree) (next : ℕ) (table : Table) (h : IsTable a t ne
 abbrev pub NumbersAscend : Access → Type 0
 NumbersAscend a = (table : Table) (t : a.Tree) (members : List (ℕ × Node)) → HasMembers a (InTable table) t members → AllPairs (λ (x y : ℕ × Node). x.0 < y.0) members
 
+abbrev pub ListedIdsAscend : Access → Type 0
+ListedIdsAscend a = (t : a.Tree) (next : ℕ) (pfss : List ListedPfs) → IsPfsList a t next pfss → AllPairs (λ (p q : ListedPfs). p.id < q.id) pfss
+
 abbrev pub IdsAscend : Access → Type 0
 IdsAscend a = (t : a.Tree) (next : ℕ) (f : PlainForest) → IsForest a t next f → AllPairs (λ (p q : Pfs). p.id < q.id) f.pfss
 
@@ -62,6 +69,9 @@ CarriesDirectories p = (table : Table) (t : p.from.Tree) (u : p.to.Tree) (size :
 
 abbrev pub CarriesTables : Passage → Type 0
 CarriesTables p = (t : p.from.Tree) (u : p.to.Tree) (next : ℕ) (table : Table) → p.Matches t u → IsTable p.from t next table → IsTable p.to u next table
+
+abbrev pub CarriesPfsLists : Passage → Type 0
+CarriesPfsLists p = (t : p.from.Tree) (u : p.to.Tree) (next : ℕ) (pfss : List ListedPfs) → p.Matches t u → IsPfsList p.from t next pfss → IsPfsList p.to u next pfss
 
 abbrev pub CarriesForests : Passage → Type 0
 CarriesForests p = (t : p.from.Tree) (u : p.to.Tree) (next : ℕ) (f : PlainForest) → p.Matches t u → IsForest p.from t next f → IsForest p.to u next f

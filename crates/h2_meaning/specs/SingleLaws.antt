@@ -23,7 +23,7 @@ use Rattle.h2_meaning.specs.Access.{Access, HasLeaves, OneByOne}
 use Rattle.h2_meaning.specs.Contents.{IsPart, IsContents}
 use Rattle.h2_meaning.specs.Directory.{IsNameOf, IsEntry, IsDirectory}
 use Rattle.h2_meaning.specs.Node.{IsNodeBy, IsNode, IsMember, HasMembers}
-use Rattle.h2_meaning.specs.Forest.{InTable, IsTable, IsPfs, IsForest}
+use Rattle.h2_meaning.specs.Forest.{InTable, ListedPfs, listed_of, IsTable, IsPfs, IsPfsList, IsWhole, IsForest}
 use Rattle.h2_meaning.specs.Single.{IsSingle}
 use Rattle.h2_meaning.specs.ListLaws.{one_list, found_in}
 
@@ -113,24 +113,35 @@ module _ (a : Access) (one : IsSingle a) where
         let l : q.leaves ≡ p.leaves = leaves_one t p.leaves q.leaves p.has q.has in
         one_list (IsMember a S t) (IsMember a T t) (member_one t) p.leaves x y p.each (subst (λ v. OneByOne (IsMember a T t) v y) l q.each)
 
-  -- Tables and forests
+  -- Tables, lists of PFSs, and forests
 
   pub table_one : (t : a.Tree) (m n : ℕ) (x y : Table) → IsTable a t m x → IsTable a t n y → y ≡ x
   table_one t m n x y p q = q.table_is ∙ ap from_entries (members_one (InTable x) (InTable y) t p.members q.members p.has q.has) ∙ sym p.table_is
 
-  pfs_one : (t : a.Tree) (r : Ref) (x y : Pfs) → IsPfs a t r x → IsPfs a t r y → y ≡ x
+  pfs_one : (t : a.Tree) (r : Ref) (x y : ListedPfs) → IsPfs a t r x → IsPfs a t r y → y ≡ x
   pfs_one t r x y p q =
       let same = one.inode t r p.inode q.inode p.tree q.tree p.read q.read in
       let id : y.id ≡ x.id = q.id_is ∙ sym p.id_is in
       let name : y.name ≡ x.name = q.name_is ∙ ap (λ v. v.name) same.0 ∙ sym p.name_is in
       let next : y.next ≡ x.next = q.next_is ∙ ap (λ v. v.next) same.0 ∙ sym p.next_is in
-      let table : y.table ≡ x.table = table_one p.tree x.next y.next x.table y.table p.holds (subst (λ v. IsTable a v y.next y.table) same.1 q.holds) in
-      λ i. record { id = id i; name = name i; next = next i; table = table i }
+      λ i. record { id = id i; name = name i; next = next i }
+
+  pub pfs_list_one : (t : a.Tree) (m n : ℕ) (x y : List ListedPfs) → IsPfsList a t m x → IsPfsList a t n y → y ≡ x
+  pfs_list_one t m n x y p q =
+      let l : q.leaves ≡ p.leaves = leaves_one t p.leaves q.leaves p.has q.has in
+      one_list (IsPfs a t) (IsPfs a t) (pfs_one t) p.leaves x y p.each (subst (λ v. OneByOne (IsPfs a t) v y) l q.each)
+
+  whole_one : (t : a.Tree) (r : Ref) (x y : Pfs) → IsWhole a t r x → IsWhole a t r y → y ≡ x
+  whole_one t r x y p q =
+      let same = one.inode t r p.named.inode q.named.inode p.named.tree q.named.tree p.named.read q.named.read in
+      let listed : listed_of y ≡ listed_of x = pfs_one t r (listed_of x) (listed_of y) p.named q.named in
+      let table : y.table ≡ x.table = table_one p.named.tree x.next y.next x.table y.table p.holds (subst (λ v. IsTable a v y.next y.table) same.1 q.holds) in
+      λ i. record { id = (listed i).id; name = (listed i).name; next = (listed i).next; table = table i }
 
   pub forest_one : (t : a.Tree) (next : ℕ) (f g : PlainForest) → IsForest a t next f → IsForest a t next g → g ≡ f
   forest_one t next f g p q =
-      let l : q.leaves ≡ p.leaves = leaves_one t p.leaves q.leaves p.has q.has in
-      let pfss : g.pfss ≡ f.pfss = one_list (IsPfs a t) (IsPfs a t) (pfs_one t) p.leaves f.pfss g.pfss p.each (subst (λ v. OneByOne (IsPfs a t) v g.pfss) l q.each) in
+      let l : q.list.leaves ≡ p.list.leaves = leaves_one t p.list.leaves q.list.leaves p.list.has q.list.has in
+      let pfss : g.pfss ≡ f.pfss = one_list (IsWhole a t) (IsWhole a t) (whole_one t) p.list.leaves f.pfss g.pfss p.each (subst (λ v. OneByOne (IsWhole a t) v g.pfss) l q.each) in
       let next_pfs : g.next_pfs ≡ f.next_pfs = q.next_is ∙ sym p.next_is in
       let handles : g.handles ≡ f.handles = q.no_handles ∙ sym p.no_handles in
       λ i. record { next_pfs = next_pfs i; pfss = pfss i; handles = handles i }

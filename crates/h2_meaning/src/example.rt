@@ -4,14 +4,15 @@ ghost use Rattle.h2_dirkey.specs.Name.{IsName};
 ghost use Rattle.h2_forest.specs.Forest.{fresh};
 ghost use Rattle.h2_meaning.specs.Contents.{IsContents};
 ghost use Rattle.h2_meaning.specs.Directory.{IsDirectory};
-ghost use Rattle.h2_meaning.specs.Forest.{IsForest};
+ghost use Rattle.h2_meaning.specs.Forest.{IsPfsList, IsForest};
 ghost use Rattle.h2_meaning.specs.Single.{IsSingle};
 ghost use Rattle.h2_meaning.specs.Following.{Follows};
-ghost use Rattle.h2_meaning.specs.Example.{new_volume, unchanged, one_block, content_leaf, entry_leaf, IsSecond};
+ghost use Rattle.h2_meaning.specs.Example.{new_volume, listed_root, unchanged, one_block, content_leaf, entry_leaf, IsSecond};
 
 /// A law: the trees of a new volume, one PFS with an empty root directory, stand for the forest of a formatted
-/// volume. Their reading gives one answer at most, and follows itself.
+/// volume, and their list of PFSs has `ROOT` alone. Their reading gives one answer at most, and follows itself.
 pub fn new_volume_law()
+    ensures list { IsPfsList new_volume 0 2 (listed_root ∷ []) }
     ensures forest { IsForest new_volume 0 2 fresh }
     ensures single { IsSingle new_volume }
     ensures follows { Follows unchanged }

@@ -8,23 +8,26 @@ ghost use Rattle.h2_meaning.specs.Forest.{IsForest};
 ghost use Rattle.h2_meaning.specs.Image.{in_image, LeavesIn, SameReached};
 ghost use Rattle.h2_meaning.specs.Single.{IsSingle};
 ghost use Rattle.h2_meaning.specs.Following.{Follows};
-ghost use Rattle.h2_meaning.specs.Laws.{OneContents, OneDirectory, OneTable, OneForest, LeavesAreEntries, EntriesAreLeaves, LeavesAreNodes, NodesAreLeaves, NumbersAscend, IdsAscend, CarriesContents, CarriesDirectories, CarriesTables, CarriesForests};
+ghost use Rattle.h2_meaning.specs.Laws.{OneContents, OneDirectory, OneTable, OnePfsList, OneForest, LeavesAreEntries, EntriesAreLeaves, LeavesAreNodes, NodesAreLeaves, NumbersAscend, ListedIdsAscend, IdsAscend, CarriesContents, CarriesDirectories, CarriesTables, CarriesPfsLists, CarriesForests};
 
 use crate::change::Change;
 use crate::reading::Reading;
 
 /// A law: by a reading that gives one answer at most, a tree stands for the bytes of one file at most, for one
-/// directory, one table and one forest.
+/// directory, one table, one list of PFSs and one forest.
 pub fn one_meaning_law<R: Reading>()
     ensures contents { IsSingle R.access → OneContents R.access }
     ensures directory { IsSingle R.access → OneDirectory R.access }
     ensures table { IsSingle R.access → OneTable R.access }
+    ensures pfs_list { IsSingle R.access → OnePfsList R.access }
     ensures forest { IsSingle R.access → OneForest R.access }
 {}
 
-/// A law: the inodes that a tree holds stand in the order of their numbers, and the PFSs in that of their ids.
+/// A law: the inodes that a tree holds stand in the order of their numbers, and the PFSs, be they listed or those of
+/// a forest, in that of their ids.
 pub fn order_law<R: Reading>()
     ensures numbers { NumbersAscend R.access }
+    ensures listed_ids { ListedIdsAscend R.access }
     ensures ids { IdsAscend R.access }
 {}
 
@@ -42,6 +45,7 @@ pub fn carry_law<C: Change>()
     ensures contents { Follows C.passage → CarriesContents C.passage }
     ensures directories { Follows C.passage → CarriesDirectories C.passage }
     ensures tables { Follows C.passage → CarriesTables C.passage }
+    ensures pfs_lists { Follows C.passage → CarriesPfsLists C.passage }
     ensures forests { Follows C.passage → CarriesForests C.passage }
 {}
 

@@ -3,8 +3,8 @@
 //! The crate has definitions and laws alone. A reading (`Access` in `specs/Access`) says how trees are read, be
 //! it from the bytes of an image or from loaded nodes over one. Over any reading, `specs/Contents` says which
 //! bytes a file's tree stands for, `specs/Directory` which entries, `specs/Node` which inodes, and
-//! `specs/Forest` which table a PFS's tree and which forest the super-root's tree stands for; the forest is the
-//! plain one of `h2_forest`. `specs/FileTree` says what holds of every table, whatever it is read from. The laws
+//! `specs/Forest` which list of PFSs the super-root's tree stands for, whatever their trees hold, which table a
+//! PFS's tree, and which forest all of them; the forest is the plain one of `h2_forest`. `specs/FileTree` says what holds of every table, whatever it is read from. The laws
 //! stand on functions with empty bodies: a tree stands for one thing at most, and it stands for the same in a
 //! second reading that gives whatever the first one gives (`specs/Following`).
 #![tactic(auto)]

@@ -1,5 +1,5 @@
 use Rattle.h2_meaning.specs.Forest.{InTable}
-use Rattle.h2_meaning.specs.CarryLaws.{contents_carried, directory_carried, table_carried, forest_carried}
+use Rattle.h2_meaning.specs.CarryLaws.{contents_carried, directory_carried, table_carried, pfs_list_carried, forest_carried}
 use Rattle.h2_meaning.proofs.laws.carry_law.Goals as goal
 
 pub returns : goal.returns
@@ -7,5 +7,6 @@ returns g c = record {
   contents = λ f. contents_carried g.C.Change.passage f;
   directories = λ f table. directory_carried g.C.Change.passage f (InTable table) (InTable table) (λ target number x. x);
   tables = λ f. table_carried g.C.Change.passage f;
+  pfs_lists = λ f. pfs_list_carried g.C.Change.passage f;
   forests = λ f. forest_carried g.C.Change.passage f;
 }
