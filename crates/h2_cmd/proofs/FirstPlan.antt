@@ -1,5 +1,5 @@
 -- A planned volume as the first plan of the law of checkpoints.
-use Rattle.std.proofs.Common.{◌≡◌, ◌⊎◌, ◌<◌, ◌≤◌, ◌^◌, ℕ, zero, suc, ◌+◌, List, [], ◌∷◌, length, refl, sym, ap, subst, ◌∙◌, inl, inr, arith}
+use Rattle.std.proofs.Common.{◌≡◌, ◌⊎◌, ◌<◌, ◌≤◌, ℕ, zero, suc, List, [], ◌∷◌, length, refl, sym, ap, subst, ◌∙◌, inl, inr, arith}
 use Rattle.std.specs.Prelude.{map, slice_index_or}
 use Rattle.h2_num.specs.Places.{Places, places, SameBelow, InRange, Holds}
 use Rattle.h2_header.specs.declared.header.Header.{Header}

@@ -1,5 +1,5 @@
 -- The pieces of a new volume, put together.
-use Rattle.std.proofs.Common.{◌≡◌, ℕ, List, [], ◌∷◌, ◌++◌, length, refl, subst, sym, ap, ◌∙◌}
+use Rattle.std.proofs.Common.{◌≡◌, ℕ, List, [], ◌∷◌, ◌++◌, length, refl, subst, ap, ◌∙◌}
 use Rattle.std.specs.Prelude.{map}
 use Rattle.h2_num.specs.Places.{places}
 use Rattle.h2_codes.specs.declared.code.Code.{Code}
