@@ -214,8 +214,9 @@ fn read_eight<D: Disk>(
 /// and no pin, and the codes to which the header's map leads. It reads each block once, and writes nothing.
 ///
 /// # Errors
-/// `Fault` names the first bad block in the order of keys, where a node comes before what is under it. `Disk` comes
-/// only where the disk's count of faults rose, and `NoMemory` for want of memory.
+/// `Fault` names the first bad block in the order of keys, where a node comes before what is under it: its check, or
+/// else its fault at the least place. `Disk` comes only where the disk's count of faults rose, and `NoMemory` for
+/// want of memory.
 pub fn read_map<D: Disk>(alloc: Global, disk: &mut D, h: &Header) -> Result<Freemap, MapRead>
     requires { IsHeader h.now }
     ensures codes { IfOk result (λ m. IsTrue D.tells → AreCodesOf (D.image disk.old) h.now m.segments) }

@@ -1,7 +1,6 @@
-use Rattle.std.proofs.Common.{◌≡◌, ◌<◌, ◌+◌, ◌*◌, ℕ, length, arith, refl, subst, rules}
+use Rattle.std.proofs.Common.{◌≡◌, ◌<◌, ◌+◌, ◌*◌, length, arith, refl, subst, rules}
 use Rattle.std.specs.Prelude.{slice_index_or}
 use Rattle.h2_num.specs.Places.{places}
-use Rattle.h2_ref.specs.declared.reference.Ref.{Ref}
 use Rattle.h2_ref.specs.Ref.{IsValid, RefBytes, empty_ref}
 use Rattle.h2_header.specs.Map.{zones_under, IsMapEntry}
 use Rattle.h2_freeleaf.proofs.Parts.{ReadTo, read_more, fill_more}
