@@ -10,10 +10,10 @@ use Rattle.h2_freeleaf.specs.Leaf.{part_of, IsLeaf, LeafBytes}
 use Rattle.h2_freeleaf.specs.LeafLaws.{PartBytes-same, LeafBytes-same}
 use Rattle.h2_freeleaf.specs.Node.{IsNode, NodeBytes}
 use Rattle.h2_freeleaf.specs.NodeLaws.{NodeBytes-same}
-use Rattle.h2_freeleaf.specs.Fault.{IsPart, IsLeafFault, IsNodeFault}
+use Rattle.h2_freeleaf.specs.Fault.{IsPart, IsLeafFault}
 use Rattle.h2_freeleaf.specs.declared.fault.MapFault.{MapFault}
 use Rattle.h2_freeleaf.specs.InImage.{HasCheck, LeadsToLeaf, LeadsToNode}
-use Rattle.h2_freeleaf.specs.FirstBad.{check_at, IsBadLeaf}
+use Rattle.h2_freeleaf.specs.FirstBad.{check_at, IsBadLeaf, IsEntryAt, IsWrongEntry, IsBadNode}
 use Rattle.h2_freeleaf.proofs.Leaves.{fault_same}
 
 -- the check of a block that was read
@@ -40,19 +40,14 @@ leaf_fault_same at a b f same h =
       before = λ i lt. part_is (part_of i a) (part_of i b) (part_same a b i (omega arith) same) (h.before i lt);
     }
 
--- a node's fault is one of its image
-node_fault_same : (at : ℕ) (a b : Places) (f : MapFault) → SameBelow 1024 a b → IsNodeFault at a f → IsNodeFault at b f
-node_fault_same at a b f same h =
-    let low : h.index < 8 = h.below in
-    record {
-      index = h.index;
-      below = h.below;
-      is = h.is;
-      here = λ r valid bytes. h.here r valid (RefBytes-same r (part_of h.index b) (part_of h.index a) (λ k lt. sym (part_same a b h.index h.below same k lt)) bytes);
-      before = λ i lt.
-          let s = h.before i lt in
-          record { ref = s.ref; valid = s.valid; bytes = RefBytes-same s.ref (part_of i a) (part_of i b) (part_same a b i (omega arith) same) s.bytes };
-    }
+-- a reference of a node that is right is right by the node's places
+entry_same : (a b : Places) (level zones number zone i : ℕ) → i < 8 → SameBelow 1024 a b → IsEntryAt a level zones number zone i → IsEntryAt b level zones number zone i
+entry_same a b level zones number zone i lt same e = record {
+  ref = e.ref;
+  spelled = RefBytes-same e.ref (part_of i a) (part_of i b) (part_same a b i lt same) e.spelled;
+  valid = e.valid;
+  names = e.names;
+}
 
 back : (a b : Places) → SameBelow 1024 a b → SameBelow 1024 b a
 back a b same k lt = sym (same k lt)
@@ -76,5 +71,15 @@ node_read image r block refs same check found = record {
   bytes = NodeBytes-same refs (places block) (from_place image r.place) found.0 (back (from_place image r.place) (places block) same) found.1;
 }
 
-pub node_refused : (image : Places) (r : Ref) (block : List ℕ) (f : MapFault) → SameBelow 1024 (from_place image r.place) (places block) → IsNodeFault r.place (places block) f → IsNodeFault r.place (from_place image r.place) f
-node_refused image r block f same wrong = node_fault_same r.place (places block) (from_place image r.place) f (back (from_place image r.place) (places block) same) wrong
+pub node_refused : (image : Places) (level zones number zone : ℕ) (r : Ref) (block : List ℕ) (f : MapFault) → SameBelow 1024 (from_place image r.place) (places block) → HasCheck image r
+    → IsWrongEntry (places block) level zones number zone r.place f → IsBadNode image zones number level zone r f
+node_refused image level zones number zone r block f same check wrong =
+    let low : wrong.index < 8 = wrong.below in
+    let there = from_place image r.place in
+    IsBadNode.bad_entry check (record {
+      index = wrong.index;
+      below = wrong.below;
+      wrong = λ e. wrong.wrong (entry_same there (places block) level zones number zone wrong.index wrong.below same e);
+      right = λ i lt. entry_same (places block) there level zones number zone i (omega arith) (back there (places block) same) (wrong.right i lt);
+      is = wrong.is;
+    })

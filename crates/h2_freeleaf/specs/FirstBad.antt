@@ -6,14 +6,15 @@ use Rattle.h2_check.specs.Crc.{crc32c_of}
 use Rattle.h2_codes.specs.declared.code.Code.{Code}
 use Rattle.h2_ref.specs.declared.reference.Check.TheVariants.{Crc}
 use Rattle.h2_ref.specs.declared.reference.Ref.{Ref}
-use Rattle.h2_ref.specs.Ref.{empty_ref}
+use Rattle.h2_ref.specs.Ref.{empty_ref, IsValid, RefBytes}
 use Rattle.h2_header.specs.declared.header.Header.{Header}
 use Rattle.h2_header.specs.Map.{top_level, zones_under, IsMapEntry}
 use Rattle.h2_freeleaf.specs.declared.fault.MapFault.{MapFault}
 use Rattle.h2_freeleaf.specs.declared.fault.MapFault.TheVariants.{BadCheck, Reference}
 use Rattle.h2_freeleaf.specs.declared.fault.MapRead.{MapRead}
 use Rattle.h2_freeleaf.specs.declared.fault.MapRead.TheVariants.{Fault, Disk, NoMemory}
-use Rattle.h2_freeleaf.specs.Fault.{IsLeafFault, IsNodeFault}
+use Rattle.h2_freeleaf.specs.Leaf.{part_of}
+use Rattle.h2_freeleaf.specs.Fault.{IsLeafFault}
 use Rattle.h2_freeleaf.specs.InImage.{HasCheck, LeadsToNode, AreEntries, LeadsTo}
 
 -- the check that a block of the map has at a place
@@ -32,20 +33,27 @@ pub data IsBadLeaf (image : Places) (r : Ref) (fault : MapFault) : Type 0 where
   bad_check : IsBadCheck image r fault → IsBadLeaf image r fault
   bad_bytes : HasCheck image r → IsLeafFault r.place (from_place image r.place) fault → IsBadLeaf image r fault
 
--- the first reference of a node at a place that isn't the one for its zones, of a level from a zone on
-pub record IsWrongEntry (level zones number zone : ℕ) (refs : List Ref) (place : ℕ) (fault : MapFault) : Type 0 where
+-- reference i of the bytes of a node is right: a valid one is spelled there, and it is the one for its zones, of a level
+-- from a zone on
+pub record IsEntryAt (b : Places) (level zones number zone i : ℕ) : Type 0 where
+  pub ref : Ref
+  pub spelled : RefBytes ref (part_of i b)
+  pub valid : IsValid ref
+  pub names : IsMapEntry level zones number (zone + zones_under level * i) ref
+
+-- the first reference of the bytes of a node, whose first byte has a place on the disk, that isn't right
+pub record IsWrongEntry (b : Places) (level zones number zone place : ℕ) (fault : MapFault) : Type 0 where
   pub index : ℕ
   pub below : index < 8
-  pub wrong : IsMapEntry level zones number (zone + zones_under level * index) (slice_index_or refs index empty_ref) → ⊥
-  pub right : (i : ℕ) → i < index → IsMapEntry level zones number (zone + zones_under level * i) (slice_index_or refs i empty_ref)
+  pub wrong : IsEntryAt b level zones number zone index → ⊥
+  pub right : (i : ℕ) → i < index → IsEntryAt b level zones number zone i
   pub is : fault ≡ Reference (place + 128 * index)
 
--- the first fault of a node itself: its check, or else a reference that isn't valid, or else one that isn't that for its
--- zones, of the level below from a zone on
+-- the first fault of a node itself: its check, or else its first reference that isn't right, which is one that isn't valid or
+-- isn't that for its zones, of the level below from a zone on
 pub data IsBadNode (image : Places) (zones number level zone : ℕ) (r : Ref) (fault : MapFault) : Type 0 where
   bad_check : IsBadCheck image r fault → IsBadNode image zones number level zone r fault
-  bad_bytes : HasCheck image r → IsNodeFault r.place (from_place image r.place) fault → IsBadNode image zones number level zone r fault
-  bad_entry : (refs : List Ref) → LeadsToNode image refs r → IsWrongEntry level zones number zone refs r.place fault → IsBadNode image zones number level zone r fault
+  bad_entry : HasCheck image r → IsWrongEntry (from_place image r.place) level zones number zone r.place fault → IsBadNode image zones number level zone r fault
 
 -- the first bad one of eight blocks, each of which stands for so many zones, from a zone on: the blocks before it are whole
 pub record IsFirstBadOf (IsWhole : ℕ → Ref → Type 0) (IsBad : ℕ → Ref → MapFault → Type 0) (zones under zone : ℕ) (refs : List Ref) (fault : MapFault) : Type 0 where

@@ -1,5 +1,5 @@
 -- Where a map has a bad block its image has no codes under the header, and the first fault is one.
-use Rattle.std.specs.Prelude.{◌≡◌, ◌<◌, ℕ, zero, suc, ◌+◌, ◌*◌, List, slice_index_or}
+use Rattle.std.specs.Prelude.{◌≡◌, ◌<◌, ℕ, zero, suc, ◌+◌, ◌*◌, List, length, slice_index_or}
 use Rattle.std.proofs.Common.{ap, sym, ◌∙◌, subst, arith, inl, inr}
 use Rattle.std.proofs.lemmas.Bool.{cases_lt}
 use Rattle.h2_num.specs.Places.{Places, from_place}
@@ -7,13 +7,13 @@ use Rattle.h2_codes.specs.declared.code.Code.{Code}
 use Rattle.h2_ref.specs.declared.reference.Ref.{Ref}
 use Rattle.h2_ref.specs.Ref.{empty_ref, check_value}
 use Rattle.h2_header.specs.declared.header.Header.{Header}
-use Rattle.h2_header.specs.Map.{top_level, zones_under, IsMapEntry}
+use Rattle.h2_header.specs.Map.{top_level, zones_under}
 use Rattle.h2_freeleaf.specs.declared.fault.MapFault.{MapFault}
 use Rattle.h2_freeleaf.specs.declared.fault.MapFault.TheVariants.{BadCheck, Reference}
-use Rattle.h2_freeleaf.specs.FaultLaws.{leaf_fault-none, leaf_one_fault, node_fault-none, node_one_fault}
+use Rattle.h2_freeleaf.specs.FaultLaws.{leaf_fault-none, leaf_one_fault}
 use Rattle.h2_freeleaf.specs.NodeLaws.{node_one}
 use Rattle.h2_freeleaf.specs.InImage.{HasCheck, LeadsToLeaf, LeadsToNode, AreEntries, LeadsTo, AreCodesOf}
-use Rattle.h2_freeleaf.specs.FirstBad.{check_at, IsBadCheck, IsBadLeaf, IsWrongEntry, IsBadNode, IsFirstBadOf, IsWhole, IsBad, IsFirstBadIn, IsFirstBad}
+use Rattle.h2_freeleaf.specs.FirstBad.{check_at, IsBadCheck, IsBadLeaf, IsEntryAt, IsWrongEntry, IsBadNode, IsFirstBadOf, IsWhole, IsBad, IsFirstBadIn, IsFirstBad}
 
 -- A block that is bad isn't whole
 
@@ -28,12 +28,20 @@ bad_leaf-none image leaf r f (IsBadLeaf.bad_bytes check bad) leads = leaf_fault-
 one_node : (image : Places) (x y : List Ref) (r : Ref) → LeadsToNode image x r → LeadsToNode image y r → y ≡ x
 one_node image x y r p q = node_one x y (from_place image r.place) p.valid q.valid p.bytes q.bytes
 
+-- the references of a node that stand for its zones are right in its bytes
+right_entry : (image : Places) (zones number level zone : ℕ) (r : Ref) (refs : List Ref) (i : ℕ) → LeadsToNode image refs r → AreEntries level zones number zone refs → i < 8 → IsEntryAt (from_place image r.place) level zones number zone i
+right_entry image zones number level zone r refs i leads entries lt =
+    let len : length refs ≡ 8 = leads.valid.count in
+    record {
+      ref = slice_index_or refs i empty_ref;
+      spelled = leads.bytes i empty_ref (omega arith);
+      valid = leads.valid.valid i empty_ref (omega arith);
+      names = entries i empty_ref lt;
+    }
+
 bad_node-none : (image : Places) (zones number level zone : ℕ) (r : Ref) (f : MapFault) (refs : List Ref) → IsBadNode image zones number level zone r f → LeadsToNode image refs r → AreEntries level zones number zone refs → ⊥
 bad_node-none image zones number level zone r f refs (IsBadNode.bad_check bad) leads entries = bad_check-none image r f bad leads.check
-bad_node-none image zones number level zone r f refs (IsBadNode.bad_bytes check bad) leads entries = node_fault-none r.place (from_place image r.place) f bad refs leads.valid leads.bytes
-bad_node-none image zones number level zone r f refs (IsBadNode.bad_entry others there bad) leads entries =
-    let same : refs ≡ others = one_node image others refs r there leads in
-    bad.wrong (subst (λ (x : List Ref). IsMapEntry level zones number (zone + zones_under level * bad.index) (slice_index_or x bad.index empty_ref)) same (entries bad.index empty_ref bad.below))
+bad_node-none image zones number level zone r f refs (IsBadNode.bad_entry check bad) leads entries = bad.wrong (right_entry image zones number level zone r refs bad.index leads entries bad.below)
 
 -- nothing leads to a bad block
 pub bad-none : (image : Places) (zones number : ℕ) (segments : List (List Code)) (level zone : ℕ) (r : Ref) (f : MapFault) → IsBad image zones number level zone r f → LeadsTo image zones number segments level zone r → ⊥
@@ -67,8 +75,8 @@ one_bad_leaf image r f g (IsBadLeaf.bad_check p) (IsBadLeaf.bad_bytes check q) =
 one_bad_leaf image r f g (IsBadLeaf.bad_bytes check p) (IsBadLeaf.bad_check q) = absurd (bad_check-none image r g q check)
 one_bad_leaf image r f g (IsBadLeaf.bad_bytes check p) (IsBadLeaf.bad_bytes other q) = leaf_one_fault r.place (from_place image r.place) f g p q
 
-one_wrong_entry : (level zones number zone : ℕ) (refs : List Ref) (place : ℕ) (f g : MapFault) → IsWrongEntry level zones number zone refs place f → IsWrongEntry level zones number zone refs place g → g ≡ f
-one_wrong_entry level zones number zone refs place f g p q = elim (cases_lt p.index q.index) [
+one_wrong_entry : (b : Places) (level zones number zone place : ℕ) (f g : MapFault) → IsWrongEntry b level zones number zone place f → IsWrongEntry b level zones number zone place g → g ≡ f
+one_wrong_entry b level zones number zone place f g p q = elim (cases_lt p.index q.index) [
   | inl before ↦ absurd (p.wrong (q.right p.index before))
   | inr ge ↦ elim (cases_lt q.index p.index) [
     | inl before ↦ absurd (q.wrong (p.right q.index before))
@@ -80,16 +88,9 @@ one_wrong_entry level zones number zone refs place f g p q = elim (cases_lt p.in
 
 one_bad_node : (image : Places) (zones number level zone : ℕ) (r : Ref) (f g : MapFault) → IsBadNode image zones number level zone r f → IsBadNode image zones number level zone r g → g ≡ f
 one_bad_node image zones number level zone r f g (IsBadNode.bad_check p) (IsBadNode.bad_check q) = one_bad_check image r f g p q
-one_bad_node image zones number level zone r f g (IsBadNode.bad_check p) (IsBadNode.bad_bytes check q) = absurd (bad_check-none image r f p check)
-one_bad_node image zones number level zone r f g (IsBadNode.bad_check p) (IsBadNode.bad_entry refs leads q) = absurd (bad_check-none image r f p leads.check)
-one_bad_node image zones number level zone r f g (IsBadNode.bad_bytes check p) (IsBadNode.bad_check q) = absurd (bad_check-none image r g q check)
-one_bad_node image zones number level zone r f g (IsBadNode.bad_bytes check p) (IsBadNode.bad_bytes other q) = node_one_fault r.place (from_place image r.place) f g p q
-one_bad_node image zones number level zone r f g (IsBadNode.bad_bytes check p) (IsBadNode.bad_entry refs leads q) = absurd (node_fault-none r.place (from_place image r.place) f p refs leads.valid leads.bytes)
-one_bad_node image zones number level zone r f g (IsBadNode.bad_entry refs leads p) (IsBadNode.bad_check q) = absurd (bad_check-none image r g q leads.check)
-one_bad_node image zones number level zone r f g (IsBadNode.bad_entry refs leads p) (IsBadNode.bad_bytes check q) = absurd (node_fault-none r.place (from_place image r.place) g q refs leads.valid leads.bytes)
-one_bad_node image zones number level zone r f g (IsBadNode.bad_entry refs leads p) (IsBadNode.bad_entry others there q) =
-    let same : others ≡ refs = one_node image refs others r leads there in
-    one_wrong_entry level zones number zone refs r.place f g p (subst (λ (x : List Ref). IsWrongEntry level zones number zone x r.place g) same q)
+one_bad_node image zones number level zone r f g (IsBadNode.bad_check p) (IsBadNode.bad_entry check q) = absurd (bad_check-none image r f p check)
+one_bad_node image zones number level zone r f g (IsBadNode.bad_entry check p) (IsBadNode.bad_check q) = absurd (bad_check-none image r g q check)
+one_bad_node image zones number level zone r f g (IsBadNode.bad_entry check p) (IsBadNode.bad_entry other q) = one_wrong_entry (from_place image r.place) level zones number zone r.place f g p q
 
 -- of eight blocks one is the first bad one, where none is whole and bad, and each has one fault at most
 one_first_of : (Whole : ℕ → Ref → Type 0) (Bad : ℕ → Ref → MapFault → Type 0) → ((z : ℕ) (r : Ref) (f : MapFault) → Bad z r f → Whole z r → ⊥) → ((z : ℕ) (r : Ref) (f g : MapFault) → Bad z r f → Bad z r g → g ≡ f)

@@ -1,6 +1,5 @@
-ghost use Rattle.std.specs.Prelude.{◌≡◌, ◌<◌, ◌≤◌, ◌+◌, ◌*◌, IfErr, IfOk, OnErr, length};
+ghost use Rattle.std.specs.Prelude.{◌≡◌, ◌<◌, ◌≤◌, ◌+◌, ◌*◌, ◌^◌, IfErr, IfOk, OnErr, length};
 ghost use Rattle.h2_num.specs.Places.{places, from_place, SameOutside};
-ghost use Rattle.h2_geom.specs.Geometry.{disk_bytes};
 ghost use Rattle.h2_codes.specs.Codes.{IsSegment};
 ghost use Rattle.h2_codes.specs.Layout.{HoldCodes};
 ghost use Rattle.h2_freeleaf.specs.Leaf.{part_of, IsLeaf, LeafBytes, NoLeaf, PartBytes};
@@ -61,7 +60,7 @@ fn codes_of(b: &[u8; PART_BYTES]) -> Segment
 /// # Errors
 /// The first refusal of the part.
 fn decode_part(b: &[u8; PART_BYTES], place: u64) -> Result<Segment, MapFault>
-    requires on_disk { place + 128 ≤ disk_bytes }
+    requires place { place + 128 ≤ 2 ^ 64 }
     ensures found { IfOk result (λ codes. IsSegment codes × PartBytes codes (places b.now)) }
     ensures fault { IfErr result (IsPartFault place (places b.now)) }
 {
@@ -81,7 +80,7 @@ fn decode_part(b: &[u8; PART_BYTES], place: u64) -> Result<Segment, MapFault>
 /// # Errors
 /// The first refusal of the part.
 fn segment_at(b: &[u8; MAP_BYTES], i: usize, place: u64) -> Result<Segment, MapFault>
-    requires on_disk { place + 1024 ≤ disk_bytes }
+    requires place { place + 1024 ≤ 2 ^ 64 }
     requires index { i < 8 }
     ensures found { IfOk result (λ codes. IsSegment codes × PartBytes codes (part_of i (places b.now))) }
     ensures fault { IfErr result (IsPartFault (place + 128 * i) (part_of i (places b.now))) }
@@ -90,14 +89,14 @@ fn segment_at(b: &[u8; MAP_BYTES], i: usize, place: u64) -> Result<Segment, MapF
 }
 
 /// The codes of the eight segments of a zone, from the 1024 bytes of its leaf. The leaf's place is that of its
-/// first byte on the disk, on which it lies whole.
+/// first byte on the disk; the places of all its bytes fit 64 bits.
 ///
 /// # Errors
 /// Exactly where the bytes spell no leaf: of the wrong counts and of the nonzero bytes that must be zero, the one
 /// at the least place. It is `Shape` with the place of the count's first byte on the disk, or `Padding` with
 /// that of the byte.
 pub fn decode_leaf(b: &[u8; MAP_BYTES], place: u64) -> Result<[Segment; LEAF_SEGMENTS], MapFault>
-    requires on_disk { place + 1024 ≤ disk_bytes }
+    requires place { place + 1024 ≤ 2 ^ 64 }
     ensures found { IfOk result (λ leaf. IsLeaf leaf × LeafBytes leaf (places b.now)) }
     ensures fault { IfErr result (IsLeafFault place (places b.now)) }
     ensures none { OnErr result (NoLeaf (places b.now)) }

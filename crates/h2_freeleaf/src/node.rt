@@ -1,6 +1,5 @@
-ghost use Rattle.std.specs.Prelude.{◌≡◌, ◌<◌, ◌≤◌, ◌+◌, ◌*◌, All, IfErr, IfNone, IfOk, IfSome, OnErr, length};
+ghost use Rattle.std.specs.Prelude.{◌≡◌, ◌<◌, ◌≤◌, ◌+◌, ◌*◌, ◌^◌, All, IfErr, IfNone, IfOk, IfSome, OnErr, length};
 ghost use Rattle.h2_num.specs.Places.{places, from_place, SameOutside};
-ghost use Rattle.h2_geom.specs.Geometry.{disk_bytes};
 ghost use Rattle.h2_ref.specs.Ref.{IsValid, NoRef, RefBytes};
 ghost use Rattle.h2_freeleaf.specs.Leaf.{part_of};
 ghost use Rattle.h2_freeleaf.specs.Node.{IsNode, NodeBytes, NoNode};
@@ -35,7 +34,7 @@ pub fn encode_node(r: &[Ref; NODE_REFS]) -> [u8; MAP_BYTES]
 }
 
 /// The valid reference number i of a node; None where there is none.
-fn ref_at(b: &[u8; MAP_BYTES], i: usize) -> Option<Ref>
+pub(crate) fn ref_at(b: &[u8; MAP_BYTES], i: usize) -> Option<Ref>
     requires { i < 8 }
     ensures found { IfSome result (λ r. IsValid r × RefBytes r (part_of i (places b.now))) }
     ensures none { IfNone result (NoRef (part_of i (places b.now))) }
@@ -43,14 +42,14 @@ fn ref_at(b: &[u8; MAP_BYTES], i: usize) -> Option<Ref>
     decode(part_of(b, i)).ok()
 }
 
-/// The eight references of a node, from its 1024 bytes. The node's place is that of its first byte on the disk, on
-/// which it lies whole.
+/// The eight references of a node, from its 1024 bytes. The node's place is that of its first byte on the disk; the
+/// places of all its bytes fit 64 bits.
 ///
 /// # Errors
 /// Exactly where the bytes spell no node: `Reference` with the place on the disk of the first byte of the
 /// first reference that isn't valid.
 pub fn decode_node(b: &[u8; MAP_BYTES], place: u64) -> Result<[Ref; NODE_REFS], MapFault>
-    requires on_disk { place + 1024 ≤ disk_bytes }
+    requires place { place + 1024 ≤ 2 ^ 64 }
     ensures found { IfOk result (λ refs. IsNode refs × NodeBytes refs (places b.now)) }
     ensures fault { IfErr result (IsNodeFault place (places b.now)) }
     ensures none { OnErr result (NoNode (places b.now)) }

@@ -1,18 +1,20 @@
-ghost use Rattle.std.specs.Prelude.{◌≡◌, ◌≤◌, ◌<◌, ◌+◌, ◌-◌, ◌*◌, ◌^◌, min, suc, IfOk, IfErr, OnOk, IsTrue, All, length};
+ghost use Rattle.std.specs.Prelude.{◌≡◌, ◌≤◌, ◌<◌, ◌+◌, ◌-◌, ◌*◌, ◌^◌, min, suc, IfOk, IfErr, IfSome, IfNone, OnOk, IsTrue, All, length};
 ghost use Rattle.h2_num.specs.Places.{places, from_place, SameBelow};
 ghost use Rattle.h2_disk.specs.Disk.{Keeps};
-ghost use Rattle.h2_ref.specs.Ref.{IsValid};
+ghost use Rattle.h2_ref.specs.Ref.{IsValid, RefBytes};
 ghost use Rattle.h2_header.specs.Header.{IsHeader};
-ghost use Rattle.h2_header.specs.Map.{IsMapKind, zones_under};
+ghost use Rattle.h2_header.specs.Map.{zones_under, IsMapEntry};
 ghost use Rattle.h2_freemap.specs.Made.{HasNoUse};
+ghost use Rattle.h2_freeleaf.specs.Leaf.{part_of};
+ghost use Rattle.h2_freeleaf.specs.Node.{IsNode, NodeBytes};
 ghost use Rattle.h2_freeleaf.specs.InImage.{AllLead, AreCodesOf, AreEntries, HasCheck, LeadsTo, LeadsToLeaf, LeadsToNode};
-ghost use Rattle.h2_freeleaf.specs.FirstBad.{HasCause, IsBad, IsBadCheck, IsBadLeaf, IsBadNode, IsFirstBad, IsFirstBadIn, IsWrongEntry};
+ghost use Rattle.h2_freeleaf.specs.FirstBad.{HasCause, IsBad, IsBadCheck, IsBadLeaf, IsBadNode, IsEntryAt, IsFirstBad, IsFirstBadIn, IsWrongEntry};
 ghost use Rattle.h2_freeleaf.specs.Reading.{FillsTo, HasRoom, KeepsSegments, NamesMapBlock};
 
 use crate::fault::{MapFault, MapRead};
 use crate::layout::{LEAF_SEGMENTS, MAP_BYTES, NODE_REFS};
 use crate::leaf::decode_leaf;
-use crate::node::decode_node;
+use crate::node::ref_at;
 use h2_check::crc32c;
 use h2_codes::Segment;
 use h2_disk::{Disk, DiskFault};
@@ -65,30 +67,50 @@ fn read_leaf<D: Disk>(disk: &mut D, r: &Ref) -> Result<[Segment; LEAF_SEGMENTS],
     }
 }
 
-/// Looks whether the references of a node stand for the zones from one on, each for a block of a level.
+/// The reference number i of a node whose references stand for the zones from one on, each for a block of a level.
+/// None where there is no valid one, or another one.
+fn entry_at(h: &Header, level: u32, zone: u32, b: &[u8; MAP_BYTES], i: u32) -> Option<Ref>
+    requires header { IsHeader h.now }
+    requires room { HasRoom level zone }
+    requires index { i < 8 }
+    ensures found { IfSome result (λ r. IsValid r × RefBytes r (part_of i (places b.now))) }
+    ensures names { IfSome result (λ r. IsMapEntry level h.now.zones h.now.map_number (zone + zones_under level * i) r) }
+    ensures none { IfNone result (IsEntryAt (places b.now) level h.now.zones h.now.map_number zone i → ⊥) }
+{
+    let first = zone + zones_under(level) * i;
+    let r = ref_at(b, i as usize)?;
+    if !is_map_entry(level, h.zones, h.map_number, first, &r) {
+        return None;
+    }
+    Some(r)
+}
+
+/// The references of a node, from its 1024 bytes, which stand for the zones from one on, each for a block of a level.
 ///
 /// # Errors
-/// The first that doesn't, of a node at a place on the disk.
-fn check_entries(
+/// The first that isn't valid or doesn't stand for its zones, of a node at a place on the disk.
+fn decode_entries(
     h: &Header,
     level: u32,
     zone: u32,
-    refs: &[Ref; NODE_REFS],
+    b: &[u8; MAP_BYTES],
     place: u64,
-) -> Result<(), MapFault>
+) -> Result<[Ref; NODE_REFS], MapFault>
     requires header { IsHeader h.now }
     requires room { HasRoom level zone }
-    requires on_disk { place + 1024 ≤ 2 ^ 34 }
-    ensures right { OnOk result (AreEntries level h.now.zones h.now.map_number zone refs.now) }
-    ensures wrong { IfErr result (IsWrongEntry level h.now.zones h.now.map_number zone refs.now place) }
+    requires place { place + 1024 ≤ 2 ^ 64 }
+    ensures found { IfOk result (λ refs. IsNode refs × NodeBytes refs (places b.now)) }
+    ensures entries { IfOk result (λ refs. AreEntries level h.now.zones h.now.map_number zone refs) }
+    ensures wrong { IfErr result (IsWrongEntry (places b.now) level h.now.zones h.now.map_number zone place) }
 {
+    let mut refs = [Ref::empty(); NODE_REFS];
     for i in 0..8u32 {
-        let first = zone + zones_under(level) * i;
-        if !is_map_entry(level, h.zones, h.map_number, first, &refs[i as usize]) {
+        let Some(r) = entry_at(h, level, zone, b, i) else {
             return Err(MapFault::Reference(place + REF_BYTES as u64 * i as u64));
-        }
+        };
+        refs[i as usize] = r;
     }
-    Ok(())
+    Ok(refs)
 }
 
 /// The references of the node that a reference names, which stand for the zones from one on, each for a block of
@@ -112,14 +134,10 @@ fn read_node<D: Disk>(
     ensures cause { IfErr result (λ e. HasCause (λ f. IsTrue D.tells → IsBadNode (D.image disk.old) h.now.zones h.now.map_number level zone r.now f) (D.faults disk.old) (D.faults disk.new) e) }
 {
     let block = read_block(disk, r)?;
-    let refs = match decode_node(&block, r.place) {
-        Ok(refs) => refs,
-        Err(fault) => return Err(MapRead::Fault(fault)),
-    };
-    if let Err(fault) = check_entries(h, level, zone, &refs, r.place) {
-        return Err(MapRead::Fault(fault));
+    match decode_entries(h, level, zone, &block, r.place) {
+        Ok(refs) => Ok(refs),
+        Err(wrong) => Err(MapRead::Fault(wrong)),
     }
-    Ok(refs)
 }
 
 /// Reads the block of a level that begins with a zone, and the blocks under it, and adds their segments.
@@ -196,8 +214,9 @@ fn read_eight<D: Disk>(
 /// and no pin, and the codes to which the header's map leads. It reads each block once, and writes nothing.
 ///
 /// # Errors
-/// `Fault` names the first bad block in the order of keys, where a node comes before what is under it. `Disk` comes
-/// only where the disk's count of faults rose, and `NoMemory` for want of memory.
+/// `Fault` names the first bad block in the order of keys, where a node comes before what is under it: its check, or
+/// else its fault at the least place. `Disk` comes only where the disk's count of faults rose, and `NoMemory` for
+/// want of memory.
 pub fn read_map<D: Disk>(alloc: Global, disk: &mut D, h: &Header) -> Result<Freemap, MapRead>
     requires { IsHeader h.now }
     ensures codes { IfOk result (λ m. IsTrue D.tells → AreCodesOf (D.image disk.old) h.now m.segments) }

@@ -85,6 +85,22 @@ fn leaves_by_hand(rt: HostRuntime) -> Result<(), Fail> {
     Ok(())
 }
 
+// The last place that a block may have: its last byte is at 2^64 - 1.
+const LAST_PLACE: u64 = 0xffff_ffff_ffff_fc00;
+
+#[test]
+fn places_of_64_bits_are_named(rt: HostRuntime) -> Result<(), Fail> {
+    let mut b = leaf_bytes();
+    b[1023] = 1;
+    let fault = MapFault::Padding(0xffff_ffff_ffff_ffff);
+    assert_eq!(rt; decode_leaf(&b, LAST_PLACE).err(), Some(fault));
+    let mut b = node_bytes();
+    b[1023] = 1;
+    let fault = MapFault::Reference(0xffff_ffff_ffff_ff80);
+    assert_eq!(rt; decode_node(&b, LAST_PLACE), Err(fault));
+    Ok(())
+}
+
 // The reference to the leaf of one of the first zones, in copy 2 of the third map.
 fn leaf_ref(zone: u8) -> Ref {
     let place = 33_554_432 * zone as u64;

@@ -311,12 +311,20 @@ fn the_first_bad_block_is_named(rt: HostRuntime) -> Result<(), Fail> {
 }
 
 #[test]
-fn references_that_are_none_come_first_in_a_node(rt: HostRuntime) -> Result<(), Fail> {
+fn the_least_place_comes_first_in_a_node(rt: HostRuntime) -> Result<(), Fail> {
     let (mut disk, mut top) = written(rt.alloc(), 9, 2, Vec::new(rt.alloc()))?;
     // the first reference has another place, and the sixth isn't one
     change(&mut disk, NODE_8, 17, 0x40)?;
     top[1].check = Check::Crc(change(&mut disk, NODE_8, 640, 1)?);
-    let fault = MapFault::Reference(NODE_8 + 640);
+    let fault = MapFault::Reference(NODE_8);
+    assert_eq!(rt;
+        refusal(rt.alloc(), &mut disk, 9, 2, &top)?,
+        Some(MapRead::Fault(fault))
+    );
+    // in an earlier node the second isn't one, by its key bits, and the sixth has another place
+    change(&mut disk, NODE_0, 130, 1)?;
+    top[0].check = Check::Crc(change(&mut disk, NODE_0, 657, 0x40)?);
+    let fault = MapFault::Reference(NODE_0 + 128);
     assert_eq!(rt;
         refusal(rt.alloc(), &mut disk, 9, 2, &top)?,
         Some(MapRead::Fault(fault))
