@@ -2,3 +2,4 @@ mod Replays
 mod LegalParts
 mod Indices
 mod KeptIds
+mod Trimming

@@ -146,10 +146,6 @@ trimmed handles p = record p { table = without_orphans p.table (is_named handles
 abbrev pub trim : PlainForest → PlainForest
 trim f = record f { pfss = map {A = Pfs} {B = Pfs} (trimmed f.handles) f.pfss }
 
--- PFSs without the files that have no link
-abbrev pub cleaned_all : List Pfs → List Pfs
-cleaned_all pfss = map {A = Pfs} {B = Pfs} (trimmed map.empty) pfss
-
 -- without handles
 abbrev pub closed : PlainForest → PlainForest
 closed f = record f { handles = map.empty }

@@ -13,4 +13,5 @@ pub mod HistoryLaws
 pub mod Parts
 pub mod Landing
 pub mod Whole
+pub mod WholeExample
 pub mod Replay

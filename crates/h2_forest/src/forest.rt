@@ -1,6 +1,6 @@
 ghost use Rattle.std.specs.Prelude.{◌≡◌, ◌<◌, ◌≤◌, length, IfOk, OnOk, OnErr, Some, None, MatchOption, slice_index_or, is_some, ℕ};
 ghost use Rattle.std.specs.FinMap as map;
-ghost use Rattle.h2_forest.specs.Forest.{answer, fresh, pfs_named, pfs_with_id, in_pfs, ask_pfs, opened, write_reply, cut_reply, snapshot_reply, create_reply, delete_reply, with_pfs, bare_table, closed, clean};
+ghost use Rattle.h2_forest.specs.Forest.{answer, fresh, pfs_named, pfs_with_id, in_pfs, ask_pfs, opened, write_reply, cut_reply, snapshot_reply, create_reply, delete_reply, with_pfs, bare_table, closed, trim, clean};
 ghost use Rattle.h2_forest.specs.Pfs.{made, linked, unlinked, removed, moved, listed, stated};
 ghost use Rattle.h2_contents.specs.Payload.{payload_bytes};
 ghost use Rattle.h2_command.specs.Lawful.{Lawful};
@@ -8,7 +8,7 @@ ghost use Rattle.h2_command.specs.Lawful.{Lawful};
 use crate::directory::Directory;
 use crate::handles::Handles;
 use crate::pfs::{Pfs, follow};
-use crate::pfs_list::{clean_pfss, find_id, find_pfs, has_name};
+use crate::pfs_list::{find_id, find_pfs, has_name, trim_pfss};
 use crate::table::{Node, Table, bare_table};
 use h2_command::{Command, Path, Payload, Reply};
 use h2_contents::Contents;
@@ -94,8 +94,25 @@ impl Forest {
     pub fn cleaned(&self, alloc: Global) -> Result<Forest, NoMemory>
         ensures { IfOk result (λ f. f ≡ clean self.now) }
     {
-        let list = clean_pfss(alloc, &self.list)?;
+        let none = Handles::new(alloc);
+        let list = trim_pfss(alloc, &none, &self.list)?;
         Ok(Forest::of_pfss(alloc, self.next_pfs, list))
+    }
+
+    /// Takes out each file without a link that no handle names. Want of memory changes nothing.
+    pub fn trim(&mut self, alloc: Global) -> Result<(), NoMemory>
+        ensures ok { OnOk result (self.new ≡ trim self.old) }
+        ensures err { OnErr result (self.new ≡ self.old) }
+    {
+        self.list = trim_pfss(alloc, &self.handles, &self.list)?;
+        Ok(())
+    }
+
+    /// The PFSs, in the order of their ids.
+    pub fn pfss(&self) -> &[Pfs]
+        ensures { result.now ≡ self.now.pfss }
+    {
+        &self.list
     }
 
     /// Ends all handles. It takes no memory.

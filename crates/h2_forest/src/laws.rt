@@ -4,6 +4,7 @@ ghost use Rattle.h2_command.specs.declared.history.Item.{Item};
 ghost use Rattle.h2_forest.specs.Forest.{PlainForest, answer, fresh, clean};
 ghost use Rattle.h2_forest.specs.Ids.{IdsAscend};
 ghost use Rattle.h2_forest.specs.Whole.{Script, Whole, called, asked_from};
+ghost use Rattle.h2_forest.specs.WholeExample.{two_phases, five_places, five_entries, four_entries};
 
 /// Laws: in a fresh forest the PFSs stand in the order of their ids, below the next one, and each command keeps
 /// that.
@@ -17,4 +18,12 @@ pub fn ids_law()
 pub fn whole_law()
     ensures in_order { (h : List Item) (script : Script) → called h ≡ asked_from 0 [] script → Whole h script }
     ensures counted { (h : List Item) (script : Script) → Whole h script → length (called h) ≡ length (asked_from 0 [] script) }
+{}
+
+/// Laws: a worked script of two phases and two clients. The places of its five commands; a run of all five, with
+/// another order of two clients, is whole for it, and one in which a command has no entry isn't.
+pub fn whole_example_law()
+    ensures places { asked_from 0 [] two_phases ≡ five_places }
+    ensures whole { Whole five_entries two_phases }
+    ensures wanting { Whole four_entries two_phases → ⊥ }
 {}

@@ -33,7 +33,7 @@ pub use h2_num::{Bytes, Name, Names};
 pub use handles::Handles;
 pub use judging::{is_legal, judge};
 pub use landing::{frozen_forest, may_land};
-pub use laws::{ids_law, whole_law};
+pub use laws::{ids_law, whole_example_law, whole_law};
 pub use legality::{LastPass, Legality, Opening};
 pub use pfs::Pfs;
 pub use replay_result::Replay;

@@ -1,7 +1,7 @@
-ghost use Rattle.std.specs.Prelude.{◌≡◌, ◌<◌, length, IfOk, Some, None, MatchOption, slice_index_or, is_some};
-ghost use Rattle.std.specs.FinMap as map;
-ghost use Rattle.h2_forest.specs.Forest.{pfs_named, pfs_with_id, trimmed, cleaned_all};
+ghost use Rattle.std.specs.Prelude.{◌≡◌, ◌<◌, map, length, IfOk, Some, None, MatchOption, slice_index_or, is_some};
+ghost use Rattle.h2_forest.specs.Forest.{pfs_named, pfs_with_id, trimmed};
 
+use crate::handles::Handles;
 use crate::pfs::Pfs;
 use h2_num::{Name, NoMemory};
 use std::alloc::Global;
@@ -40,12 +40,12 @@ pub fn has_name(list: &[Pfs], name: &Name) -> bool
     }
 }
 
-/// A copy of a PFS without the files that have no link.
-fn clean_pfs(alloc: Global, pfs: &Pfs) -> Result<Pfs, NoMemory>
-    ensures { IfOk result (λ clean. clean ≡ trimmed map.empty pfs.now) }
+/// A copy of a PFS without the files that have no link and that no handle names.
+fn trim_pfs(alloc: Global, handles: &Handles, pfs: &Pfs) -> Result<Pfs, NoMemory>
+    ensures { IfOk result (λ copy. copy ≡ trimmed handles.now pfs.now) }
 {
     let name = pfs.name.copy(alloc)?;
-    let table = pfs.table.copy_linked(alloc)?;
+    let table = pfs.table.copy_trimmed(alloc, handles, pfs.id)?;
     Ok(Pfs {
         id: pfs.id,
         name,
@@ -54,13 +54,13 @@ fn clean_pfs(alloc: Global, pfs: &Pfs) -> Result<Pfs, NoMemory>
     })
 }
 
-/// Copies of PFSs without the files that have no link.
-pub fn clean_pfss(alloc: Global, list: &[Pfs]) -> Result<Vec<Pfs>, NoMemory>
-    ensures { IfOk result (λ clean. clean.items ≡ cleaned_all list.now) }
+/// Copies of PFSs without the files that have no link and that no handle names.
+pub fn trim_pfss(alloc: Global, handles: &Handles, list: &[Pfs]) -> Result<Vec<Pfs>, NoMemory>
+    ensures { IfOk result (λ copies. copies.items ≡ map {A = Pfs} {B = Pfs} (trimmed handles.now) list.now) }
 {
-    let mut clean = Vec::new(alloc);
+    let mut copies = Vec::new(alloc);
     for pfs in list {
-        clean.push(clean_pfs(alloc, pfs)?)?;
+        copies.push(trim_pfs(alloc, handles, pfs)?)?;
     }
-    Ok(clean)
+    Ok(copies)
 }

@@ -1,13 +1,14 @@
-ghost use Rattle.std.specs.Prelude.{◌≡◌, IfOk, OnOk, OnErr, IsSome, Some, None, false, length, ◌+◌, ◌^◌, ◌≤◌};
+ghost use Rattle.std.specs.Prelude.{◌≡◌, ◌||◌, not, IfOk, OnOk, OnErr, IsSome, Some, None, false, length, ◌+◌, ◌^◌, ◌≤◌};
 ghost use Rattle.std.specs.Option.{option_copied};
 ghost use Rattle.std.specs.FinMap as map;
 ghost use Rattle.h2_forest.specs.Node.{Entries};
 ghost use Rattle.h2_forest.specs.Table.{entries_at, entered, left, looked_up, relinked, links_of, with_links, with_bytes, rewritten, is_orphan, without_orphans};
-ghost use Rattle.h2_forest.specs.Forest.{bare_table};
+ghost use Rattle.h2_forest.specs.Forest.{bare_table, is_named};
 ghost use Rattle.h2_contents.specs.Bytes.{written_at, cut_to};
 ghost use Rattle.h2_contents.specs.Payload.{payload_bytes};
 
 use crate::directory::Directory;
+use crate::handles::Handles;
 use h2_command::{Payload, Reply};
 use h2_contents::Contents;
 use h2_num::{Name, NoMemory};
@@ -41,6 +42,13 @@ impl Node {
             Node::File(_, links) => *links == 0,
             Node::Directory(_) => false,
         }
+    }
+
+    /// Whether a trim leaves this inode, of this PFS and with this number.
+    fn is_kept(&self, handles: &Handles, pfs: u64, number: u64) -> bool
+        ensures { result ≡ (is_named handles.now pfs number || not (is_orphan (Some self.now))) }
+    {
+        handles.has(pfs, number) || !self.is_orphan()
     }
 
     /// Puts bytes at a place of a file; a directory stays. Want of memory changes nothing.
@@ -290,6 +298,26 @@ impl Table {
         let mut copy = Table::new(alloc);
         for (number, node) in self.nodes.iter() {
             if node.is_orphan() {
+                continue;
+            }
+            copy.insert(*number, node.copy(alloc)?)?;
+        }
+        Ok(copy)
+    }
+
+    /// A copy without the files that have no link and that no handle names. This is the table of the PFS with the
+    /// id `pfs`.
+    pub fn copy_trimmed(
+        &self,
+        alloc: Global,
+        handles: &Handles,
+        pfs: u64,
+    ) -> Result<Table, NoMemory>
+        ensures { IfOk result (λ copy. copy ≡ without_orphans self.now (is_named handles.now pfs)) }
+    {
+        let mut copy = Table::new(alloc);
+        for (number, node) in self.nodes.iter() {
+            if !node.is_kept(handles, pfs, *number) {
                 continue;
             }
             copy.insert(*number, node.copy(alloc)?)?;

@@ -96,6 +96,37 @@ fn a_clean_forest_has_no_handle(rt: HostRuntime) -> Result<(), Fail> {
     Ok(())
 }
 
+// Whether ROOT has the inodes 2 and 3: those of the first and the second file that was created.
+fn has_first_files(forest: &Forest) -> Result<(bool, bool), Fail> {
+    let root = forest.pfss().first().ok_or("no ROOT")?;
+    Ok((root.table.node(2).is_some(), root.table.node(3).is_some()))
+}
+
+// A trim leaves a file without a link while a handle stands for it, and its bytes. After the close it stays until
+// the next trim, which takes it out and leaves the file that has a link.
+#[test]
+fn a_trim_keeps_what_a_handle_names(rt: HostRuntime) -> Result<(), Fail> {
+    let alloc = rt.alloc();
+    let mut running = run(
+        alloc,
+        "0 create ROOT:/f\n0 create ROOT:/g\n0 open ROOT:/f\n0 write 0 0 x:6869\n0 rm ROOT:/f",
+        None,
+    )?;
+    running.forest.trim(alloc).ok().ok_or("memory")?;
+    assert_eq!(rt; has_first_files(&running.forest)?, (true, true));
+    running.run(alloc, "0 read 0 0 10\n0 ls ROOT:/\n0 close 0")?;
+    assert_eq!(rt; has_first_files(&running.forest)?, (true, true));
+    running.forest.trim(alloc).ok().ok_or("memory")?;
+    assert_eq!(rt; has_first_files(&running.forest)?, (false, true));
+    running.run(alloc, "0 stat ROOT:/g\n0 read 0 0 10")?;
+    let told = running.told(alloc)?;
+    assert_eq!(rt;
+        told.as_str(),
+        "0 0 ok\n0 1 ok\n0 2 handle 0\n0 3 wrote 2\n0 4 ok\n0 5 data 2 6869\n0 6 list 1 g\n0 7 ok\n0 8 file inode 3 links 1 size 0\n0 9 no-handle\n"
+    );
+    Ok(())
+}
+
 // Places of a history that are reserved are there, and an item beside them keeps them.
 #[test]
 fn reserved_places_are_kept(rt: HostRuntime) -> Result<(), Fail> {
