@@ -6,7 +6,8 @@ use Rattle.h2_ref.specs.declared.reference.Kind.TheVariants.{Inode as Inode_kind
 use Rattle.h2_ref.specs.declared.reference.Ref.{Ref}
 use Rattle.h2_set.specs.Ranges.{Rising, IsAligned, is_indirect}
 use Rattle.h2_set.specs.RefSet.{RefSet, IsRefSet}
-use Rattle.h2_set.specs.Forest.{Forest, refs, Reaches, IsSound, InPlace, Same, Stays, GoesBelow, GoesWith, LeavesOf}
+use Rattle.h2_set.specs.SetBytes.{IsHeld}
+use Rattle.h2_set.specs.Forest.{Forest, refs, told, Reaches, IsSound, InPlace, Same, Stays, GoesBelow, GoesWith, LeavesOf}
 use Rattle.h2_inode.specs.declared.kind.InodeKind.{InodeKind}
 use Rattle.h2_inode.specs.declared.kind.InodeKind.TheVariants.{Directory, File, Pfs}
 use Rattle.h2_inode.specs.declared.inode.Body.{Body}
@@ -113,6 +114,7 @@ pub record IsPlantable (i : Inode) : Type 0 where
 
 -- a reference that the root of an inode with references may have
 pub record FitsIn (kind : InodeKind) (r : Ref) : Type 0 where
+  pub held : IsHeld r
   pub aligned : IsAligned r
   pub class : (r.key < 2 ^ 62) ⊎ (2 ^ 63 ≤ r.key)
   pub leaf : is_indirect r ≡ false → r.keybits ≡ leaf_keybits kind
@@ -182,6 +184,8 @@ pub record Plants (f g : Forest) (top key c : ℕ) : Type 0 where
   pub brings : Brings f g c
   pub fresh : f.stands c ≡ false
   pub named : IsNamed g top key c
+  -- what is told below an indirect reference elsewhere is told below it here
+  pub told_alike : (m i j : ℕ) (r : Ref) (l : List Ref) → f.stands m ≡ true → slice_get (refs f m) i ≡ Some r → slice_get (refs g c) j ≡ Some r → is_indirect r ≡ true → f.link m r.key ≡ told l → g.link c r.key ≡ told l
   pub writable : g.writable c ≡ true
   pub spare : g.spare + 1 ≡ f.spare
   pub failed : g.failed ≡ f.failed
@@ -201,6 +205,7 @@ pub record Replaces (f g : Forest) (at : ℕ) (s : RefSet) : Type 0 where
   pub copies : g.copies at ≡ f.copies at
   pub link : (i : ℕ) (r : Ref) → slice_get s.refs i ≡ Some r → is_indirect r ≡ true → g.link at r.key ≡ f.link at r.key
   pub others : (m : ℕ) → f.stands m ≡ true → (m ≡ at → ⊥) → (GoesBelow f m at s → ⊥) → (GoesWith f m at s → ⊥) → Same f g m
+  pub gone : (m : ℕ) → f.stands m ≡ true → GoesBelow f m at s ⊎ GoesWith f m at s → g.stands m ≡ false
   pub none_new : (m : ℕ) → g.stands m ≡ true → f.stands m ≡ true
   pub spare : g.spare ≡ f.spare
   pub room : g.room ≡ f.room

@@ -8,6 +8,7 @@ use Rattle.h2_ref.specs.declared.faults.Trouble.{Trouble}
 use Rattle.h2_ref.specs.declared.faults.Trouble.TheVariants.{Failed, Bad, NoMemory}
 use Rattle.h2_set.specs.Ranges.{Rising, limit, holds, NoneHolds, IsAligned, IsApart, put, lies, is_indirect}
 use Rattle.h2_set.specs.RefSet.{RefSet, IsRefSet, IsSplitOf, with_rest}
+use Rattle.h2_set.specs.SetBytes.{IsHeld}
 use Rattle.h2_set.specs.declared.set.Split.{Split}
 
 -- what is below an indirect reference: a loaded node, or a block whose leaves the disk tells, or not even that
@@ -82,6 +83,8 @@ pub record IsChild (f : Forest) (m k c : ℕ) : Type 0 where
 
 -- a reference that may stand in node m
 pub record Fits (f : Forest) (m : ℕ) (r : Ref) : Type 0 where
+  -- it can be written: it is valid, and names something
+  pub held : IsHeld r
   pub aligned : IsAligned r
   -- no key lies from 2^62 up to below 2^63, so that those of one half of all keys lie in 2^62 or 2^63 of them
   pub class : (r.key < 2 ^ 62) ⊎ (2 ^ 63 ≤ r.key)
@@ -104,6 +107,9 @@ pub record NamesBelow (rs : List Ref) (k : ℕ) : Type 0 where
 -- what stands of a node at any time: ranges lie in ranges, and their bits fall
 pub record IsSoundNode (f : Forest) (m : ℕ) : Type 0 where
   pub set : IsRefSet (f.set m)
+  -- a root's set has room for 4 references, and that of an indirect block for 32
+  pub root_capacity : f.root m ≡ m → let s = f.set m in s.capacity ≡ 4
+  pub block_capacity : (f.root m ≡ m → ⊥) → let s = f.set m in s.capacity ≡ 32
   pub inside : Rising (f.low m) (f.low m + 2 ^ f.bits m) (refs f m)
   pub aligned : f.low m % 2 ^ f.bits m ≡ 0
   pub ends : f.low m + 2 ^ f.bits m ≤ 2 ^ 64
@@ -119,10 +125,39 @@ pub record IsSoundNode (f : Forest) (m : ℕ) : Type 0 where
   -- a path is no longer than its bits fall, and an indirect block has one at least: so there are at most 62 below a root
   pub slope : f.copies m + f.bits m ≤ 63
 
+-- the loaded nodes on the key's path lead to this leaf, or to none
+pub data Reaches (f : Forest) (key : ℕ) : ℕ → Option Ref → Type 0 where
+  nowhere : {at : ℕ} → NoneHolds key (refs f at) → Reaches f key at None
+  here : {at : ℕ} {r : Ref} → (i : ℕ) → slice_get (refs f at) i ≡ Some r → holds key r ≡ true → is_indirect r ≡ false → Reaches f key at (Some r)
+  below : {at c : ℕ} {r : Ref} {o : Option Ref} → (i : ℕ) → slice_get (refs f at) i ≡ Some r → holds key r ≡ true → is_indirect r ≡ true → f.link at r.key ≡ loaded c → Reaches f key c o → Reaches f key at o
+
+-- Node m belongs to the leaf with this key of the tree of root top, which is another tree than its own. The leaf names
+-- an inode, and its path is loaded.
+pub record HasOwner (f : Forest) (m top key : ℕ) : Type 0 where
+  pub other : f.root m ≡ top → ⊥
+  pub stands : f.stands top ≡ true
+  pub root : f.root top ≡ top
+  pub leaf : Ref
+  pub key_is : leaf.key ≡ key
+  pub kind_is : leaf.kind ≡ Inode
+  pub path : Reaches f key top (Some leaf)
+
+-- node m is loaded right below a node that stands
+pub record HasParent (f : Forest) (m : ℕ) : Type 0 where
+  pub parent : ℕ
+  pub stands : f.stands parent ≡ true
+  pub link : f.link parent (f.low m) ≡ loaded m
+
 pub record IsSound (f : Forest) : Type 0 where
   pub node : (m : ℕ) → f.stands m ≡ true → IsSoundNode f m
   -- what is held stands
   pub held : (m : ℕ) → f.held m ≡ true → f.stands m ≡ true
+  -- the root of a node stands and is its own, and each other node stands below one that stands
+  pub top : (m : ℕ) → f.stands m ≡ true → (f.stands (f.root m) ≡ true) × (f.root (f.root m) ≡ f.root m)
+  pub parent : (m : ℕ) → f.stands m ≡ true → (f.root m ≡ m → ⊥) → HasParent f m
+  pub owner : (m top key : ℕ) → f.stands m ≡ true → f.belongs m top key ≡ true → HasOwner f m top key
+  -- the epoch is the number of a checkpoint, so that what is new can be written
+  pub epoch : (1 ≤ f.epoch) × (f.epoch ≤ 2 ^ 62)
 
 -- the same reference, but for where the block of an indirect one lies
 pub record IsAlike (r q : Ref) : Type 0 where
@@ -287,12 +322,6 @@ pub record Loses (f : Forest) (at : ℕ) (s : RefSet) (key : ℕ) : Type 0 where
   pub lacks : (i : ℕ) (r : Ref) → slice_get s.refs i ≡ Some r → r.key ≡ lost.key → ⊥
   pub held : holds key lost ≡ true
 
--- the loaded nodes on the key's path lead to this leaf, or to none
-pub data Reaches (f : Forest) (key : ℕ) : ℕ → Option Ref → Type 0 where
-  nowhere : {at : ℕ} → NoneHolds key (refs f at) → Reaches f key at None
-  here : {at : ℕ} {r : Ref} → (i : ℕ) → slice_get (refs f at) i ≡ Some r → holds key r ≡ true → is_indirect r ≡ false → Reaches f key at (Some r)
-  below : {at c : ℕ} {r : Ref} {o : Option Ref} → (i : ℕ) → slice_get (refs f at) i ≡ Some r → holds key r ≡ true → is_indirect r ≡ true → f.link at r.key ≡ loaded c → Reaches f key c o → Reaches f key at o
-
 -- node m of this tree stands below a reference of node at that s lacks
 pub record GoesBelow (f : Forest) (m at : ℕ) (s : RefSet) : Type 0 where
   pub tree : f.root m ≡ f.root at
@@ -330,6 +359,8 @@ pub record Stores (f g : Forest) (at : ℕ) (s : RefSet) : Type 0 where
   pub copies : g.copies at ≡ f.copies at
   pub link : (i : ℕ) (r : Ref) → slice_get s.refs i ≡ Some r → is_indirect r ≡ true → g.link at r.key ≡ f.link at r.key
   pub others : (m : ℕ) → f.stands m ≡ true → (m ≡ at → ⊥) → (GoesBelow f m at s → ⊥) → (GoesWith f m at s → ⊥) → Same f g m
+  -- what is below a reference that is lost, and what a lost leaf names, stands no longer
+  pub gone : (m : ℕ) → f.stands m ≡ true → GoesBelow f m at s ⊎ GoesWith f m at s → g.stands m ≡ false
   pub none_new : (m : ℕ) → g.stands m ≡ true → f.stands m ≡ true
   pub spare : g.spare ≡ f.spare
   pub room : g.room ≡ f.room

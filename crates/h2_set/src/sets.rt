@@ -83,7 +83,8 @@ pub trait Sets {
         ensures beside { KeepsBeside (forest self.old) (forest self.new) (beside self.old) (beside self.new) }
         ensures later { later self.old self.new };
 
-    /// Makes `set` the set of a writable node. What stood below a reference that it lacks isn't kept; all else is.
+    /// Makes `set` the set of a writable node. What stood below a reference that it lacks, or belonged to a leaf there,
+    /// stands no longer; all else does.
     fn store(&mut self, at: NodeId, set: Set)
         requires sound { IsSound (forest self.old) }
         requires stands { let f = forest self.old in f.stands at.0 ≡ true }
@@ -105,7 +106,7 @@ pub trait Sets {
         ensures beside { KeepsBeside (forest self.old) (forest self.new) (beside self.old) (beside self.new) }
         ensures later { later self.old self.new };
 
-    /// The name of a directory's entry. Nothing but the two counts changes. Trouble only from a load or want of memory
+    /// The name of a directory's entry, as long as the entry says. Nothing but the two counts changes. Trouble only from a load or want of memory
     /// in this call, and a name of at most 64 bytes, which stands in its entry, needs no load.
     fn name(&mut self, alloc: Global, r: &Ref) -> Result<Bytes, Trouble>
         requires sound { IsSound (forest self.old) }
@@ -114,6 +115,7 @@ pub trait Sets {
         ensures same { Unchanged (forest self.old) (forest self.new) }
         ensures told { let f = forest self.old in IfOk result (λ b. (name : List ℕ) → f.name r.now ≡ Some name → b ≡ name) }
         ensures inline { IfOk result (λ b. (d : Dirent) → r.now.dirent ≡ Some d → d.len ≤ 64 → b ≡ take d.len d.name) }
+        ensures long { IfOk result (λ b. (d : Dirent) → r.now.dirent ≡ Some d → length b ≡ d.len) }
         ensures err { IfErr result (HasCause (forest self.old) (forest self.new)) }
         ensures unread { IfErr result (λ e. (d : Dirent) → r.now.dirent ≡ Some d → d.len ≤ 64 → e ≡ Trouble.NoMemory) }
         ensures beside { KeepsBeside (forest self.old) (forest self.new) (beside self.old) (beside self.new) }

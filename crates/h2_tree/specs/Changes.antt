@@ -2,11 +2,12 @@
 use Rattle.std.specs.List.{remove}
 use Rattle.std.specs.Prelude.{slice_set, filter, not, ◌≡◌, ℕ, ◌+◌, ◌^◌, ◌<◌, ◌≤◌, ◌⊎◌, ◌&&◌, nat_le, nat_lt, Bool, true, false, List, Option, Some, None, slice_get, length}
 use Rattle.h2_ref.specs.declared.reference.Ref.{Ref}
-use Rattle.h2_set.specs.Ranges.{limit, holds, lies, NoneHolds, IsApart, Sides, put, without, at_key, is_indirect, IsAligned}
+use Rattle.h2_set.specs.Ranges.{Rising, limit, holds, lies, NoneHolds, IsApart, Sides, put, without, at_key, is_indirect, IsAligned}
 use Rattle.h2_tree.specs.declared.removing.Taken.{Taken}
 use Rattle.h2_tree.specs.declared.removing.Taken.TheVariants.{Nothing, Out, Sole}
 use Rattle.h2_set.specs.Forest.{Forest, refs, loaded, IsSound, LeavesOf, Walks, Fixed, InPlace, Keeps, Renews, Stays, Reaches, OnWay, IsAbove}
 use Rattle.h2_set.specs.RefSet.{IsSplitOf}
+use Rattle.h2_set.specs.SetBytes.{IsHeld}
 
 -- the range of m lies in that of node at
 pub record Under (f : Forest) (m at : ℕ) : Type 0 where
@@ -16,6 +17,8 @@ pub record Under (f : Forest) (m at : ℕ) : Type 0 where
 -- a leaf that the tree below node at may have
 pub record Takes (f : Forest) (at : ℕ) (leaf : Ref) : Type 0 where
   pub is_leaf : is_indirect leaf ≡ false
+  -- it can be written: it is valid, and names something
+  pub held : IsHeld leaf
   pub allowed : f.allows (f.root at) leaf ≡ true
   pub aligned : IsAligned leaf
   -- its key is below 2^62 or at least 2^63, as all keys of a tree are
@@ -51,6 +54,7 @@ pub record Replaces (h g : Forest) (n : ℕ) (leaf old : Ref) : Type 0 where
   pub key : old.key ≡ leaf.key
   pub keybits : old.keybits ≡ leaf.keybits
   pub set : let s = h.set n in g.set n ≡ record { refs = slice_set s.refs place leaf; capacity = s.capacity }
+  pub none_new : (m : ℕ) → g.stands m ≡ true → h.stands m ≡ true
   pub link : (i : ℕ) (r : Ref) → slice_get (refs g n) i ≡ Some r → is_indirect r ≡ true → g.link n r.key ≡ h.link n r.key
 
 -- the set of node n, which wasn't full, has the leaf in its order
@@ -59,6 +63,7 @@ pub record Places (h g : Forest) (n : ℕ) (leaf : Ref) : Type 0 where
   pub apart : IsApart leaf (refs h n)
   pub space : let s = h.set n in length s.refs < s.capacity
   pub set : let s = h.set n in g.set n ≡ record { refs = put leaf s.refs; capacity = s.capacity }
+  pub none_new : (m : ℕ) → g.stands m ≡ true → h.stands m ≡ true
   pub link : (i : ℕ) (r : Ref) → slice_get (refs g n) i ≡ Some r → is_indirect r ≡ true → g.link n r.key ≡ h.link n r.key
 
 -- the full set of node n and the leaf were split by the split rule: node c has the references of its range, and node
@@ -74,6 +79,7 @@ pub record Parts (h g : Forest) (n : ℕ) (leaf : Ref) : Type 0 where
   pub fresh : h.stands node ≡ false
   pub moved : g.set node ≡ record { refs = filter (lies key bits) (put leaf (refs h n)); capacity = 32 }
   pub new_writable : g.writable node ≡ true
+  pub none_new : (m : ℕ) → g.stands m ≡ true → (m ≡ node) ⊎ (h.stands m ≡ true)
   pub ref : Ref
   pub indirect : is_indirect ref ≡ true
   pub ref_key : ref.key ≡ key
@@ -102,11 +108,17 @@ pub record Prepares (f g : Forest) : Type 0 where
   pub spare : f.spare ≤ g.spare
   pub room : g.room ≡ f.room
 
+-- each node that was loaded has a key from `from` to `to` in its range
+pub record LoadsTouched (f g : Forest) (from to : ℕ) : Type 0 where
+  pub only : (m : ℕ) → g.stands m ≡ true → (f.stands m ≡ true) ⊎ ((g.low m ≤ to) × (from < g.low m + 2 ^ g.bits m))
+
 -- Where the leaf went in: once the path of its key was loaded, into the set of one node on it. The room is lowered by
 -- the nodes that are copied for it and the new block, and spare by the new block alone.
 pub record GoesIn (f g : Forest) (at : ℕ) (leaf : Ref) (old : Option Ref) : Type 0 where
   pub then : Forest
   pub prepares : Prepares f then
+  -- no node off the path of its key was loaded
+  pub touched : LoadsTouched f then leaf.key leaf.key
   pub node : ℕ
   pub stands : then.stands node ≡ true
   pub way : Descends then leaf.key at node
@@ -162,6 +174,7 @@ pub data GoesAway (h : Forest) (n place : ℕ) (leaf : Ref) (m : ℕ) : Type 0 w
 pub record GoesOut (f g : Forest) (at : ℕ) (leaf : Ref) : Type 0 where
   pub then : Forest
   pub walks : Walks f then
+  pub touched : LoadsTouched f then leaf.key leaf.key
   pub node : ℕ
   pub stands : then.stands node ≡ true
   pub way : Descends then leaf.key at node
@@ -172,6 +185,8 @@ pub record GoesOut (f g : Forest) (at : ℕ) (leaf : Ref) : Type 0 where
   pub set : let s = then.set node in g.set node ≡ record { refs = remove s.refs place; capacity = s.capacity }
   pub link : (i : ℕ) (r : Ref) → slice_get (refs g node) i ≡ Some r → is_indirect r ≡ true → g.link node r.key ≡ then.link node r.key
   pub only : ChangesOnly then g node (GoesAway then node place leaf)
+  pub gone : (m : ℕ) → then.stands m ≡ true → GoesAway then node place leaf m → g.stands m ≡ false
+  pub none_new : (m : ℕ) → g.stands m ≡ true → then.stands m ≡ true
   pub room : g.room + then.copies node ≡ f.room
   pub spare : g.spare ≡ f.spare
 
@@ -212,10 +227,19 @@ pub data RangeUnloaded (f : Forest) (from to : ℕ) : ℕ → Type 0 where
   missing : {at : ℕ} {r : Ref} → (i : ℕ) → slice_get (refs f at) i ≡ Some r → is_indirect r ≡ true → touches from to r ≡ true → ((c : ℕ) → f.link at r.key ≡ loaded c → ⊥) → RangeUnloaded f from to at
   deeper : {at c : ℕ} {r : Ref} → (i : ℕ) → slice_get (refs f at) i ≡ Some r → is_indirect r ≡ true → touches from to r ≡ true → f.link at r.key ≡ loaded c → RangeUnloaded f from to c → RangeUnloaded f from to at
 
--- each node that was loaded has a key from `from` to `to` in its range
-pub record LoadsTouched (f g : Forest) (from to : ℕ) : Type 0 where
-  pub only : (m : ℕ) → g.stands m ≡ true → (f.stands m ≡ true) ⊎ ((g.low m ≤ to) × (from < g.low m + 2 ^ g.bits m))
-
 -- no loaded path leads to what the key has
 abbrev pub PathUnloaded : Forest → ℕ → ℕ → Type 0
 PathUnloaded f at key = (o : Option Ref) → Reaches f key at o → ⊥
+
+-- the loaded path of the key leads to no leaf of this key
+pub record LacksLeaf (f : Forest) (at key : ℕ) : Type 0 where
+  pub found : Option Ref
+  pub path : Reaches f key at found
+  pub other : (r : Ref) → found ≡ Some r → r.key ≡ key → ⊥
+
+-- the loaded leaves of node at with keys from `from` to `to` are l, in order, and no node that they need is unloaded
+pub record Lists (f : Forest) (at from to : ℕ) (l : List Ref) : Type 0 where
+  pub rising : Rising 0 (2 ^ 64) l
+  pub each : (i : ℕ) (r : Ref) → slice_get l i ≡ Some r → (is_between from to r ≡ true) × Reaches f r.key at (Some r)
+  pub all : (key : ℕ) (r : Ref) → Reaches f key at (Some r) → is_between from to r ≡ true → (i : ℕ) × (slice_get l i ≡ Some r)
+  pub loaded : RangeUnloaded f from to at → ⊥

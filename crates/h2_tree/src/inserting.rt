@@ -2,7 +2,7 @@ ghost use Rattle.std.specs.Prelude.{◌≡◌, ◌<◌, ◌≤◌, ◌⊎◌, tr
 ghost use Rattle.h2_ref.specs.declared.reference.Ref.{Ref};
 ghost use Rattle.h2_set.specs.Ranges.{find, is_indirect, NoneHolds};
 ghost use Rattle.h2_set.specs.Forest.{Forest, refs, IsSound, Walks, HasCause, LeavesOf, Reaches, KeepsBeside, ReadiesOnly};
-ghost use Rattle.h2_tree.specs.Changes.{Takes, Inserts, KeepsPaths, PathUnloaded};
+ghost use Rattle.h2_tree.specs.Changes.{Takes, Inserts, KeepsPaths, LoadsTouched, PathUnloaded};
 
 use h2_num::NoMemory;
 use h2_ref::{Ref, Trouble};
@@ -93,7 +93,7 @@ fn add<N: Sets>(alloc: Global, n: &mut N, at: NodeId, leaf: Ref) -> Result<(), N
 /// Adds a leaf to the tree, or puts it in place of the one with its range, which is answered; None exactly where
 /// there is none. It goes into the set of one node on the path of its key, and a full set is split by the split rule.
 /// The room is at least 63, and is lowered by the number of nodes that are copied and by one for a split, as spare is.
-/// No node is unloaded, and paths to all keys stay loaded. Trouble only where a node on the path of its key isn't
+/// No node is unloaded, none off the path of its key is loaded, and paths to all keys stay loaded. Trouble only where a node on the path of its key isn't
 /// loaded, or no node is spare; nothing but loads took place then.
 pub fn insert<N: Sets>(
     alloc: Global,
@@ -111,6 +111,7 @@ pub fn insert<N: Sets>(
     ensures path { IfOk result (λ o. Reaches (N.forest n.new) leaf.key root.0 (Some leaf)) }
     ensures walks { OnErr result (Walks (N.forest n.old) (N.forest n.new)) }
     ensures err { IfErr result (HasCause (N.forest n.old) (N.forest n.new)) }
+    ensures touched { OnErr result (LoadsTouched (N.forest n.old) (N.forest n.new) leaf.key leaf.key) }
     ensures unloaded { let f = N.forest n.old in OnErr result (PathUnloaded f root.0 leaf.key ⊎ (f.spare ≡ 0)) }
     ensures beside { KeepsBeside (N.forest n.old) (N.forest n.new) (N.beside n.old) (N.beside n.new) }
     ensures later { N.later n.old n.new }

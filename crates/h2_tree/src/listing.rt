@@ -1,7 +1,7 @@
 ghost use Rattle.std.specs.Prelude.{◌≡◌, ◌⊎◌, ℕ, [], ◌∷◌, ◌++◌, true, List, IfOk, IfErr, OnOk, filter};
 ghost use Rattle.h2_ref.specs.declared.reference.Ref.{Ref};
 ghost use Rattle.h2_set.specs.Forest.{Forest, IsSound, Walks, HasCause, LeavesOf, KeepsBeside};
-ghost use Rattle.h2_tree.specs.Changes.{is_between, touches, RangeUnloaded, LoadsTouched};
+ghost use Rattle.h2_tree.specs.Changes.{is_between, touches, RangeUnloaded, LoadsTouched, Lists};
 
 use h2_ref::{Ref, Trouble};
 use h2_set::{NodeId, Sets, holds, is_indirect};
@@ -68,7 +68,7 @@ fn collect<N: Sets>(
     Ok(())
 }
 
-/// The leaves with keys from `from` to `to`, in order. Only nodes whose ranges have a key from `from` to `to` are
+/// The leaves with keys from `from` to `to`, in order. Afterwards every node that they need is loaded. Only nodes whose ranges have a key from `from` to `to` are
 /// loaded. Trouble only where one of them isn't loaded, or for want of memory.
 pub fn range<N: Sets>(
     alloc: Global,
@@ -80,6 +80,7 @@ pub fn range<N: Sets>(
     requires sound { IsSound (N.forest n.old) }
     requires stands { let f = N.forest n.old in f.stands root.0 ≡ true }
     ensures found { IfOk result (λ v. (l : List Ref) → LeavesOf (N.forest n.old) root.0 l → v.items ≡ filter (is_between from to) l) }
+    ensures lists { IfOk result (λ v. Lists (N.forest n.new) root.0 from to v.items) }
     ensures walks { Walks (N.forest n.old) (N.forest n.new) }
     ensures err { IfErr result (HasCause (N.forest n.old) (N.forest n.new)) }
     ensures touched { LoadsTouched (N.forest n.old) (N.forest n.new) from to }

@@ -2,7 +2,7 @@ ghost use Rattle.std.specs.Prelude.{◌≡◌, ◌<◌, ◌≤◌, ◌⊎◌, tr
 ghost use Rattle.h2_ref.specs.declared.reference.Ref.{Ref};
 ghost use Rattle.h2_set.specs.Ranges.{at_key, is_indirect};
 ghost use Rattle.h2_set.specs.Forest.{Forest, refs, IsSound, Walks, HasCause, LeavesOf, Reaches, KeepsBeside};
-ghost use Rattle.h2_tree.specs.Changes.{IsFree, LeadsOnly, Removes, KeepsPaths, TakesOut, PathUnloaded};
+ghost use Rattle.h2_tree.specs.Changes.{IsFree, LeadsOnly, Removes, KeepsPaths, TakesOut, LacksLeaf, LoadsTouched, PathUnloaded};
 
 use h2_ref::{Ref, Trouble};
 use h2_set::{NodeId, Sets, is_indirect};
@@ -110,6 +110,9 @@ pub fn remove<N: Sets>(
     ensures absent { IfOk result (λ o. IfNone o (Walks (N.forest n.old) (N.forest n.new))) }
     ensures walks { OnErr result (Walks (N.forest n.old) (N.forest n.new)) }
     ensures err { IfErr result (HasCause (N.forest n.old) (N.forest n.new)) }
+    ensures none { IfOk result (λ o. IfNone o (LacksLeaf (N.forest n.new) root.0 key)) }
+    ensures touched { OnErr result (LoadsTouched (N.forest n.old) (N.forest n.new) key key) }
+    ensures off { IfOk result (λ o. IfNone o (LoadsTouched (N.forest n.old) (N.forest n.new) key key)) }
     ensures unloaded { OnErr result (PathUnloaded (N.forest n.old) root.0 key) }
     ensures beside { KeepsBeside (N.forest n.old) (N.forest n.new) (N.beside n.old) (N.beside n.new) }
     ensures later { N.later n.old n.new }
