@@ -18,3 +18,4 @@ pub mod Access
 pub mod Contents
 pub mod Directory
 pub mod PfsList
+pub mod Loaded
