@@ -14,3 +14,8 @@ pub mod OneFault
 pub mod Nodes
 pub mod NodeLaws
 pub mod VisitLaws
+pub mod Access
+pub mod Contents
+pub mod Directory
+pub mod PfsList
+pub mod Loaded

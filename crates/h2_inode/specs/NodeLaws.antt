@@ -80,6 +80,7 @@ no_leaves f holds at i h none = inode_leaves f holds at i [] h (subst (λ rs. Ha
 
 fits_in : (f : Forest) (at : ℕ) (kind : InodeKind) (t : RefSet) (r : Ref) → f.root at ≡ at → IsTreeOf f at kind (Refs t) → Fits f at r → FitsIn kind r
 fits_in f at kind t r root tree h = record {
+  held = h.held;
   aligned = h.aligned;
   class = h.class;
   leaf = λ e. h.leaf e ∙ ap f.leaf_bits root ∙ tree.leaf_bits;

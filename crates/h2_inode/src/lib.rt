@@ -6,6 +6,10 @@
 //! the reference that names it is one definition for all kinds of files and directories (`Passes` in
 //! `specs/Block`).
 //!
+//! A reading (`specs/Access`) says how trees of inodes are read, be it from the bytes of an image or from loaded nodes.
+//! Over any reading, `specs/Contents` says which bytes a file's tree stands for, `specs/Directory` which entries a
+//! directory's, and `specs/PfsList` which list of PFSs the super-root's.
+//!
 //! [`Nodes`] is a forest of sets whose roots are those of inodes (`specs/Nodes`): which leaf names a root, what a
 //! root holds beside its set, and one relation for each call.
 #![tactic(auto)]

@@ -15,11 +15,13 @@ use Rattle.h2_forest.specs.declared.table.Node.TheVariants.{File, Directory}
 use Rattle.h2_forest.specs.Table.{Table}
 use Rattle.h2_forest.specs.declared.pfs.Pfs.{Pfs}
 use Rattle.h2_forest.specs.Forest.{PlainForest}
-use Rattle.h2_meaning.specs.Access.{HasLeaves, OneByOne}
-use Rattle.h2_meaning.specs.Contents.{IsPart, IsContents, IsEmbedded}
-use Rattle.h2_meaning.specs.Directory.{IsNameOf, IsEntry, IsDirectory}
+use Rattle.h2_inode.specs.Access.{HasLeaves, OneByOne}
+use Rattle.h2_inode.specs.Contents.{IsPart, IsContents}
+use Rattle.h2_meaning.specs.Embedded.{IsEmbedded}
+use Rattle.h2_inode.specs.Directory.{IsNameOf, IsEntry, IsDirectory}
 use Rattle.h2_meaning.specs.Node.{IsNodeBy, IsNode, IsMember, HasMembers}
-use Rattle.h2_meaning.specs.Forest.{InTable, ListedPfs, listed_of, IsTable, IsPfs, IsPfsList, IsWhole, IsForest}
+use Rattle.h2_inode.specs.PfsList.{ListedPfs, IsPfs, IsPfsList}
+use Rattle.h2_meaning.specs.Forest.{InTable, listed_of, IsTable, IsWhole, IsForest}
 use Rattle.h2_meaning.specs.Following.{SameBody, SameInode, Passage, Follows}
 use Rattle.h2_meaning.specs.ListLaws.{through, all_through, hole_carried, rising_carried}
 

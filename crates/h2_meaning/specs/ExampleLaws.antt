@@ -24,10 +24,11 @@ use Rattle.h2_forest.specs.declared.table.Node.TheVariants.{File, Directory}
 use Rattle.h2_forest.specs.Table.{entries_of, entries_at, looked_up, found}
 use Rattle.h2_forest.specs.TableLaws.{has_looked, directory_at}
 use Rattle.h2_forest.specs.Forest.{bare_table, fresh}
-use Rattle.h2_meaning.specs.Contents.{IsPart, IsContents}
-use Rattle.h2_meaning.specs.Directory.{IsDirectory}
+use Rattle.h2_inode.specs.Contents.{IsPart, IsContents}
+use Rattle.h2_inode.specs.Directory.{IsDirectory}
 use Rattle.h2_meaning.specs.FileTree.{names_in, names_of, HasEntry, IsFileTree}
-use Rattle.h2_meaning.specs.Forest.{ListedPfs, IsTable, IsPfs, IsPfsList, IsForest}
+use Rattle.h2_inode.specs.PfsList.{ListedPfs, IsPfs, IsPfsList}
+use Rattle.h2_meaning.specs.Forest.{IsTable, IsForest}
 use Rattle.h2_meaning.specs.Single.{IsSingle}
 use Rattle.h2_meaning.specs.Following.{Follows}
 use Rattle.h2_meaning.specs.Targets.{itself_follows}

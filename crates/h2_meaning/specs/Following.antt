@@ -5,7 +5,7 @@ use Rattle.h2_ref.specs.declared.reference.Ref.{Ref}
 use Rattle.h2_inode.specs.declared.inode.Body.{Body}
 use Rattle.h2_inode.specs.declared.inode.Body.TheVariants.{Refs, Bytes}
 use Rattle.h2_inode.specs.declared.inode.Inode.{Inode}
-use Rattle.h2_meaning.specs.Access.{Access, OneByOne}
+use Rattle.h2_inode.specs.Access.{Access, OneByOne}
 
 -- the leaves stand for the same, wherever their blocks lie and whoever wrote them
 pub record SameLeaf (r s : Ref) : Type 0 where

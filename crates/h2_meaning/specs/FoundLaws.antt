@@ -14,8 +14,8 @@ use Rattle.h2_ref.specs.declared.reference.Ref.{Ref}
 use Rattle.h2_forest.specs.Node.{Entries}
 use Rattle.h2_forest.specs.declared.table.Node.{Node}
 use Rattle.h2_forest.specs.Table.{Table}
-use Rattle.h2_meaning.specs.Access.{Access, OneByOne}
-use Rattle.h2_meaning.specs.Directory.{IsEntry, IsDirectory}
+use Rattle.h2_inode.specs.Access.{Access, OneByOne}
+use Rattle.h2_inode.specs.Directory.{IsEntry, IsDirectory}
 use Rattle.h2_meaning.specs.Node.{IsMember, HasMembers}
 use Rattle.h2_meaning.specs.Forest.{InTable, IsTable}
 use Rattle.h2_meaning.specs.ListLaws.{all_none, all_cons}

@@ -7,11 +7,12 @@ use Rattle.h2_forest.specs.declared.table.Node.{Node}
 use Rattle.h2_forest.specs.Table.{Table}
 use Rattle.h2_forest.specs.declared.pfs.Pfs.{Pfs}
 use Rattle.h2_forest.specs.Forest.{PlainForest}
-use Rattle.h2_meaning.specs.Access.{Access}
-use Rattle.h2_meaning.specs.Contents.{IsContents}
-use Rattle.h2_meaning.specs.Directory.{IsEntry, IsDirectory}
+use Rattle.h2_inode.specs.Access.{Access}
+use Rattle.h2_inode.specs.Contents.{IsContents}
+use Rattle.h2_inode.specs.Directory.{IsEntry, IsDirectory}
 use Rattle.h2_meaning.specs.Node.{IsMember, HasMembers}
-use Rattle.h2_meaning.specs.Forest.{InTable, ListedPfs, IsTable, IsPfsList, IsForest}
+use Rattle.h2_inode.specs.PfsList.{ListedPfs, IsPfsList}
+use Rattle.h2_meaning.specs.Forest.{InTable, IsTable, IsForest}
 use Rattle.h2_meaning.specs.Following.{Passage}
 
 -- a tree stands for the bytes of one file of a size at most, for one directory, one table, one list of PFSs, and

@@ -1,6 +1,4 @@
-pub mod Access
-pub mod Contents
-pub mod Directory
+pub mod Embedded
 pub mod Node
 pub mod FileTree
 pub mod Forest

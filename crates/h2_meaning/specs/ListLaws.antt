@@ -5,7 +5,7 @@ use Rattle.std.proofs.lemmas.Option.{none-some, same_Some}
 use Rattle.std.proofs.lemmas.Nat.{pow_pos}
 use Rattle.h2_ref.specs.declared.reference.Ref.{Ref}
 use Rattle.h2_set.specs.Ranges.{find, holds, limit, Rising}
-use Rattle.h2_meaning.specs.Access.{OneByOne}
+use Rattle.h2_inode.specs.Access.{OneByOne}
 use Rattle.h2_meaning.specs.Following.{SameLeaf}
 
 -- Lists one by one

@@ -19,7 +19,7 @@ use Rattle.h2_inode.specs.InodeLaws.{InodeBytes-same}
 use Rattle.h2_set.specs.SetBytesLaws.{SetBytes-same}
 use Rattle.h2_inode.specs.Block.{HasCheck, IsInodeBlock, IsSetBlock, IsContentBlock, IsNameBlock, HoldsRefs, by_inode, by_set, refs_of_body}
 use Rattle.h2_forest.specs.Forest.{PlainForest}
-use Rattle.h2_meaning.specs.Access.{OneByOne}
+use Rattle.h2_inode.specs.Access.{OneByOne}
 use Rattle.h2_meaning.specs.Following.{Follows}
 use Rattle.h2_meaning.specs.Forest.{IsForest}
 use Rattle.h2_meaning.specs.ListLaws.{all_head, all_tail, all_cons, all_none, all_append}

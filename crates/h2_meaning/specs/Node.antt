@@ -9,9 +9,10 @@ use Rattle.h2_inode.specs.declared.inode.Body.TheVariants.{Refs, Bytes}
 use Rattle.h2_inode.specs.declared.inode.Inode.{Inode}
 use Rattle.h2_forest.specs.declared.table.Node.{Node}
 use Rattle.h2_forest.specs.declared.table.Node.TheVariants.{File, Directory}
-use Rattle.h2_meaning.specs.Access.{Access, HasLeaves, OneByOne}
-use Rattle.h2_meaning.specs.Contents.{IsContents, IsEmbedded}
-use Rattle.h2_meaning.specs.Directory.{IsDirectory}
+use Rattle.h2_inode.specs.Access.{Access, HasLeaves, OneByOne}
+use Rattle.h2_inode.specs.Contents.{IsContents}
+use Rattle.h2_meaning.specs.Embedded.{IsEmbedded}
+use Rattle.h2_inode.specs.Directory.{IsDirectory}
 
 -- Target says which numbers an entry may name, by what it says of the kind: 1 for a directory, 2 for a file.
 module _ (a : Access) (Target : ℕ → ℕ → Type 0) where

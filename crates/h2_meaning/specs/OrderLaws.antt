@@ -3,9 +3,10 @@ use Rattle.std.specs.Prelude.{◌<◌, ℕ, ◌^◌, List, AllPairs}
 use Rattle.h2_forest.specs.declared.table.Node.{Node}
 use Rattle.h2_forest.specs.declared.pfs.Pfs.{Pfs}
 use Rattle.h2_forest.specs.Forest.{PlainForest}
-use Rattle.h2_meaning.specs.Access.{Access}
+use Rattle.h2_inode.specs.Access.{Access}
 use Rattle.h2_meaning.specs.Node.{IsMember, HasMembers}
-use Rattle.h2_meaning.specs.Forest.{ListedPfs, IsPfs, IsPfsList, IsWhole, IsForest}
+use Rattle.h2_inode.specs.PfsList.{ListedPfs, IsPfs, IsPfsList}
+use Rattle.h2_meaning.specs.Forest.{IsWhole, IsForest}
 use Rattle.h2_meaning.specs.ListLaws.{keys_ascend}
 
 -- the numbers of members ascend

@@ -3,7 +3,7 @@ use Rattle.std.specs.Prelude.{◌≡◌, ℕ, List}
 use Rattle.h2_num.specs.Places.{Places, SameBelow}
 use Rattle.h2_ref.specs.declared.reference.Ref.{Ref}
 use Rattle.h2_inode.specs.declared.inode.Inode.{Inode}
-use Rattle.h2_meaning.specs.Access.{Access}
+use Rattle.h2_inode.specs.Access.{Access}
 
 -- a tree has one list of leaves at most; a leaf names one inode with one tree, has one name, and one block
 pub record IsSingle (a : Access) : Type 0 where

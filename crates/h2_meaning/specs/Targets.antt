@@ -6,7 +6,7 @@ use Rattle.h2_inode.specs.declared.inode.Body.{Body}
 use Rattle.h2_inode.specs.declared.inode.Body.TheVariants.{Refs, Bytes}
 use Rattle.h2_inode.specs.declared.inode.Inode.{Inode}
 use Rattle.h2_forest.specs.declared.table.Node.{Node}
-use Rattle.h2_meaning.specs.Access.{Access, OneByOne}
+use Rattle.h2_inode.specs.Access.{Access, OneByOne}
 use Rattle.h2_meaning.specs.Node.{HasMembers}
 use Rattle.h2_meaning.specs.Following.{SameBody, SameInode, Follows, itself}
 use Rattle.h2_meaning.specs.CarryLaws.{members_carried}

@@ -2,9 +2,10 @@ ghost use Rattle.std.specs.Prelude.{◌<◌, ◌≤◌, ℕ, List, [], ◌∷◌
 ghost use Rattle.std.specs.FinMap as map;
 ghost use Rattle.h2_dirkey.specs.Name.{IsName};
 ghost use Rattle.h2_forest.specs.Forest.{fresh};
-ghost use Rattle.h2_meaning.specs.Contents.{IsContents};
-ghost use Rattle.h2_meaning.specs.Directory.{IsDirectory};
-ghost use Rattle.h2_meaning.specs.Forest.{IsPfsList, IsForest};
+ghost use Rattle.h2_inode.specs.Contents.{IsContents};
+ghost use Rattle.h2_inode.specs.Directory.{IsDirectory};
+ghost use Rattle.h2_inode.specs.PfsList.{IsPfsList};
+ghost use Rattle.h2_meaning.specs.Forest.{IsForest};
 ghost use Rattle.h2_meaning.specs.Single.{IsSingle};
 ghost use Rattle.h2_meaning.specs.Following.{Follows};
 ghost use Rattle.h2_meaning.specs.Example.{new_volume, listed_root, unchanged, one_block, content_leaf, entry_leaf, IsSecond};

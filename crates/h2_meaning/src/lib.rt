@@ -1,12 +1,12 @@
 //! What the trees of references of a volume stand for: files, directories, tables of PFSs, and the forest.
 //!
-//! The crate has definitions and laws alone. A reading (`Access` in `specs/Access`) says how trees are read, be
-//! it from the bytes of an image or from loaded nodes over one. Over any reading, `specs/Contents` says which
-//! bytes a file's tree stands for, `specs/Directory` which entries, `specs/Node` which inodes, and
-//! `specs/Forest` which list of PFSs the super-root's tree stands for, whatever their trees hold, which table a
-//! PFS's tree, and which forest all of them; the forest is the plain one of `h2_forest`. `specs/FileTree` says what holds of every table, whatever it is read from. The laws
-//! stand on functions with empty bodies: a tree stands for one thing at most, and it stands for the same in a
-//! second reading that gives whatever the first one gives (`specs/Following`).
+//! The crate has definitions and laws alone. A reading (`Access` of `h2_inode`) says how trees are read, be it from
+//! the bytes of an image or from loaded nodes over one. `h2_inode` says which bytes a file's tree stands for, which
+//! entries a directory's, and which list of PFSs the super-root's, whatever their trees hold. Over these,
+//! `specs/Node` says which inodes a PFS's tree stands for, and `specs/Forest` which table, and which forest all of
+//! the trees; the forest is the plain one of `h2_forest`. `specs/FileTree` says what holds of every table, whatever
+//! it is read from. The laws stand on functions with empty bodies: a tree stands for one thing at most, and it
+//! stands for the same in a second reading that gives whatever the first one gives (`specs/Following`).
 #![tactic(auto)]
 
 mod change;

@@ -4,8 +4,7 @@ use Rattle.h2_num.specs.Places.{Places}
 use Rattle.h2_ref.specs.declared.reference.Kind.TheVariants.{Content}
 use Rattle.h2_ref.specs.declared.reference.Ref.{Ref}
 use Rattle.h2_set.specs.Ranges.{find}
-use Rattle.h2_contents.specs.Bytes.{read_at}
-use Rattle.h2_meaning.specs.Access.{Access, HasLeaves}
+use Rattle.h2_inode.specs.Access.{Access, HasLeaves}
 
 -- the leaf's block has the 16384 bytes of the file from its key on; past the file's end these are zeros
 pub record IsPart (a : Access) (t : a.Tree) (size : ℕ) (bytes : List ℕ) (r : Ref) : Type 0 where
@@ -23,9 +22,4 @@ pub record IsContents (a : Access) (t : a.Tree) (size : ℕ) (bytes : List ℕ) 
   pub has : HasLeaves a t leaves
   pub parts : All (IsPart a t size bytes) leaves
   pub holes : (k : ℕ) → find k leaves ≡ None → slice_index bytes k ≡ 0
-  pub sized : length bytes ≡ size
-
--- the bytes of a file of this size stand at the beginning of its inode's body
-pub record IsEmbedded (size : ℕ) (body bytes : List ℕ) : Type 0 where
-  pub bytes_are : bytes ≡ read_at body 0 size
   pub sized : length bytes ≡ size

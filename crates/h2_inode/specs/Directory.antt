@@ -1,12 +1,17 @@
 -- What a directory's tree stands for: its entries.
 use Rattle.std.specs.Prelude.{◌≡◌, ◌≢◌, ◌≤◌, ◌⊎◌, ℕ, List, length, take, AllPairs, Some}
-use Rattle.std.specs.FinMap.{from_entries}
+use Rattle.std.specs.Ordering.{nat_cmp}
+use Rattle.std.specs.Cmp.Lexicographic.{slice_cmp}
+use Rattle.std.specs.FinMap.{FinMap, from_entries}
 use Rattle.h2_ref.specs.declared.reference.Kind.TheVariants.{Dirent as Entry_kind}
 use Rattle.h2_ref.specs.declared.reference.Dirent.{Dirent}
 use Rattle.h2_ref.specs.declared.reference.Ref.{Ref}
 use Rattle.h2_dirkey.specs.Key.{IsNameUnder}
-use Rattle.h2_forest.specs.Node.{Entries}
-use Rattle.h2_meaning.specs.Access.{Access, HasLeaves, OneByOne}
+use Rattle.h2_inode.specs.Access.{Access, HasLeaves, OneByOne}
+
+-- the entries of a directory: an inode number for each name, in byte order
+abbrev pub Entries : Type 0
+Entries = FinMap (slice_cmp nat_cmp) ℕ
 
 -- a name of at most 64 bytes stands in its entry, and a longer one in a block of its own
 abbrev pub IsNameOf : (a : Access) → a.Tree → Ref → Dirent → List ℕ → Type 0
