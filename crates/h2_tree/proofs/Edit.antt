@@ -138,7 +138,7 @@ module _ (f h : Forest) (at : ℕ) (leaf : Ref) (sound : IsSound f) (stands : f.
   pub places : (g : Forest) → NoneHolds leaf.key (refs f at) → (let s = f.set at in length s.refs < s.capacity) → (copy got s : RefSet) → copy ≡ got → got ≡ h.set at → s ≡ record { refs = put leaf copy.refs; capacity = copy.capacity } → Stores h g at s → TakesIn f g at leaf 0 None
   places g miss room copy got s e1 e2 e3 stores =
       let same = own_set f h at sound stands alters in
-      placed (record { none = miss; apart = apart_node f at leaf (sound.node at stands) takes miss; space = room; link = links g s stores; set = stores.set ∙ e3 ∙ ap (λ (s : RefSet). let t : RefSet = record { refs = put leaf s.refs; capacity = s.capacity } in t) (e1 ∙ e2 ∙ same) })
+      placed (record { none = miss; apart = apart_node f at leaf (sound.node at stands) takes miss; space = room; none_new = λ m st. alters.none_new m (stores.none_new m st); link = links g s stores; set = stores.set ∙ e3 ∙ ap (λ (s : RefSet). let t : RefSet = record { refs = put leaf s.refs; capacity = s.capacity } in t) (e1 ∙ e2 ∙ same) })
 
   pub replaces : (g : Forest) (i : ℕ) (q : Ref) → IsSameAt (refs f at) i leaf → (copy got s : RefSet) → copy ≡ got → got ≡ h.set at → s ≡ record { refs = slice_set copy.refs i leaf; capacity = copy.capacity } → slice_get copy.refs i ≡ Some q → Stores h g at s → TakesIn f g at leaf 0 (Some q)
   replaces g i q facts copy got s e1 e2 e3 read stores =
@@ -151,6 +151,7 @@ module _ (f h : Forest) (at : ℕ) (leaf : Ref) (sound : IsSound f) (stands : f.
         leaf_was = it.0;
         key = it.1;
         keybits = it.2;
+        none_new = λ m st. alters.none_new m (stores.none_new m st);
         link = links g s stores;
         set = stores.set ∙ e3 ∙ ap (λ (s : RefSet). let t : RefSet = record { refs = slice_set s.refs i leaf; capacity = s.capacity } in t) (e1 ∙ e2 ∙ same);
       })

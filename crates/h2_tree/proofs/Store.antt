@@ -9,6 +9,7 @@ use Rattle.h2_set.specs.ChangeLaws.{Keeps-Stays, Keeps-trans, Same-Keeps, below_
 use Rattle.h2_set.specs.RenewLaws.{Keeps-Renews, Renews-trans}
 use Rattle.h2_tree.specs.Changes.{Under, Takes, TakesIn, arrived, Inserts}
 use Rattle.h2_tree.proofs.Going.{changes_only, Prepares-refl, none_empty}
+use Rattle.h2_tree.proofs.Touching.{Touched-refl}
 
 -- the set s is that of node at with the leaf, and lacks no key
 pub record WithLeaf (f : Forest) (at : ℕ) (leaf : Ref) (s : RefSet) : Type 0 where
@@ -28,6 +29,7 @@ pub leaf_fits : (f h : Forest) (at : ℕ) (leaf : Ref) → f.stands at ≡ true 
 leaf_fits f h at leaf stands takes alters =
     let here = alters.tree at stands refl in
     record {
+      held = takes.held;
       aligned = takes.aligned;
       class = takes.class;
       leaf = λ _. takes.keybits ∙ sym (alters.fixed.leaf_bits (f.root at)) ∙ ap h.leaf_bits (sym here.place.root);
@@ -100,6 +102,7 @@ module _ (f h : Forest) (at : ℕ) (leaf : Ref) (s : RefSet) (sound : IsSound f)
         goes = record {
           then = f;
           prepares = Prepares-refl f sound;
+          touched = Touched-refl f leaf.key leaf.key;
           node = at;
           stands = stands;
           way = arrived;

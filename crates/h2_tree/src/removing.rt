@@ -63,6 +63,7 @@ fn take<N: Sets>(alloc: Global, n: &mut N, at: NodeId, key: u64) -> Result<Taken
     ensures taken { IfOk result (TakesOut (N.forest n.old) (N.forest n.new) at.0 key) }
     ensures walks { OnErr result (Walks (N.forest n.old) (N.forest n.new)) }
     ensures err { IfErr result (HasCause (N.forest n.old) (N.forest n.new)) }
+    ensures touched { OnErr result (LoadsTouched (N.forest n.old) (N.forest n.new) key key) }
     ensures unloaded { OnErr result (PathUnloaded (N.forest n.old) at.0 key) }
     ensures beside { KeepsBeside (N.forest n.old) (N.forest n.new) (N.beside n.old) (N.beside n.new) }
     ensures later { N.later n.old n.new }
@@ -87,7 +88,8 @@ fn take<N: Sets>(alloc: Global, n: &mut N, at: NodeId, key: u64) -> Result<Taken
 }
 
 /// Takes out the leaf with this key, which is answered; None exactly where there is none, and then nothing but loads
-/// took place. What the leaf names isn't held, and the room is at least 62; it is lowered by the number of nodes that
+/// took place, and the loaded path of the key leads to no leaf of this key. No node off that path is loaded. What the
+/// leaf names isn't held, and the room is at least 62; it is lowered by the number of nodes that
 /// are copied. Of the tree nothing goes but indirect blocks that would be left empty: the reference to the uppermost of
 /// them is cut. Paths to other keys stay loaded. Trouble only where a node on the key's path isn't loaded; nothing but
 /// loads took place then.

@@ -1,10 +1,13 @@
-use Rattle.std.proofs.Common.{◌≡◌, true, false, Some, slice_get, arith, sym, ◌∙◌, subst}
+use Rattle.std.proofs.Common.{◌≡◌, true, false, Some, None, slice_get, arith, ap, sym, ◌∙◌, subst}
+use Rattle.std.proofs.lemmas.Option.{none-some, same_Some}
+use Rattle.h2_ref.specs.declared.reference.Ref.{Ref}
 use Rattle.h2_set.specs.Ranges.{is_indirect}
-use Rattle.h2_set.specs.Forest.{refs}
+use Rattle.h2_set.specs.Forest.{refs, nowhere, here}
 use Rattle.h2_set.specs.StayLaws.{Walks-trans}
 use Rattle.h2_set.specs.LeafLaws.{find_none, find_here, leaves_rising}
 use Rattle.h2_tree.proofs.Answering.{always_err, beside_on}
 use Rattle.h2_tree.proofs.Climb.{reaches_loaded}
+use Rattle.h2_tree.proofs.Touching.{Touched-refl, Touched-trans, touched_load}
 use Rattle.h2_tree.specs.Changes.{TakesOut, itself}
 use Rattle.h2_tree.specs.declared.removing.Taken.TheVariants.{Nothing, Out, Sole}
 use Rattle.h2_tree.proofs.Taking.{under_refl, at_key_none, at_key_other}
@@ -18,6 +21,8 @@ returns-in_default-clause-taken g t c = (
   λ l hl.
       let node = c.requires.sound.node c.args.at.0 c.requires.stands in
       at_key_none c.args.key _ _ l (leaves_rising hl _ _ node.inside) (find_none c.args.key hl (rw c.get-set.ensures at c.in_default.ensures.absent)),
+  Touched-refl _ _ _,
+  record { found = None; path = nowhere (rw c.get-set.ensures at c.in_default.ensures.absent); other = λ r e is. none-some r e },
 )
 
 pub returns-then-found-key-clause-taken : goal.returns-then-found-key-clause-taken
@@ -30,6 +35,12 @@ returns-then-found-key-clause-taken g t c =
       λ l hl.
           let node = c.requires.sound.node c.args.at.0 c.requires.stands in
           at_key_other c.args.key _ _ l c.at.result.now (leaves_rising hl _ _ node.inside) (find_here c.args.key _ _ c.in-Some.i c.at.result.now hl node.inside read in_r leaf) (omega (arith, c.if-found-key.true)),
+      Touched-refl _ _ _,
+      record {
+        found = Some c.at.result.now;
+        path = here c.in-Some.i read in_r leaf;
+        other = λ r e is. let same : c.at.result.now.key ≡ r.key = ap (λ (x : Ref). x.key) (same_Some c.at.result.now r e) in omega (arith, c.if-found-key.true, same, is);
+      },
     )
 
 pub cut_unless_sole-requires-clause-only : goal.cut_unless_sole-requires-clause-only
@@ -47,6 +58,30 @@ returns-in_err-child-clause-unloaded g t c =
     let in_r = c.in-Some.ensures.found.holds _ c.at.ensures in
     let ind : is_indirect c.at.result.now ≡ true = sym c.is_indirect.ensures ∙ c.if-not-is_indirect.false in
     always_err c.from_residual.result (λ o reached. reaches_loaded f c.args.key c.args.at.0 c.in-Some.i c.at.result.now o c.requires.sound c.requires.stands read in_r ind c.in_err-child.ensures.unloaded reached)
+
+pub returns-in_err-child-clause-touched : goal.returns-in_err-child-clause-touched
+returns-in_err-child-clause-touched g t c =
+    let f = g.N.Sets.forest c.args.n.now in
+    let read : slice_get (refs f c.args.at.0) c.in-Some.i ≡ Some c.at.result.now = rw c.get-set.ensures at c.at.ensures in
+    let in_r = c.in-Some.ensures.found.holds _ c.at.ensures in
+    let ind : is_indirect c.at.result.now ≡ true = sym c.is_indirect.ensures ∙ c.if-not-is_indirect.false in
+    let child = c.in_err-child.ensures in
+    always_err c.from_residual.result (touched_load _ _ c.args.at.0 c.in-Some.i c.at.result.now _ _ c.requires.stands read ind in_r child.walks (child.loads _ read))
+
+pub returns-in_err-leaf-clause-touched : goal.returns-in_err-leaf-clause-touched
+returns-in_err-leaf-clause-touched g t c =
+    let f = g.N.Sets.forest c.args.n.now in
+    let read : slice_get (refs f c.args.at.0) c.in-Some.i ≡ Some c.at.result.now = rw c.get-set.ensures at c.at.ensures in
+    let in_r = c.in-Some.ensures.found.holds _ c.at.ensures in
+    let ind : is_indirect c.at.result.now ≡ true = sym c.is_indirect.ensures ∙ c.if-not-is_indirect.false in
+    let child = c.in_ok-child.ensures in
+    always_err c.from_residual-in_err-leaf.result (Touched-trans _ _ _ _ _ c.in_err-leaf.ensures.walks (touched_load _ _ c.args.at.0 c.in-Some.i c.at.result.now _ _ c.requires.stands read ind in_r child.walks (child.loads _ read)) c.in_err-leaf.ensures.touched)
+
+pub returns-in-Sole-clause-later : goal.returns-in-Sole-clause-later
+returns-in-Sole-clause-later g t c = g.met.N.Sets.later_later _ _ _ (g.met.N.Sets.later_later _ _ _ c.in_ok-child.ensures.later c.in_ok-leaf.ensures.later) c.cut_unless_sole-in-Sole.ensures.later
+
+pub returns-in-Out-clause-later : goal.returns-in-Out-clause-later
+returns-in-Out-clause-later g t c = g.met.N.Sets.later_later _ _ _ c.in_ok-child.ensures.later c.in_ok-leaf.ensures.later
 
 pub take-requires : goal.take-requires
 take-requires g t c κs within =
