@@ -16,10 +16,11 @@ use Rattle.h2_set.specs.RenewLaws.{Keeps-Renews, Renews-trans, Alike-length}
 use Rattle.h2_set.specs.CutLaws.{leaves_cut, leaves_drop}
 use Rattle.h2_tree.specs.Changes.{Under, LeadsOnly, itself, down, IsFree, arrived, GoesAway, below_it, named, Removes}
 use Rattle.h2_tree.proofs.Going.{own_set, altered_place, changes_only, none_empty}
-use Rattle.h2_tree.proofs.Climb.{same_holder}
-use Rattle.h2_tree.proofs.Only.{in_holds, sole_leaves, only_holds, only_reaches, only_altered}
+use Rattle.h2_tree.proofs.Only.{sole_leaves, only_holds, only_reaches, only_altered}
 use Rattle.h2_tree.proofs.Taking.{only_path}
 use Rattle.h2_tree.proofs.Touching.{Touched-refl}
+use Rattle.h2_set.specs.PathLaws.{same_holder}
+use Rattle.h2_set.specs.PathLaws.{in_holds}
 
 -- the set of node at without the reference at place i
 abbrev pub set_without : Forest → ℕ → ℕ → RefSet
