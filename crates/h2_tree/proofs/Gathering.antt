@@ -1,8 +1,7 @@
 -- Leaves that are gathered one reference after another.
-use Rattle.std.proofs.Common.{◌≡◌, ℕ, ◌+◌, ◌<◌, ◌≤◌, ◌^◌, ◌⊎◌, inl, inr, Bool, true, false, arith, refl, sym, ◌∙◌, ap, cond, List, [], ◌∷◌, ◌++◌, take, Some, subst, slice_get, append_assoc, suc, zero}
+use Rattle.std.proofs.Common.{◌≡◌, ℕ, ◌+◌, ◌≤◌, ◌^◌, inl, inr, Bool, true, false, arith, refl, sym, ◌∙◌, ap, cond, List, [], ◌∷◌, ◌++◌, take, Some, subst, slice_get, append_assoc, suc, zero}
 use Rattle.std.specs.Prelude.{filter}
 use Rattle.std.proofs.lemmas.Nat.{pow_pos}
-use Rattle.std.proofs.lemmas.Bool.Decides.{nat_tests}
 use Rattle.std.proofs.lemmas.List.{append-nil, take_more}
 use Rattle.std.proofs.lemmas.Option.{none-some, slice_get_within, get_or_from_slice_get}
 use Rattle.h2_ref.specs.declared.reference.Ref.{Ref}
@@ -14,29 +13,10 @@ use Rattle.h2_set.specs.LeafLaws.{Rising-low, Rising-append, place_above}
 use Rattle.h2_set.specs.SplitLaws.{below_high}
 use Rattle.h2_tree.specs.Changes.{is_between, touches, RangeUnloaded, missing, deeper, Lists}
 use Rattle.h2_tree.specs.Listing.{Gathers, done, skipped, taken, entered, Adds}
-use Rattle.h2_tree.proofs.Only.{in_holds}
-use Rattle.h2_tree.proofs.Paths.{filter_from}
-
--- r is in the list
-abbrev pub In : List Ref → Ref → Type 0
-In l r = (i : ℕ) × (slice_get l i ≡ Some r)
-
-pub has_right : (a b : List Ref) (r : Ref) → In b r → In (a ++ b) r
-has_right [] b r it = it
-has_right (x ∷ a) b r it = let rest = has_right a b r it in (suc rest.0, rest.1)
-
-pub has_left : (a b : List Ref) (r : Ref) (i : ℕ) → slice_get a i ≡ Some r → In (a ++ b) r
-has_left [] b r i read = absurd (none-some r read)
-has_left (x ∷ a) b r zero read = (0, read)
-has_left (x ∷ a) b r (suc i) read = let rest = has_left a b r i read in (suc rest.0, rest.1)
-
-pub has_either : (a b : List Ref) (r : Ref) (i : ℕ) → slice_get (a ++ b) i ≡ Some r → In a r ⊎ In b r
-has_either [] b r i read = inr (i, read)
-has_either (x ∷ a) b r zero read = inl (0, read)
-has_either (x ∷ a) b r (suc i) read = elim (has_either a b r i read) as (λ _. In (x ∷ a) r ⊎ In b r) [
-  | inl it ↦ inl (suc it.0, it.1)
-  | inr it ↦ inr it
-]
+use Rattle.h2_set.specs.PathLaws.{in_holds}
+use Rattle.h2_tree.specs.ListLaws.{filter_from}
+use Rattle.h2_tree.specs.TreeLaws.{between_touches}
+use Rattle.h2_tree.specs.ListLaws.{In, has_right, has_left, has_either}
 
 -- all of rs stand in node at
 abbrev StandsIn : Forest → ℕ → List Ref → Type 0
@@ -102,10 +82,6 @@ adds_entered f from to at c out next r ind link inner = record {
   gathers = entered ind link inner.gathers done;
   all = inner.all ∙ ap (λ (z : List Ref). out ++ z) (sym (append-nil inner.more));
 }
-
--- a key between, in the range of a reference
-pub between_touches : (from to : ℕ) (q x : Ref) → is_between from to q ≡ true → x.key ≤ q.key → q.key < limit x → touches from to x ≡ true
-between_touches from to q x mid low high = grind (arith, nat_tests)
 
 -- the leaf itself
 pub own_key : (r : Ref) → holds r.key r ≡ true

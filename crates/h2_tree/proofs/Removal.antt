@@ -16,10 +16,11 @@ use Rattle.h2_set.specs.RenewLaws.{Keeps-Renews, Renews-trans, Alike-length}
 use Rattle.h2_set.specs.CutLaws.{leaves_cut, leaves_drop}
 use Rattle.h2_tree.specs.Changes.{Under, LeadsOnly, itself, down, IsFree, arrived, GoesAway, below_it, named, Removes}
 use Rattle.h2_tree.proofs.Going.{own_set, altered_place, changes_only, none_empty}
-use Rattle.h2_tree.proofs.Climb.{same_holder}
-use Rattle.h2_tree.proofs.Only.{in_holds, sole_leaves, only_holds, only_reaches, only_altered}
+use Rattle.h2_tree.proofs.Only.{sole_leaves, only_holds, only_reaches, only_altered}
 use Rattle.h2_tree.proofs.Taking.{only_path}
 use Rattle.h2_tree.proofs.Touching.{Touched-refl}
+use Rattle.h2_set.specs.PathLaws.{same_holder}
+use Rattle.h2_set.specs.PathLaws.{in_holds}
 
 -- the set of node at without the reference at place i
 abbrev pub set_without : Forest → ℕ → ℕ → RefSet
@@ -75,7 +76,7 @@ module _ (f h : Forest) (at i : ℕ) (leaf : Ref) (sound : IsSound f) (stands : 
         let there : slice_get (refs h at) i ≡ Some loses.lost = subst (λ z. slice_get (refs h at) z ≡ Some loses.lost) same loses.was in
         let is : loses.lost ≡ q = cc (there, read) in
         subst (λ (y : Ref). holds key y ≡ true) is loses.held
-    | inr differs ↦ let kept = remove_keeps (refs h at) i loses.place loses.lost loses.was differs in absurd (loses.lacks kept.0 loses.lost kept.1 refl)
+    | inr differs ↦ let kept = remove_keeps (refs h at) i loses.place loses.lost loses.was differs in absurd (loses.lacks kept.0 loses.lost kept.1 refl refl)
   ]
 
   -- and what it names goes with it
@@ -150,7 +151,7 @@ module _ (f h : Forest) (at i : ℕ) (leaf : Ref) (sound : IsSound f) (stands : 
     place = i;
     lost = q;
     was = read;
-    lacks = λ j r read' same_key. remove_lacks _ _ (refs h at) i j q r node.inside read read' same_key;
+    lacks = λ j r read' same_key alike. remove_lacks _ _ (refs h at) i j q r node.inside read read' same_key;
     held = in_q;
   }
 
@@ -197,7 +198,7 @@ module _ (f h : Forest) (at i : ℕ) (leaf : Ref) (sound : IsSound f) (stands : 
             let pos = pow_pos (h.bits m) in
             let in_r = in_holds (h.low m) r p.2 (omega (arith, p.3, pos)) in
             let same = same_holder _ _ (h.low m) (refs h at) old.0 goes.loses.place r goes.loses.lost node.inside old.1 goes.loses.was in_r goes.loses.held in
-            goes.loses.lacks j r read' (ap (λ (y : Ref). y.key) (sym same)) in
+            goes.loses.lacks j r read' (ap (λ (y : Ref). y.key) (sym same)) (ap (λ (y : Ref). is_indirect y) (sym same)) in
             let stay' : (m : ℕ) → Q m → Stays h g m = λ m p. Keeps-Stays h g m (others m p.0 p.1 (λ e. let same = ap h.bits e in omega (arith, p.4, same)) (apart m p)) in
             let start : Q d = (kid.stands, kid.root, omega (arith, kid.low), omega (arith, kid.low, ap (λ z. 2 ^ z) bits_d), kid.fewer) in
             let it : KeepsLeaves h g d = λ l hl. leaves_stay h g Q closed' stay' start hl (refs g d) (stay' d start).alike in

@@ -11,8 +11,9 @@ use Rattle.h2_set.specs.LeafLaws.{leaves_rising, holds_inside, reaches_find}
 use Rattle.h2_set.specs.ChangeLaws.{Keeps-refl, Keeps-trans}
 use Rattle.h2_set.specs.RenewLaws.{Keeps-Renews, Renews-trans}
 use Rattle.h2_tree.specs.Changes.{Under, WalksUnder, LeadsOnly, itself, down, IsFree, LoadsTouched, Removes}
-use Rattle.h2_tree.proofs.Only.{only_holds, in_holds}
+use Rattle.h2_tree.proofs.Only.{only_holds}
 use Rattle.h2_tree.proofs.Touching.{Touched-trans}
+use Rattle.h2_set.specs.PathLaws.{in_holds}
 
 -- the leaf that was found, where it has the very key
 abbrev pub keyed : ℕ → Option Ref → Option Ref

@@ -4,6 +4,7 @@ ghost use Rattle.h2_set.specs.Ranges.{find, is_indirect, NoneHolds};
 ghost use Rattle.h2_set.specs.Forest.{Forest, refs, IsSound, Walks, HasCause, LeavesOf, Reaches, KeepsBeside, ReadiesOnly};
 ghost use Rattle.h2_tree.specs.Changes.{Takes, Inserts, KeepsPaths, LoadsTouched, PathUnloaded};
 
+use crate::loading::load_child;
 use h2_num::NoMemory;
 use h2_ref::{Ref, Trouble};
 use h2_set::{NodeId, PutAnswer, Sets, is_indirect};
@@ -127,6 +128,6 @@ pub fn insert<N: Sets>(
     if !is_indirect(set.at(i)) {
         return Ok(Some(replace(n, root, i, leaf)));
     }
-    let child = n.child(alloc, root, i)?;
+    let child = load_child(alloc, n, root, i)?;
     insert(alloc, n, child, leaf)
 }

@@ -4,6 +4,7 @@ ghost use Rattle.h2_set.specs.Ranges.{at_key, is_indirect};
 ghost use Rattle.h2_set.specs.Forest.{Forest, refs, IsSound, Walks, HasCause, LeavesOf, Reaches, KeepsBeside};
 ghost use Rattle.h2_tree.specs.Changes.{IsFree, LeadsOnly, Removes, KeepsPaths, TakesOut, LacksLeaf, LoadsTouched, PathUnloaded};
 
+use crate::loading::load_child;
 use h2_ref::{Ref, Trouble};
 use h2_set::{NodeId, Sets, is_indirect};
 use std::alloc::Global;
@@ -79,7 +80,7 @@ fn take<N: Sets>(alloc: Global, n: &mut N, at: NodeId, key: u64) -> Result<Taken
         }
         return Ok(cut_unless_sole(n, at, i, found));
     }
-    let child = n.child(alloc, at, i)?;
+    let child = load_child(alloc, n, at, i)?;
     match take(alloc, n, child, key)? {
         Taken::Sole(leaf) => Ok(cut_unless_sole(n, at, i, leaf)),
         Taken::Out(leaf) => Ok(Taken::Out(leaf)),

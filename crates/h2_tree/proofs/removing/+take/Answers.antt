@@ -114,7 +114,7 @@ cut_unless_sole-requires-in-Sole-clause-only g t c =
     let in_r = c.in-Some.ensures.found.holds _ c.at.ensures in
     let ind : is_indirect c.at.result.now ≡ true = sym c.is_indirect.ensures ∙ c.if-not-is_indirect.false in
     let child = c.in_ok-child.ensures in
-    let taken : TakesOut (g.N.Sets.forest c.child.new.self) (g.N.Sets.forest c.take.new.n) c.in_ok-child.child.0 c.args.key (Sole c.in-Sole.leaf) = subst (λ t. TakesOut (g.N.Sets.forest c.child.new.self) (g.N.Sets.forest c.take.new.n) c.in_ok-child.child.0 c.args.key t) c.in-Sole.is c.in_ok-leaf.ensures.taken in
+    let taken : TakesOut (g.N.Sets.forest c.load_child.new.n) (g.N.Sets.forest c.take.new.n) c.in_ok-child.child.0 c.args.key (Sole c.in-Sole.leaf) = subst (λ t. TakesOut (g.N.Sets.forest c.load_child.new.n) (g.N.Sets.forest c.take.new.n) c.in_ok-child.child.0 c.args.key t) c.in-Sole.is c.in_ok-leaf.ensures.taken in
     only_sole _ _ _ _ _ c.args.key c.at.result.now c.requires.sound c.requires.stands read ind in_r child.walks (child.loads _ read) (child.ok _ read) _ c.in-Sole.leaf taken
 
 pub cut_unless_sole-requires-in-Sole-clause-free : goal.cut_unless_sole-requires-in-Sole-clause-free
@@ -124,7 +124,7 @@ cut_unless_sole-requires-in-Sole-clause-free g t c =
     let in_r = c.in-Some.ensures.found.holds _ c.at.ensures in
     let ind : is_indirect c.at.result.now ≡ true = sym c.is_indirect.ensures ∙ c.if-not-is_indirect.false in
     let child = c.in_ok-child.ensures in
-    let taken : TakesOut (g.N.Sets.forest c.child.new.self) (g.N.Sets.forest c.take.new.n) c.in_ok-child.child.0 c.args.key (Sole c.in-Sole.leaf) = subst (λ t. TakesOut (g.N.Sets.forest c.child.new.self) (g.N.Sets.forest c.take.new.n) c.in_ok-child.child.0 c.args.key t) c.in-Sole.is c.in_ok-leaf.ensures.taken in
+    let taken : TakesOut (g.N.Sets.forest c.load_child.new.n) (g.N.Sets.forest c.take.new.n) c.in_ok-child.child.0 c.args.key (Sole c.in-Sole.leaf) = subst (λ t. TakesOut (g.N.Sets.forest c.load_child.new.n) (g.N.Sets.forest c.take.new.n) c.in_ok-child.child.0 c.args.key t) c.in-Sole.is c.in_ok-leaf.ensures.taken in
     free_sole _ _ _ _ _ c.args.key c.at.result.now c.requires.sound c.requires.stands read ind in_r child.walks (child.loads _ read) (child.ok _ read) _ c.in-Sole.leaf taken c.requires.free
 
 pub cut_unless_sole-requires-in-Sole-clause-room : goal.cut_unless_sole-requires-in-Sole-clause-room
@@ -134,7 +134,7 @@ cut_unless_sole-requires-in-Sole-clause-room g t c =
     let in_r = c.in-Some.ensures.found.holds _ c.at.ensures in
     let ind : is_indirect c.at.result.now ≡ true = sym c.is_indirect.ensures ∙ c.if-not-is_indirect.false in
     let child = c.in_ok-child.ensures in
-    let taken : TakesOut (g.N.Sets.forest c.child.new.self) (g.N.Sets.forest c.take.new.n) c.in_ok-child.child.0 c.args.key (Sole c.in-Sole.leaf) = subst (λ t. TakesOut (g.N.Sets.forest c.child.new.self) (g.N.Sets.forest c.take.new.n) c.in_ok-child.child.0 c.args.key t) c.in-Sole.is c.in_ok-leaf.ensures.taken in
+    let taken : TakesOut (g.N.Sets.forest c.load_child.new.n) (g.N.Sets.forest c.take.new.n) c.in_ok-child.child.0 c.args.key (Sole c.in-Sole.leaf) = subst (λ t. TakesOut (g.N.Sets.forest c.load_child.new.n) (g.N.Sets.forest c.take.new.n) c.in_ok-child.child.0 c.args.key t) c.in-Sole.is c.in_ok-leaf.ensures.taken in
     room_sole _ _ _ _ _ c.args.key c.at.result.now c.requires.sound c.requires.stands read ind in_r child.walks (child.loads _ read) (child.ok _ read) _ c.in-Sole.leaf taken c.requires.room
 
 pub cut_unless_sole-requires-in-Sole-clause-stands : goal.cut_unless_sole-requires-in-Sole-clause-stands
@@ -144,7 +144,7 @@ cut_unless_sole-requires-in-Sole-clause-stands g t c =
     let in_r = c.in-Some.ensures.found.holds _ c.at.ensures in
     let ind : is_indirect c.at.result.now ≡ true = sym c.is_indirect.ensures ∙ c.if-not-is_indirect.false in
     let child = c.in_ok-child.ensures in
-    let taken : TakesOut (g.N.Sets.forest c.child.new.self) (g.N.Sets.forest c.take.new.n) c.in_ok-child.child.0 c.args.key (Sole c.in-Sole.leaf) = subst (λ t. TakesOut (g.N.Sets.forest c.child.new.self) (g.N.Sets.forest c.take.new.n) c.in_ok-child.child.0 c.args.key t) c.in-Sole.is c.in_ok-leaf.ensures.taken in
+    let taken : TakesOut (g.N.Sets.forest c.load_child.new.n) (g.N.Sets.forest c.take.new.n) c.in_ok-child.child.0 c.args.key (Sole c.in-Sole.leaf) = subst (λ t. TakesOut (g.N.Sets.forest c.load_child.new.n) (g.N.Sets.forest c.take.new.n) c.in_ok-child.child.0 c.args.key t) c.in-Sole.is c.in_ok-leaf.ensures.taken in
     ((under_sole _ _ _ _ _ c.args.key c.at.result.now c.requires.sound c.requires.stands read ind in_r child.walks (child.loads _ read) (child.ok _ read) _ c.in-Sole.leaf taken).walks.stays c.args.at.0 c.requires.stands).place.stands
 
 pub cut_unless_sole-requires-in-Sole-clause-sound : goal.cut_unless_sole-requires-in-Sole-clause-sound
@@ -154,7 +154,7 @@ cut_unless_sole-requires-in-Sole-clause-sound g t c =
     let in_r = c.in-Some.ensures.found.holds _ c.at.ensures in
     let ind : is_indirect c.at.result.now ≡ true = sym c.is_indirect.ensures ∙ c.if-not-is_indirect.false in
     let child = c.in_ok-child.ensures in
-    let taken : TakesOut (g.N.Sets.forest c.child.new.self) (g.N.Sets.forest c.take.new.n) c.in_ok-child.child.0 c.args.key (Sole c.in-Sole.leaf) = subst (λ t. TakesOut (g.N.Sets.forest c.child.new.self) (g.N.Sets.forest c.take.new.n) c.in_ok-child.child.0 c.args.key t) c.in-Sole.is c.in_ok-leaf.ensures.taken in
+    let taken : TakesOut (g.N.Sets.forest c.load_child.new.n) (g.N.Sets.forest c.take.new.n) c.in_ok-child.child.0 c.args.key (Sole c.in-Sole.leaf) = subst (λ t. TakesOut (g.N.Sets.forest c.load_child.new.n) (g.N.Sets.forest c.take.new.n) c.in_ok-child.child.0 c.args.key t) c.in-Sole.is c.in_ok-leaf.ensures.taken in
     taken.0.walks.sound
 
 pub returns-in-Sole-clause-taken : goal.returns-in-Sole-clause-taken
@@ -164,7 +164,7 @@ returns-in-Sole-clause-taken g t c =
     let in_r = c.in-Some.ensures.found.holds _ c.at.ensures in
     let ind : is_indirect c.at.result.now ≡ true = sym c.is_indirect.ensures ∙ c.if-not-is_indirect.false in
     let child = c.in_ok-child.ensures in
-    let taken : TakesOut (g.N.Sets.forest c.child.new.self) (g.N.Sets.forest c.take.new.n) c.in_ok-child.child.0 c.args.key (Sole c.in-Sole.leaf) = subst (λ t. TakesOut (g.N.Sets.forest c.child.new.self) (g.N.Sets.forest c.take.new.n) c.in_ok-child.child.0 c.args.key t) c.in-Sole.is c.in_ok-leaf.ensures.taken in
+    let taken : TakesOut (g.N.Sets.forest c.load_child.new.n) (g.N.Sets.forest c.take.new.n) c.in_ok-child.child.0 c.args.key (Sole c.in-Sole.leaf) = subst (λ t. TakesOut (g.N.Sets.forest c.load_child.new.n) (g.N.Sets.forest c.take.new.n) c.in_ok-child.child.0 c.args.key t) c.in-Sole.is c.in_ok-leaf.ensures.taken in
     taken_sole _ _ _ _ _ c.args.key c.at.result.now c.requires.sound c.requires.stands read ind in_r child.walks (child.loads _ read) (child.ok _ read) _ _ c.in-Sole.leaf _ taken c.cut_unless_sole-in-Sole.ensures.taken
 
 pub returns-in-Out-clause-taken : goal.returns-in-Out-clause-taken
@@ -174,7 +174,7 @@ returns-in-Out-clause-taken g t c =
     let in_r = c.in-Some.ensures.found.holds _ c.at.ensures in
     let ind : is_indirect c.at.result.now ≡ true = sym c.is_indirect.ensures ∙ c.if-not-is_indirect.false in
     let child = c.in_ok-child.ensures in
-    let taken : TakesOut (g.N.Sets.forest c.child.new.self) (g.N.Sets.forest c.take.new.n) c.in_ok-child.child.0 c.args.key (Out c.in-Out.leaf) = subst (λ t. TakesOut (g.N.Sets.forest c.child.new.self) (g.N.Sets.forest c.take.new.n) c.in_ok-child.child.0 c.args.key t) c.in-Out.is c.in_ok-leaf.ensures.taken in
+    let taken : TakesOut (g.N.Sets.forest c.load_child.new.n) (g.N.Sets.forest c.take.new.n) c.in_ok-child.child.0 c.args.key (Out c.in-Out.leaf) = subst (λ t. TakesOut (g.N.Sets.forest c.load_child.new.n) (g.N.Sets.forest c.take.new.n) c.in_ok-child.child.0 c.args.key t) c.in-Out.is c.in_ok-leaf.ensures.taken in
     out_below _ _ _ _ _ c.args.key c.at.result.now c.requires.sound c.requires.stands read ind in_r child.walks (child.loads _ read) (child.ok _ read) _ c.in-Out.leaf taken
 
 pub returns-in-Nothing-clause-taken : goal.returns-in-Nothing-clause-taken
@@ -184,7 +184,7 @@ returns-in-Nothing-clause-taken g t c =
     let in_r = c.in-Some.ensures.found.holds _ c.at.ensures in
     let ind : is_indirect c.at.result.now ≡ true = sym c.is_indirect.ensures ∙ c.if-not-is_indirect.false in
     let child = c.in_ok-child.ensures in
-    let taken : TakesOut (g.N.Sets.forest c.child.new.self) (g.N.Sets.forest c.take.new.n) c.in_ok-child.child.0 c.args.key (Nothing) = subst (λ t. TakesOut (g.N.Sets.forest c.child.new.self) (g.N.Sets.forest c.take.new.n) c.in_ok-child.child.0 c.args.key t) c.in-Nothing.is c.in_ok-leaf.ensures.taken in
+    let taken : TakesOut (g.N.Sets.forest c.load_child.new.n) (g.N.Sets.forest c.take.new.n) c.in_ok-child.child.0 c.args.key (Nothing) = subst (λ t. TakesOut (g.N.Sets.forest c.load_child.new.n) (g.N.Sets.forest c.take.new.n) c.in_ok-child.child.0 c.args.key t) c.in-Nothing.is c.in_ok-leaf.ensures.taken in
     nothing_below _ _ _ _ _ c.args.key c.at.result.now c.requires.sound c.requires.stands read ind in_r child.walks (child.loads _ read) (child.ok _ read) _ taken
 
 pub returns-in_err-leaf-clause-beside : goal.returns-in_err-leaf-clause-beside
@@ -206,7 +206,7 @@ returns-in-Sole-clause-beside g t c =
     let in_r = c.in-Some.ensures.found.holds _ c.at.ensures in
     let ind : is_indirect c.at.result.now ≡ true = sym c.is_indirect.ensures ∙ c.if-not-is_indirect.false in
     let child = c.in_ok-child.ensures in
-    let taken : TakesOut (g.N.Sets.forest c.child.new.self) (g.N.Sets.forest c.take.new.n) c.in_ok-child.child.0 c.args.key (Sole c.in-Sole.leaf) = subst (λ t. TakesOut (g.N.Sets.forest c.child.new.self) (g.N.Sets.forest c.take.new.n) c.in_ok-child.child.0 c.args.key t) c.in-Sole.is c.in_ok-leaf.ensures.taken in
+    let taken : TakesOut (g.N.Sets.forest c.load_child.new.n) (g.N.Sets.forest c.take.new.n) c.in_ok-child.child.0 c.args.key (Sole c.in-Sole.leaf) = subst (λ t. TakesOut (g.N.Sets.forest c.load_child.new.n) (g.N.Sets.forest c.take.new.n) c.in_ok-child.child.0 c.args.key t) c.in-Sole.is c.in_ok-leaf.ensures.taken in
     let first = beside_on _ _ _ _ _ _ (λ m st. (c.in_ok-child.ensures.walks.stays m st).place.stands) c.in_ok-child.ensures.beside c.in_ok-leaf.ensures.beside in
     let whole = (under_sole _ _ _ _ _ c.args.key c.at.result.now c.requires.sound c.requires.stands read ind in_r child.walks (child.loads _ read) (child.ok _ read) _ c.in-Sole.leaf taken).walks in
     beside_on _ _ _ _ _ _ (λ m st. (whole.stays m st).place.stands) first c.cut_unless_sole-in-Sole.ensures.beside
