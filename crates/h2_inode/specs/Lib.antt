@@ -28,3 +28,5 @@ pub mod OrderLaws
 pub mod FoundLaws
 pub mod Loaded
 pub mod LoadedLaws
+pub mod PathLaws
+pub mod LoadedExample

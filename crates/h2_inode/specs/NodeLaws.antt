@@ -64,7 +64,7 @@ pub brings_leaves : (f g : Forest) (c : ℕ) → IsSound f → Brings f g c → 
 brings_leaves f g c sound h = leaves_stay_all f g sound (λ m stands. same_stays f g m (h.same m stands))
 
 -- where all nodes of another tree are the same, that tree keeps its leaves
-tree_leaves : (f g : Forest) (top : ℕ) → IsSound f → ((m : ℕ) → f.stands m ≡ true → f.root m ≡ top → Same f g m) → (m : ℕ) → f.stands m ≡ true → f.root m ≡ top → KeepsLeaves f g m
+pub tree_leaves : (f g : Forest) (top : ℕ) → IsSound f → ((m : ℕ) → f.stands m ≡ true → f.root m ≡ top → Same f g m) → (m : ℕ) → f.stands m ≡ true → f.root m ≡ top → KeepsLeaves f g m
 tree_leaves f g top sound same m stands root l leaves =
     leaves_stay f g IsOf closed stay (stands, root) leaves (refs g m) (stay m (stands, root)).alike
   where

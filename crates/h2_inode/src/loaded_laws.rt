@@ -1,12 +1,20 @@
-ghost use Rattle.std.specs.Prelude.{◌≡◌, ℕ, Bool, true, false, List, Option, Some};
+ghost use Rattle.std.specs.Prelude.{◌≡◌, ◌<◌, ◌≤◌, ◌^◌, ℕ, Bool, true, false, List, [], ◌∷◌, Option, Some};
+ghost use Rattle.std.specs.FinMap.{empty};
 ghost use Rattle.h2_num.specs.Places.{Places};
+ghost use Rattle.h2_ref.specs.declared.reference.Kind.TheVariants.{Inode as Inode_kind};
 ghost use Rattle.h2_ref.specs.declared.reference.Ref.{Ref};
-ghost use Rattle.h2_set.specs.Forest.{IsSound, Walks, ReadiesOnly};
-ghost use Rattle.h2_inode.specs.Nodes.{Told, IsInodeLeaf, IsAsTold, Seeks};
+ghost use Rattle.h2_set.specs.Ranges.{limit};
+ghost use Rattle.h2_set.specs.Forest.{LeavesOf, IsSound, Walks, ReadiesOnly};
+ghost use Rattle.h2_dirkey.specs.PfsName.{IsPfsName};
+ghost use Rattle.h2_inode.specs.declared.kind.InodeKind.TheVariants.{Pfs as Pfs_kind};
+ghost use Rattle.h2_inode.specs.declared.inode.Inode.{Inode};
+ghost use Rattle.h2_inode.specs.Block.{refs_of_body};
+ghost use Rattle.h2_inode.specs.Nodes.{Told, HasInode, IsInodeLeaf, IsAsTold, Seeks};
 ghost use Rattle.h2_inode.specs.Contents.{IsContents};
 ghost use Rattle.h2_inode.specs.Directory.{Entries, IsDirectory};
 ghost use Rattle.h2_inode.specs.PfsList.{ListedPfs, IsPfsList};
-ghost use Rattle.h2_inode.specs.Loaded.{at_root, View, reading, no_content, HoldsOn, TellsOn, Rereads, StandsAlike};
+ghost use Rattle.h2_inode.specs.Loaded.{Tree, at_root, NamesInode, View, reading, no_content, HoldsOn, TellsOn, Rereads, StandsAlike};
+ghost use Rattle.h2_inode.specs.LoadedExample.{listed};
 
 /// A law of calls that change nothing that is read: those that load indirect blocks or make spare nodes ready, and
 /// the load of an inode which brings what was told.
@@ -31,4 +39,15 @@ pub fn loads_law()
         → IsDirectory (reading v no_content) (λ target number. may target number ≡ true) (at_root at) size entries }
     ensures pfs_lists { (u v : View) (at next : ℕ) (pfss : List ListedPfs) → StandsAlike u v → u.forest.stands at ≡ true
         → IsPfsList (reading u no_content) (at_root at) next pfss → IsPfsList (reading v no_content) (at_root at) next pfss }
+{}
+
+/// A law with worked values: an inode without references stands for a directory without entries, and one leaf that
+/// names the inode of a PFS, be it loaded or told, for a list of one PFS.
+pub fn worked_law()
+    ensures directory { (u : View) (may : ℕ → ℕ → Bool) (at : ℕ) (i : Inode) → HasInode u.forest u.holds at i → refs_of_body i.body ≡ []
+        → IsDirectory (reading u no_content) (λ target number. may target number ≡ true) (at_root at) 0 empty }
+    ensures pfs_list { (u : View) (top next : ℕ) (leaf : Ref) (i : Inode) (t : Tree) → LeavesOf u.forest top (leaf ∷ []) → limit leaf ≤ 2 ^ 64
+        → leaf.kind ≡ Inode_kind → NamesInode u.forest u.holds u.tells (at_root top) leaf i t → i.kind ≡ Pfs_kind → i.number ≡ leaf.key
+        → IsPfsName i.name → leaf.key < next
+        → IsPfsList (reading u no_content) (at_root top) next (listed leaf.key i ∷ []) }
 {}
