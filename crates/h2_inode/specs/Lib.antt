@@ -18,4 +18,15 @@ pub mod Access
 pub mod Contents
 pub mod Directory
 pub mod PfsList
+pub mod Single
+pub mod Following
+pub mod ListLaws
+pub mod SingleLaws
+pub mod FollowLaws
+pub mod CarryLaws
+pub mod OrderLaws
+pub mod FoundLaws
 pub mod Loaded
+pub mod LoadedLaws
+pub mod PathLaws
+pub mod LoadedExample

@@ -1,0 +1,53 @@
+ghost use Rattle.std.specs.Prelude.{◌≡◌, ◌<◌, ◌≤◌, ◌^◌, ℕ, Bool, true, false, List, [], ◌∷◌, Option, Some};
+ghost use Rattle.std.specs.FinMap.{empty};
+ghost use Rattle.h2_num.specs.Places.{Places};
+ghost use Rattle.h2_ref.specs.declared.reference.Kind.TheVariants.{Inode as Inode_kind};
+ghost use Rattle.h2_ref.specs.declared.reference.Ref.{Ref};
+ghost use Rattle.h2_set.specs.Ranges.{limit};
+ghost use Rattle.h2_set.specs.Forest.{LeavesOf, IsSound, Walks, ReadiesOnly};
+ghost use Rattle.h2_dirkey.specs.PfsName.{IsPfsName};
+ghost use Rattle.h2_inode.specs.declared.kind.InodeKind.TheVariants.{Pfs as Pfs_kind};
+ghost use Rattle.h2_inode.specs.declared.inode.Inode.{Inode};
+ghost use Rattle.h2_inode.specs.Block.{refs_of_body};
+ghost use Rattle.h2_inode.specs.Nodes.{Told, HasInode, IsInodeLeaf, IsAsTold, Seeks};
+ghost use Rattle.h2_inode.specs.Contents.{IsContents};
+ghost use Rattle.h2_inode.specs.Directory.{Entries, IsDirectory};
+ghost use Rattle.h2_inode.specs.PfsList.{ListedPfs, IsPfsList};
+ghost use Rattle.h2_inode.specs.Loaded.{Tree, at_root, NamesInode, View, reading, no_content, HoldsOn, TellsOn, Rereads, StandsAlike};
+ghost use Rattle.h2_inode.specs.LoadedExample.{listed};
+
+/// A law of calls that change nothing that is read: those that load indirect blocks or make spare nodes ready, and
+/// the load of an inode which brings what was told.
+pub fn rereading_law()
+    ensures blocks { (u v : View) → IsSound u.forest → Walks u.forest v.forest → HoldsOn u v → TellsOn u v → Rereads u v }
+    ensures ready { (u v : View) → IsSound u.forest → ReadiesOnly u.forest v.forest → HoldsOn u v → TellsOn u v → Rereads u v }
+    ensures inodes { (u v : View) (top c : ℕ) (leaf : Ref) → IsSound u.forest → IsInodeLeaf u.forest top leaf → Seeks u.forest v.forest top leaf.key c
+        → HoldsOn u v → TellsOn u v → ((x : Told) → u.forest.stands c ≡ false → u.tells leaf ≡ Some x → IsAsTold v.forest v.holds c x)
+        → Rereads u v }
+{}
+
+/// A law of loads one after the other: the tree of each root that stood stands for what it stood for, be it a file's
+/// bytes, a directory's entries, or a list of PFSs. Which numbers entries may name, and which bytes the blocks of
+/// contents have, is as it may be.
+pub fn loads_law()
+    ensures chained { (u v w : View) → StandsAlike u v → StandsAlike v w → StandsAlike u w }
+    ensures contents { (u v : View) (block : Ref → Option Places) (at size : ℕ) (bytes : List ℕ) → StandsAlike u v → u.forest.stands at ≡ true
+        → IsContents (reading u (λ r b. block r ≡ Some b)) (at_root at) size bytes
+        → IsContents (reading v (λ r b. block r ≡ Some b)) (at_root at) size bytes }
+    ensures directories { (u v : View) (may : ℕ → ℕ → Bool) (at size : ℕ) (entries : Entries) → StandsAlike u v → u.forest.stands at ≡ true
+        → IsDirectory (reading u no_content) (λ target number. may target number ≡ true) (at_root at) size entries
+        → IsDirectory (reading v no_content) (λ target number. may target number ≡ true) (at_root at) size entries }
+    ensures pfs_lists { (u v : View) (at next : ℕ) (pfss : List ListedPfs) → StandsAlike u v → u.forest.stands at ≡ true
+        → IsPfsList (reading u no_content) (at_root at) next pfss → IsPfsList (reading v no_content) (at_root at) next pfss }
+{}
+
+/// A law with worked values: an inode without references stands for a directory without entries, and one leaf that
+/// names the inode of a PFS, be it loaded or told, for a list of one PFS.
+pub fn worked_law()
+    ensures directory { (u : View) (may : ℕ → ℕ → Bool) (at : ℕ) (i : Inode) → HasInode u.forest u.holds at i → refs_of_body i.body ≡ []
+        → IsDirectory (reading u no_content) (λ target number. may target number ≡ true) (at_root at) 0 empty }
+    ensures pfs_list { (u : View) (top next : ℕ) (leaf : Ref) (i : Inode) (t : Tree) → LeavesOf u.forest top (leaf ∷ []) → limit leaf ≤ 2 ^ 64
+        → leaf.kind ≡ Inode_kind → NamesInode u.forest u.holds u.tells (at_root top) leaf i t → i.kind ≡ Pfs_kind → i.number ≡ leaf.key
+        → IsPfsName i.name → leaf.key < next
+        → IsPfsList (reading u no_content) (at_root top) next (listed leaf.key i ∷ []) }
+{}
