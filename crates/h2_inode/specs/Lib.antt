@@ -27,6 +27,7 @@ pub mod CarryLaws
 pub mod OrderLaws
 pub mod FoundLaws
 pub mod Loaded
+pub mod NamedLaws
 pub mod LoadedLaws
 pub mod PathLaws
 pub mod LoadedExample

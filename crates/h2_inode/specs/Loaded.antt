@@ -62,6 +62,10 @@ reading v Content = loaded_nodes v.forest v.holds v.tells Content
 abbrev pub HoldsOn : View → View → Type 0
 HoldsOn u v = (m : ℕ) → u.forest.stands m ≡ true → v.forest.stands m ≡ true → v.holds m ≡ u.holds m
 
+-- so it does but for one root
+abbrev pub HoldsBut : ℕ → View → View → Type 0
+HoldsBut at u v = (m : ℕ) → (m ≡ at → ⊥) → u.forest.stands m ≡ true → v.forest.stands m ≡ true → v.holds m ≡ u.holds m
+
 -- what was told is told
 abbrev pub TellsOn : View → View → Type 0
 TellsOn u v = (r : Ref) (x : Told) → u.tells r ≡ Some x → v.tells r ≡ Some x

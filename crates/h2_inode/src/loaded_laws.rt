@@ -1,19 +1,20 @@
-ghost use Rattle.std.specs.Prelude.{◌≡◌, ◌<◌, ◌≤◌, ◌^◌, ℕ, Bool, true, false, List, [], ◌∷◌, Option, Some};
+ghost use Rattle.std.specs.Prelude.{◌≡◌, ◌⊎◌, ◌<◌, ◌≤◌, ◌^◌, ℕ, Bool, true, false, List, [], ◌∷◌, Option, Some};
 ghost use Rattle.std.specs.FinMap.{empty};
 ghost use Rattle.h2_num.specs.Places.{Places};
 ghost use Rattle.h2_ref.specs.declared.reference.Kind.TheVariants.{Inode as Inode_kind};
 ghost use Rattle.h2_ref.specs.declared.reference.Ref.{Ref};
 ghost use Rattle.h2_set.specs.Ranges.{limit};
-ghost use Rattle.h2_set.specs.Forest.{LeavesOf, IsSound, Walks, ReadiesOnly};
+ghost use Rattle.h2_set.specs.RefSet.{RefSet};
+ghost use Rattle.h2_set.specs.Forest.{Forest, LeavesOf, IsSound, Walks, ReadiesOnly};
 ghost use Rattle.h2_dirkey.specs.PfsName.{IsPfsName};
 ghost use Rattle.h2_inode.specs.declared.kind.InodeKind.TheVariants.{Pfs as Pfs_kind};
 ghost use Rattle.h2_inode.specs.declared.inode.Inode.{Inode};
 ghost use Rattle.h2_inode.specs.Block.{refs_of_body};
-ghost use Rattle.h2_inode.specs.Nodes.{Told, HasInode, IsInodeLeaf, IsAsTold, Seeks};
+ghost use Rattle.h2_inode.specs.Nodes.{Fields, Told, HasInode, IsInodeLeaf, IsNamed, IsAsTold, Seeks, Plants, Replaces};
 ghost use Rattle.h2_inode.specs.Contents.{IsContents};
 ghost use Rattle.h2_inode.specs.Directory.{Entries, IsDirectory};
 ghost use Rattle.h2_inode.specs.PfsList.{ListedPfs, IsPfsList};
-ghost use Rattle.h2_inode.specs.Loaded.{Tree, at_root, NamesInode, View, reading, no_content, HoldsOn, TellsOn, Rereads, StandsAlike};
+ghost use Rattle.h2_inode.specs.Loaded.{Tree, at_root, NamesInode, View, reading, no_content, IsSameTree, HoldsOn, HoldsBut, TellsOn, Rereads, StandsAlike};
 ghost use Rattle.h2_inode.specs.LoadedExample.{listed};
 
 /// A law of calls that change nothing that is read: those that load indirect blocks or make spare nodes ready, and
@@ -50,4 +51,24 @@ pub fn worked_law()
         → leaf.kind ≡ Inode_kind → NamesInode u.forest u.holds u.tells (at_root top) leaf i t → i.kind ≡ Pfs_kind → i.number ≡ leaf.key
         → IsPfsName i.name → leaf.key < next
         → IsPfsList (reading u no_content) (at_root top) next (listed leaf.key i ∷ []) }
+{}
+
+/// A law of which inodes leaves name. A root has one inode; after the load of an inode its leaf names that one alone.
+/// A new inode leaves what all other leaves name. Where an inode is replaced, a leaf that named it names the new one,
+/// and each other leaf whose root stands still names what it named.
+pub fn naming_law()
+    ensures one { (f : Forest) (holds : ℕ → Option Fields) (at : ℕ) (i j : Inode) → HasInode f holds at i → HasInode f holds at j → i ≡ j }
+    ensures sought { (u v : View) (top c : ℕ) (leaf : Ref) (i j : Inode) (t : Tree) → Seeks u.forest v.forest top leaf.key c
+        → u.forest.stands top ≡ true → HasInode v.forest v.holds c j → NamesInode v.forest v.holds v.tells (at_root top) leaf i t
+        → (i ≡ j) × (t ≡ at_root c) }
+    ensures planted { (u v : View) (top key c n : ℕ) (r : Ref) (i : Inode) (t : Tree) → IsSound u.forest → Plants u.forest v.forest top key c
+        → HoldsOn u v → TellsOn u v → u.forest.stands n ≡ true → NamesInode u.forest u.holds u.tells (at_root n) r i t
+        → ((n ≡ top) × (r.key ≡ key) → ⊥)
+        → (w : Tree) × NamesInode v.forest v.holds v.tells (at_root n) r i w × IsSameTree u v t w }
+    ensures replaced { (u v : View) (at top : ℕ) (s : RefSet) (r : Ref) (i new : Inode) (t : Tree) → Replaces u.forest v.forest at s
+        → HoldsBut at u v → TellsOn u v → u.forest.stands top ≡ true → v.forest.stands top ≡ true → HasInode v.forest v.holds at new
+        → NamesInode u.forest u.holds u.tells (at_root top) r i t
+        → ((c : ℕ) → IsNamed u.forest top r.key c → v.forest.stands c ≡ true)
+        → ((t ≡ at_root at) × NamesInode v.forest v.holds v.tells (at_root top) r new (at_root at))
+        ⊎ ((w : Tree) × NamesInode v.forest v.holds v.tells (at_root top) r i w × IsSameTree u v t w) }
 {}
