@@ -31,3 +31,4 @@ pub mod NamedLaws
 pub mod LoadedLaws
 pub mod PathLaws
 pub mod LoadedExample
+pub mod LoadedOne

@@ -8,11 +8,11 @@ use Rattle.std.proofs.lemmas.Option.{same_Some}
 use Rattle.h2_num.specs.Places.{Places}
 use Rattle.h2_ref.specs.declared.reference.Ref.{Ref}
 use Rattle.h2_set.specs.Ranges.{Rising, find, holds, limit}
-use Rattle.h2_set.specs.Forest.{Forest, LeavesOf, KeepsLeaves, IsSound, Walks, Unchanged, ReadiesOnly, InPlace, Stays}
+use Rattle.h2_set.specs.Forest.{Forest, LeavesOf, KeepsLeaves, IsSound, Walks, Unchanged, ReadiesOnly, Stays, KeepsBeside}
 use Rattle.h2_set.specs.LeafLaws.{outside_holds, leaves_rising, reaches_find}
 use Rattle.h2_set.specs.StayLaws.{leaves_stay_all, Same-Stays, Unchanged-walks}
 use Rattle.h2_inode.specs.declared.inode.Inode.{Inode}
-use Rattle.h2_inode.specs.Nodes.{Fields, Told, HasInode, IsInodeLeaf, IsNamed, IsUnloaded, IsAsTold, Seeks}
+use Rattle.h2_inode.specs.Nodes.{Fields, Told, HasInode, IsInodeLeaf, IsNamed, IsUnloaded, IsAsTold, Seeks, KeepsOthersBeside}
 use Rattle.h2_inode.specs.NodeLaws.{named_back, brings_leaves, inode_held}
 use Rattle.h2_inode.specs.NamedLaws.{told_on, loaded_on, unloaded_on, brings_fresh, brings_loaded, brings_names, brings_bare}
 use Rattle.h2_inode.specs.Contents.{IsContents}
@@ -22,7 +22,7 @@ use Rattle.h2_inode.specs.Following.{Follows}
 use Rattle.h2_inode.specs.CarryLaws.{contents_carried, directory_carried, pfs_list_carried}
 use Rattle.h2_inode.specs.FollowLaws.{same_inode}
 use Rattle.h2_inode.specs.ListLaws.{all_beside}
-use Rattle.h2_inode.specs.Loaded.{Tree, at_root, of_leaves, HasAsLeaves, IsTold, IsLoaded, NamesInode, View, reading, IsSameTree, IsLeafOf, Rereads, HoldsOn, TellsOn, StandsAlike, as_before, by_load, over_loads}
+use Rattle.h2_inode.specs.Loaded.{Tree, at_root, of_leaves, HasAsLeaves, IsTold, IsLoaded, NamesInode, View, view_of, reading, IsSameTree, IsLeafOf, Rereads, HoldsOn, HoldsBut, TellsOn, StandsAlike, as_before, by_load, over_loads}
 
 -- A leaf of a list is found by its key.
 
@@ -114,6 +114,15 @@ module _ (u v : View) (sound : IsSound u.forest) (after : IsSound v.forest) (sta
       told = told;
       name = λ r n e. name r ∙ e;
     }
+
+-- what calls keep beside the sets of roots is what roots hold
+
+pub beside_holds : {B : Type 0} (fields : B → Option Fields) (f g : Forest) (old new : ℕ → B) (tells later : Ref → Option Told) → KeepsBeside f g old new → HoldsOn (view_of fields f old tells) (view_of fields g new later)
+beside_holds fields f g old new tells later h = λ m stood stands. ap fields (h.same m stood stands)
+
+pub others_hold : {B : Type 0} (fields : B → Option Fields) (f g : Forest) (at : ℕ) (old new : ℕ → B) (tells later : Ref → Option Told) → KeepsOthersBeside f g at old new
+    → HoldsBut at (view_of fields f old tells) (view_of fields g new later)
+others_hold fields f g at old new tells later h = λ m ne stood stands. ap fields (h.same m ne stood stands)
 
 -- loads of indirect blocks alone
 pub walks_reread : (u v : View) → IsSound u.forest → Walks u.forest v.forest → HoldsOn u v → TellsOn u v → Rereads u v

@@ -5,16 +5,18 @@ ghost use Rattle.h2_ref.specs.declared.reference.Kind.TheVariants.{Inode as Inod
 ghost use Rattle.h2_ref.specs.declared.reference.Ref.{Ref};
 ghost use Rattle.h2_set.specs.Ranges.{limit};
 ghost use Rattle.h2_set.specs.RefSet.{RefSet};
-ghost use Rattle.h2_set.specs.Forest.{Forest, LeavesOf, IsSound, Walks, ReadiesOnly};
+ghost use Rattle.h2_set.specs.declared.set.Split.{Split};
+ghost use Rattle.h2_set.specs.Forest.{Forest, LeavesOf, IsSound, Walks, ReadiesOnly, Alters, Stores, Makes};
 ghost use Rattle.h2_dirkey.specs.PfsName.{IsPfsName};
 ghost use Rattle.h2_inode.specs.declared.kind.InodeKind.TheVariants.{Pfs as Pfs_kind};
 ghost use Rattle.h2_inode.specs.declared.inode.Inode.{Inode};
 ghost use Rattle.h2_inode.specs.Block.{refs_of_body};
-ghost use Rattle.h2_inode.specs.Nodes.{Fields, Told, HasInode, IsInodeLeaf, IsNamed, IsAsTold, Seeks, Plants, Replaces};
+ghost use Rattle.h2_inode.specs.Nodes.{Fields, Told, HasInode, IsInodeLeaf, IsNamed, IsUnloaded, IsAsTold, Seeks, Plants, Replaces};
 ghost use Rattle.h2_inode.specs.Contents.{IsContents};
 ghost use Rattle.h2_inode.specs.Directory.{Entries, IsDirectory};
 ghost use Rattle.h2_inode.specs.PfsList.{ListedPfs, IsPfsList};
-ghost use Rattle.h2_inode.specs.Loaded.{Tree, at_root, NamesInode, View, reading, no_content, IsSameTree, HoldsOn, HoldsBut, TellsOn, Rereads, StandsAlike};
+ghost use Rattle.h2_inode.specs.Loaded.{Tree, at_root, NamesInode, View, reading, no_content, IsSameTree, HoldsOn, HoldsBut, TellsOn, Rereads, StandsAlike, NamesOne};
+ghost use Rattle.h2_inode.specs.Single.{IsSingle};
 ghost use Rattle.h2_inode.specs.LoadedExample.{listed};
 
 /// A law of calls that change nothing that is read: those that load indirect blocks or make spare nodes ready, and
@@ -71,4 +73,20 @@ pub fn naming_law()
         → ((c : ℕ) → IsNamed u.forest top r.key c → v.forest.stands c ≡ true)
         → ((t ≡ at_root at) × NamesInode v.forest v.holds v.tells (at_root top) r new (at_root at))
         ⊎ ((w : Tree) × NamesInode v.forest v.holds v.tells (at_root top) r i w × IsSameTree u v t w) }
+{}
+
+/// A law: where each leaf names one root at most, what is read of directories and lists of PFSs has one answer at
+/// most. It is so after each call if it was before.
+pub fn one_reading_law()
+    ensures single { (u : View) → NamesOne u.forest → IsSingle (reading u no_content) }
+    ensures sought { (f g : Forest) (top key c : ℕ) → IsSound f → NamesOne f → Seeks f g top key c → f.stands top ≡ true → NamesOne g }
+    ensures planted { (f g : Forest) (top key c : ℕ) → IsSound f → NamesOne f → Plants f g top key c → f.stands top ≡ true
+        → IsUnloaded f top key → NamesOne g }
+    ensures walked { (f g : Forest) → NamesOne f → Walks f g → NamesOne g }
+    ensures readied { (f g : Forest) → NamesOne f → ReadiesOnly f g → NamesOne g }
+    ensures altered { (f g : Forest) (at : ℕ) → NamesOne f → Alters f g at → NamesOne g }
+    ensures stored { (f g : Forest) (at : ℕ) (s : RefSet) → NamesOne f → Stores f g at s → NamesOne g }
+    ensures made { (f g : Forest) (at c : ℕ) (set : RefSet) (split : Split) → IsSound f → f.stands at ≡ true → NamesOne f
+        → Makes f g at c set split → NamesOne g }
+    ensures replaced { (f g : Forest) (at : ℕ) (s : RefSet) → NamesOne f → Replaces f g at s → NamesOne g }
 {}
