@@ -32,3 +32,4 @@ pub mod LoadedLaws
 pub mod PathLaws
 pub mod LoadedExample
 pub mod LoadedOne
+pub mod LeafReading

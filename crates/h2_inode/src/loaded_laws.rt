@@ -6,7 +6,7 @@ ghost use Rattle.h2_ref.specs.declared.reference.Ref.{Ref};
 ghost use Rattle.h2_set.specs.Ranges.{limit};
 ghost use Rattle.h2_set.specs.RefSet.{RefSet};
 ghost use Rattle.h2_set.specs.declared.set.Split.{Split};
-ghost use Rattle.h2_set.specs.Forest.{Forest, LeavesOf, IsSound, Walks, ReadiesOnly, Alters, Stores, Makes};
+ghost use Rattle.h2_set.specs.Forest.{Forest, LeavesOf, KeepsLeaves, IsSound, Walks, ReadiesOnly, Alters, Stores, Makes};
 ghost use Rattle.h2_dirkey.specs.PfsName.{IsPfsName};
 ghost use Rattle.h2_inode.specs.declared.kind.InodeKind.TheVariants.{Pfs as Pfs_kind};
 ghost use Rattle.h2_inode.specs.declared.inode.Inode.{Inode};
@@ -89,4 +89,20 @@ pub fn one_reading_law()
     ensures made { (f g : Forest) (at c : ℕ) (set : RefSet) (split : Split) → IsSound f → f.stands at ≡ true → NamesOne f
         → Makes f g at c set split → NamesOne g }
     ensures replaced { (f g : Forest) (at : ℕ) (s : RefSet) → NamesOne f → Replaces f g at s → NamesOne g }
+{}
+
+/// A law: where the leaves below a root stay, and the names of entries, a directory's entries and a file's bytes do,
+/// whatever inodes are loaded, made or replaced. An inode that is replaced by one with the same set is such a change.
+pub fn leaves_law()
+    ensures directories { (u v : View) (may : ℕ → ℕ → Bool) (at size : ℕ) (entries : Entries) → KeepsLeaves u.forest v.forest at
+        → ((r : Ref) (name : List ℕ) → u.forest.name r ≡ Some name → v.forest.name r ≡ Some name)
+        → IsDirectory (reading u no_content) (λ target number. may target number ≡ true) (at_root at) size entries
+        → IsDirectory (reading v no_content) (λ target number. may target number ≡ true) (at_root at) size entries }
+    ensures contents { (u v : View) (block : Ref → Option Places) (at size : ℕ) (bytes : List ℕ) → KeepsLeaves u.forest v.forest at
+        → IsContents (reading u (λ r b. block r ≡ Some b)) (at_root at) size bytes
+        → IsContents (reading v (λ r b. block r ≡ Some b)) (at_root at) size bytes }
+    ensures refitted { (u v : View) (may : ℕ → ℕ → Bool) (at m size : ℕ) (entries : Entries) → IsSound u.forest
+        → Replaces u.forest v.forest at (u.forest.set at) → u.forest.stands at ≡ true → u.forest.root at ≡ at → u.forest.stands m ≡ true
+        → IsDirectory (reading u no_content) (λ target number. may target number ≡ true) (at_root m) size entries
+        → IsDirectory (reading v no_content) (λ target number. may target number ≡ true) (at_root m) size entries }
 {}
