@@ -27,6 +27,9 @@ pub mod CarryLaws
 pub mod OrderLaws
 pub mod FoundLaws
 pub mod Loaded
+pub mod NamedLaws
 pub mod LoadedLaws
 pub mod PathLaws
 pub mod LoadedExample
+pub mod LoadedOne
+pub mod LeafReading

@@ -23,6 +23,12 @@ through R P Q f (x ∷ xs) [] zs p q = absurd p
 through R P Q f (x ∷ xs) (y ∷ ys) [] p q = absurd q
 through R P Q f (x ∷ xs) (y ∷ ys) (z ∷ zs) p q = (f x y z p.0 q.0, through R P Q f xs ys zs p.1 q.1)
 
+pub each_mapped : {X Y : Type 0} (P Q : X → Y → Type 0) → ((x : X) (y : Y) → P x y → Q x y) → (xs : List X) (ys : List Y) → OneByOne P xs ys → OneByOne Q xs ys
+each_mapped P Q f [] [] p = tt
+each_mapped P Q f [] (y ∷ ys) p = absurd p
+each_mapped P Q f (x ∷ xs) [] p = absurd p
+each_mapped P Q f (x ∷ xs) (y ∷ ys) p = (f x y p.0, each_mapped P Q f xs ys p.1)
+
 -- where each member has one partner at most, a list has one partner list at most
 pub one_list : {X Y : Type 0} (P Q : X → Y → Type 0) → ((x : X) (y z : Y) → P x y → Q x z → z ≡ y) → (xs : List X) (ys zs : List Y) → OneByOne P xs ys → OneByOne Q xs zs → zs ≡ ys
 one_list P Q f [] [] [] p q = refl
@@ -57,6 +63,9 @@ all_through R P Q f [] [] p h = all_none Q
 all_through R P Q f [] (y ∷ ys) p h = absurd p
 all_through R P Q f (x ∷ xs) [] p h = absurd p
 all_through R P Q f (x ∷ xs) (y ∷ ys) p h = all_cons Q y ys (f x y p.0 (all_head P x xs h)) (all_through R P Q f xs ys p.1 (all_tail P x xs h))
+
+pub all_mapped : {X : Type 0} (P Q : X → Type 0) → ((x : X) → P x → Q x) → (xs : List X) → All P xs → All Q xs
+all_mapped P Q f xs h = λ k d lt. f (slice_index_or xs k d) (h k d lt)
 
 pub all_append : {X : Type 0} (P : X → Type 0) (xs ys : List X) → All P xs → All P ys → All P (xs ++ ys)
 all_append P [] ys h g = g

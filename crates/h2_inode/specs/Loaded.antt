@@ -4,7 +4,7 @@ use Rattle.h2_num.specs.Places.{Places}
 use Rattle.h2_ref.specs.declared.reference.Ref.{Ref}
 use Rattle.h2_set.specs.Forest.{Forest, LeavesOf, KeepsLeaves}
 use Rattle.h2_inode.specs.declared.inode.Inode.{Inode}
-use Rattle.h2_inode.specs.Nodes.{Fields, Told, HasInode, IsNamed, IsUnloaded}
+use Rattle.h2_inode.specs.Nodes.{Fields, held_by, Told, HasInode, IsNamed, IsUnloaded}
 use Rattle.h2_inode.specs.Access.{Access}
 use Rattle.h2_inode.specs.Following.{Passage}
 
@@ -47,6 +47,10 @@ loaded_nodes f holds tells Content = record {
 abbrev pub no_content : Ref → Places → Type 0
 no_content r block = ⊥
 
+-- each leaf names one root at most
+abbrev pub NamesOne : Forest → Type 0
+NamesOne f = (top key c d : ℕ) → IsNamed f top key c → IsNamed f top key d → d ≡ c
+
 -- What is seen of a forest of inodes, and what trees stand for while it is loaded
 
 -- what a reading is made of, but for contents
@@ -55,12 +59,20 @@ pub record View : Type 0 where
   pub holds : ℕ → Option Fields
   pub tells : Ref → Option Told
 
+-- the view of a value of Nodes, by its forest, by what it keeps beside the sets of roots, and by what it tells
+abbrev pub view_of : {B : Type 0} → (B → Option Fields) → Forest → (ℕ → B) → (Ref → Option Told) → View
+view_of fields f beside tells = record { forest = f; holds = held_by fields beside; tells = tells }
+
 abbrev pub reading : View → (Ref → Places → Type 0) → Access
 reading v Content = loaded_nodes v.forest v.holds v.tells Content
 
 -- what is held beside the sets of nodes that stand stays
 abbrev pub HoldsOn : View → View → Type 0
 HoldsOn u v = (m : ℕ) → u.forest.stands m ≡ true → v.forest.stands m ≡ true → v.holds m ≡ u.holds m
+
+-- so it does but for one root
+abbrev pub HoldsBut : ℕ → View → View → Type 0
+HoldsBut at u v = (m : ℕ) → (m ≡ at → ⊥) → u.forest.stands m ≡ true → v.forest.stands m ≡ true → v.holds m ≡ u.holds m
 
 -- what was told is told
 abbrev pub TellsOn : View → View → Type 0

@@ -1,19 +1,20 @@
 -- What trees stand for stays while indirect blocks and inodes are loaded.
 use Rattle.std.specs.Prelude.{◌≡◌, ◌⊎◌, ◌<◌, ◌≤◌, ◌+◌, ◌^◌, ℕ, zero, suc, Bool, true, false, List, [], ◌∷◌, length, slice_index_or, Contains, Option, Some, None, if◌then◌else◌, refl}
 use Rattle.std.proofs.Common.{ap, sym, ◌∙◌, arith, inl, inr, subst}
-use Rattle.std.proofs.lemmas.Bool.{cases_Bool, cases_eq}
+use Rattle.std.proofs.lemmas.Bool.{cases_eq}
 use Rattle.std.proofs.lemmas.Bool.Decides.{nat_tests}
 use Rattle.std.proofs.lemmas.Nat.{pow_pos}
 use Rattle.std.proofs.lemmas.Option.{same_Some}
 use Rattle.h2_num.specs.Places.{Places}
 use Rattle.h2_ref.specs.declared.reference.Ref.{Ref}
 use Rattle.h2_set.specs.Ranges.{Rising, find, holds, limit}
-use Rattle.h2_set.specs.Forest.{Forest, LeavesOf, KeepsLeaves, IsSound, Walks, Unchanged, ReadiesOnly, InPlace, Stays}
+use Rattle.h2_set.specs.Forest.{Forest, LeavesOf, KeepsLeaves, IsSound, Walks, Unchanged, ReadiesOnly, Stays, KeepsBeside}
 use Rattle.h2_set.specs.LeafLaws.{outside_holds, leaves_rising, reaches_find}
 use Rattle.h2_set.specs.StayLaws.{leaves_stay_all, Same-Stays, Unchanged-walks}
 use Rattle.h2_inode.specs.declared.inode.Inode.{Inode}
-use Rattle.h2_inode.specs.Nodes.{Fields, Told, HasInode, IsInodeLeaf, IsNamed, IsUnloaded, IsAsTold, Seeks}
-use Rattle.h2_inode.specs.NodeLaws.{named_stays, named_back, inode_held}
+use Rattle.h2_inode.specs.Nodes.{Fields, Told, HasInode, IsInodeLeaf, IsNamed, IsUnloaded, IsAsTold, Seeks, KeepsOthersBeside}
+use Rattle.h2_inode.specs.NodeLaws.{named_back, brings_leaves, inode_held}
+use Rattle.h2_inode.specs.NamedLaws.{told_on, loaded_on, unloaded_on, brings_fresh, brings_loaded, brings_names, brings_bare}
 use Rattle.h2_inode.specs.Contents.{IsContents}
 use Rattle.h2_inode.specs.Directory.{Entries, IsDirectory}
 use Rattle.h2_inode.specs.PfsList.{ListedPfs, IsPfsList}
@@ -21,7 +22,7 @@ use Rattle.h2_inode.specs.Following.{Follows}
 use Rattle.h2_inode.specs.CarryLaws.{contents_carried, directory_carried, pfs_list_carried}
 use Rattle.h2_inode.specs.FollowLaws.{same_inode}
 use Rattle.h2_inode.specs.ListLaws.{all_beside}
-use Rattle.h2_inode.specs.Loaded.{Tree, at_root, of_leaves, HasAsLeaves, IsTold, IsLoaded, NamesInode, View, reading, IsSameTree, IsLeafOf, Rereads, HoldsOn, TellsOn, StandsAlike, as_before, by_load, over_loads}
+use Rattle.h2_inode.specs.Loaded.{Tree, at_root, of_leaves, HasAsLeaves, IsTold, IsLoaded, NamesInode, View, view_of, reading, IsSameTree, IsLeafOf, Rereads, HoldsOn, HoldsBut, TellsOn, StandsAlike, as_before, by_load, over_loads}
 
 -- A leaf of a list is found by its key.
 
@@ -37,7 +38,7 @@ from_low low high (q ∷ l) (suc k) r h lt =
     let pos = pow_pos q.keybits in
     omega (arith, rest, first, pos)
 
-find_at : (low high : ℕ) (l : List Ref) (k : ℕ) (r : Ref) → Rising low high l → k < length l → slice_index_or l k r ≡ r → find r.key l ≡ Some r
+pub find_at : (low high : ℕ) (l : List Ref) (k : ℕ) (r : Ref) → Rising low high l → k < length l → slice_index_or l k r ≡ r → find r.key l ≡ Some r
 find_at low high [] k r h lt e = absurd (omega (arith, lt))
 find_at low high (q ∷ l) zero r h lt e = subst (λ (x : Ref). find x.key (q ∷ l) ≡ Some x) e (ap (λ (b : Bool). if b then Some q else find q.key l) (holds_own q))
 find_at low high (q ∷ l) (suc k) r h lt e =
@@ -53,11 +54,6 @@ one_leaf f top leaf r sound is l h at key =
     sym (same_Some leaf r (way ∙ ap (λ k. find k l) (sym key) ∙ found))
 
 -- A view that rereads another follows it.
-
-module _ (u v : View) (told : (r : Ref) (x : Told) → u.tells r ≡ Some x → v.tells r ≡ Some x) where
-  -- what was told is told, with the same leaves
-  told_on : (r : Ref) (i : Inode) (t : Tree) → IsTold u.tells r i t → IsTold v.tells r i t × IsSameTree u v t t
-  told_on r i t x = ((x.0, told r x.0 x.1, x.2, x.3), subst (λ z. IsSameTree u v z z) (sym x.3) refl)
 
 module _ (u v : View) (h : Rereads u v) where
   leaves_reread : (t w : Tree) (l : List Ref) → IsSameTree u v t w → HasAsLeaves u.forest t l → HasAsLeaves v.forest w l
@@ -94,20 +90,6 @@ module _ (u v : View) (h : Rereads u v) where
 
 module _ (u v : View) (sound : IsSound u.forest) (after : IsSound v.forest) (stays : (m : ℕ) → u.forest.stands m ≡ true → Stays u.forest v.forest m)
     (inodes : (m : ℕ) (i : Inode) → HasInode u.forest u.holds m i → HasInode v.forest v.holds m i) (told : TellsOn u v) where
-  -- an inode that was loaded is the same
-  loaded_on : (top : ℕ) (r : Ref) (i : Inode) (t : Tree) → u.forest.stands top ≡ true → IsLoaded u.forest u.holds top r.key i t
-      → (w : Tree) × NamesInode v.forest v.holds v.tells (at_root top) r i w × IsSameTree u v t w
-  loaded_on top r i t stands is = (
-    at_root is.0,
-    inl (is.0, named_stays u.forest v.forest top r.key is.0 (stays top stands).place (stays is.0 is.1.stands).place is.1, inodes is.0 i is.2, refl),
-    subst (λ z. IsSameTree u v z (at_root is.0)) (sym is.3) (refl, is.1.stands),
-  )
-
-  -- an inode that isn't loaded now, and wasn't, is as it was told
-  unloaded_on : (top : ℕ) (r : Ref) (i : Inode) (t : Tree) → IsUnloaded v.forest top r.key → IsTold u.tells r i t
-      → (w : Tree) × NamesInode v.forest v.holds v.tells (at_root top) r i w × IsSameTree u v t w
-  unloaded_on top r i t none is = let g = told_on u v told r i t is in (t, inr (none, g.0), g.1)
-
   module _ (roots : (m : ℕ) → v.forest.stands m ≡ true → v.forest.root m ≡ m → u.forest.stands m ≡ true) (name : (r : Ref) → v.forest.name r ≡ u.forest.name r) where
     none_came : (top key : ℕ) → u.forest.stands top ≡ true → IsUnloaded u.forest top key → IsUnloaded v.forest top key
     none_came top key stands none c is =
@@ -116,8 +98,8 @@ module _ (u v : View) (sound : IsSound u.forest) (after : IsSound v.forest) (sta
 
     inode_on : (top : ℕ) (r : Ref) (i : Inode) (t : Tree) → u.forest.stands top ≡ true → NamesInode u.forest u.holds u.tells (at_root top) r i t
         → (w : Tree) × NamesInode v.forest v.holds v.tells (at_root top) r i w × IsSameTree u v t w
-    inode_on top r i t stands (inl is) = loaded_on top r i t stands is
-    inode_on top r i t stands (inr is) = unloaded_on top r i t (none_came top r.key stands is.0) is.1
+    inode_on top r i t stands (inl is) = loaded_on u v top r i t (stays top stands).place is (stays is.0 is.1.stands).place (inodes is.0 i is.2)
+    inode_on top r i t stands (inr is) = unloaded_on u v told top r i t (none_came top r.key stands is.0) is.1
 
     -- where no root came, all is read as before
     pub rootless_reread : Rereads u v
@@ -132,6 +114,15 @@ module _ (u v : View) (sound : IsSound u.forest) (after : IsSound v.forest) (sta
       told = told;
       name = λ r n e. name r ∙ e;
     }
+
+-- what calls keep beside the sets of roots is what roots hold
+
+pub beside_holds : {B : Type 0} (fields : B → Option Fields) (f g : Forest) (old new : ℕ → B) (tells later : Ref → Option Told) → KeepsBeside f g old new → HoldsOn (view_of fields f old tells) (view_of fields g new later)
+beside_holds fields f g old new tells later h = λ m stood stands. ap fields (h.same m stood stands)
+
+pub others_hold : {B : Type 0} (fields : B → Option Fields) (f g : Forest) (at : ℕ) (old new : ℕ → B) (tells later : Ref → Option Told) → KeepsOthersBeside f g at old new
+    → HoldsBut at (view_of fields f old tells) (view_of fields g new later)
+others_hold fields f g at old new tells later h = λ m ne stood stands. ap fields (h.same m ne stood stands)
 
 -- loads of indirect blocks alone
 pub walks_reread : (u v : View) → IsSound u.forest → Walks u.forest v.forest → HoldsOn u v → TellsOn u v → Rereads u v
@@ -155,38 +146,11 @@ readies_reread u v sound h holds told =
 
 module _ (u v : View) (top c : ℕ) (leaf : Ref) (sound : IsSound u.forest) (is : IsInodeLeaf u.forest top leaf) (h : Seeks u.forest v.forest top leaf.key c) (holds : HoldsOn u v) (told : TellsOn u v)
     (as_told : (x : Told) → u.forest.stands c ≡ false → u.tells leaf ≡ Some x → IsAsTold v.forest v.holds c x) where
-  here : (m : ℕ) → u.forest.stands m ≡ true → InPlace u.forest v.forest m
-  here m stands = (h.brings.same m stands).place
-
-  stays_on : (m : ℕ) → u.forest.stands m ≡ true → Stays u.forest v.forest m
-  stays_on m stands = Same-Stays u.forest v.forest m (h.brings.same m stands)
-
-  inodes_on : (m : ℕ) (i : Inode) → HasInode u.forest u.holds m i → HasInode v.forest v.holds m i
-  inodes_on m i has = inode_held u.forest v.forest u.holds v.holds m i (here m has.stands) (h.brings.leaf_bits m has.stands) (λ r. h.brings.allows m r has.stands) (h.brings.same m has.stands).set (holds m has.stands (here m has.stands).stands) has
-
-  -- what stands now and didn't is the root that came
-  came : (m : ℕ) → v.forest.stands m ≡ true → u.forest.stands m ≡ false → m ≡ c
-  came m stands gone = elim (h.brings.new m stands) [ inl e ↦ e | inr stood ↦ let clash : true ≡ false = sym stood ∙ gone in absurd (cc) ]
-
-  -- where a leaf's inode wasn't loaded, the root that it names now has come
-  fresh : (t key m : ℕ) → u.forest.stands t ≡ true → IsUnloaded u.forest t key → IsNamed v.forest t key m → u.forest.stands m ≡ false
-  fresh t key m stands none named = elim (cases_Bool (u.forest.stands m)) [
-    | inl stood ↦ absurd (none m (named_back u.forest v.forest t key m (here t stands) stood (here m stood) named))
-    | inr gone ↦ gone
-  ]
-
-  -- another leaf's inode isn't loaded still
-  others : (t key : ℕ) → u.forest.stands t ≡ true → IsUnloaded u.forest t key → ((t ≡ top) × (key ≡ leaf.key) → ⊥) → IsUnloaded v.forest t key
-  others t key stands none other m named =
-      let gone = fresh t key m stands none named in
-      let e = came m named.stands gone in
-      other (h.only (subst (λ z. u.forest.stands z ≡ false) e gone) t key (subst (λ z. IsNamed v.forest t key z) e named))
-
   -- the inode of the leaf itself is as it was told
   this_one : (i : Inode) (t : Tree) → IsUnloaded u.forest top leaf.key → IsTold u.tells leaf i t
       → (w : Tree) × NamesInode v.forest v.holds v.tells (at_root top) leaf i w × IsSameTree u v t w
   this_one i t none x =
-      let gone = fresh top leaf.key c is.stands none h.named in
+      let gone = brings_fresh u v top leaf.key c sound h.brings h.only holds told top leaf.key c is.stands none h.named in
       let now = as_told x.0 gone x.1 in (
         at_root c,
         inl (c, h.named, subst (λ j. HasInode v.forest v.holds c j) (sym x.2) now.inode, refl),
@@ -195,11 +159,11 @@ module _ (u v : View) (top c : ℕ) (leaf : Ref) (sound : IsSound u.forest) (is 
 
   inode_sought : (t : ℕ) (r : Ref) (i : Inode) (tree : Tree) → u.forest.stands t ≡ true → IsLeafOf u (at_root t) r → NamesInode u.forest u.holds u.tells (at_root t) r i tree
       → (w : Tree) × NamesInode v.forest v.holds v.tells (at_root t) r i w × IsSameTree u v tree w
-  inode_sought t r i tree stands within (inl x) = loaded_on u v sound h.brings.sound stays_on inodes_on told t r i tree stands x
+  inode_sought t r i tree stands within (inl x) = brings_loaded u v top leaf.key c sound h.brings h.only holds told t r i tree stands x
   inode_sought t r i tree stands within (inr x) = elim (cases_eq t top) as (λ _. (w : Tree) × NamesInode v.forest v.holds v.tells (at_root t) r i w × IsSameTree u v tree w) [
-    | inr ne ↦ unloaded_on u v sound h.brings.sound stays_on inodes_on told t r i tree (others t r.key stands x.0 (λ same. ne same.0)) x.1
+    | inr ne ↦ brings_names u v top leaf.key c sound h.brings h.only holds told t r i tree stands (inr x) (λ same. ne same.0)
     | inl e ↦ elim (cases_eq r.key leaf.key) as (λ _. (w : Tree) × NamesInode v.forest v.holds v.tells (at_root t) r i w × IsSameTree u v tree w) [
-      | inr ne ↦ unloaded_on u v sound h.brings.sound stays_on inodes_on told t r i tree (others t r.key stands x.0 (λ same. ne same.1)) x.1
+      | inr ne ↦ brings_names u v top leaf.key c sound h.brings h.only holds told t r i tree stands (inr x) (λ same. ne same.1)
       | inl key ↦
           let at_top : IsLeafOf u (at_root top) r = subst (λ z. IsLeafOf u (at_root z) r) e within in
           let same : r ≡ leaf = one_leaf u.forest top leaf r sound is at_top.0 at_top.1 at_top.2 key in
@@ -210,24 +174,12 @@ module _ (u v : View) (top c : ℕ) (leaf : Ref) (sound : IsSound u.forest) (is 
     ]
   ]
 
-  -- below the root that came nothing is loaded: what belongs to one of its leaves would have stood before it
-  nothing_below : (n key : ℕ) → u.forest.stands n ≡ false → v.forest.stands n ≡ true → IsUnloaded v.forest n key
-  nothing_below n key gone stands m named = elim (cases_Bool (u.forest.stands m)) as (λ _. ⊥) [
-    | inl stood ↦
-        let own = sound.owner m n key stood (sym ((here m stood).belongs n key) ∙ (named.belongs n key).1 (inl (refl, refl))) in
-        let clash : true ≡ false = sym own.stands ∙ gone in
-        absurd (cc)
-    | inr new ↦
-        let own = h.brings.sound.owner m n key named.stands ((named.belongs n key).1 (inl (refl, refl))) in
-        own.other (named.root ∙ came m named.stands new ∙ sym (came n stands gone))
-  ]
-
   pub seeks_reread : Rereads u v
   seeks_reread = record {
-    stands = λ m stands. (here m stands).stands;
-    leaves = leaves_stay_all u.forest v.forest sound stays_on;
+    stands = λ m stands. (h.brings.same m stands).place.stands;
+    leaves = brings_leaves u.forest v.forest c sound h.brings;
     inode = inode_sought;
-    bare = nothing_below;
+    bare = brings_bare u v top leaf.key c sound h.brings h.only holds told;
     told = told;
     name = λ r n e. h.brings.name r ∙ e;
   }

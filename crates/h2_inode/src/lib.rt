@@ -43,6 +43,8 @@ pub use laws::{
     visits_law,
 };
 pub use layout::INODE_BYTES;
-pub use loaded_laws::{loads_law, rereading_law, worked_law};
+pub use loaded_laws::{
+    leaves_law, loads_law, naming_law, one_reading_law, rereading_law, worked_law,
+};
 pub use nodes::Nodes;
 pub use pfs_name::PfsName;
