@@ -18,7 +18,7 @@ use Rattle.h2_set.specs.ChangeLaws.{same_or_not}
 use Rattle.h2_set.specs.RenewLaws.{like_at, Alike-sym}
 use Rattle.h2_set.specs.PathLaws.{in_holds, same_holds, reaches_along}
 
-filter_from : (p : Ref → Bool) (l : List Ref) (i : ℕ) (r : Ref) → slice_get (filter p l) i ≡ Some r → (p r ≡ true) × ((j : ℕ) × (slice_get l j ≡ Some r))
+pub filter_from : (p : Ref → Bool) (l : List Ref) (i : ℕ) (r : Ref) → slice_get (filter p l) i ≡ Some r → (p r ≡ true) × ((j : ℕ) × (slice_get l j ≡ Some r))
 filter_from p [] i r read = absurd (none-some r read)
 filter_from p (x ∷ xs) i r read = head (p x) refl i read (filter_from p xs)
   where
@@ -27,7 +27,7 @@ filter_from p (x ∷ xs) i r read = head (p x) refl i read (filter_from p xs)
     head true e (suc i) read' more = let it = more i r read' in (it.0, (suc it.1.0, it.1.1))
     head false e i read' more = let it = more i r read' in (it.0, (suc it.1.0, it.1.1))
 
-filter_has : (p : Ref → Bool) (l : List Ref) (j : ℕ) (r : Ref) → slice_get l j ≡ Some r → p r ≡ true → (i : ℕ) × (slice_get (filter p l) i ≡ Some r)
+pub filter_has : (p : Ref → Bool) (l : List Ref) (j : ℕ) (r : Ref) → slice_get l j ≡ Some r → p r ≡ true → (i : ℕ) × (slice_get (filter p l) i ≡ Some r)
 filter_has p [] j r read e = absurd (none-some r read)
 filter_has p (x ∷ xs) zero r read e = let same : x ≡ r = (cc) in rw (same, e) (0, refl)
 filter_has p (x ∷ xs) (suc j) r read e = head (p x) (filter_has p xs j r read e)
@@ -37,7 +37,7 @@ filter_has p (x ∷ xs) (suc j) r read e = head (p x) (filter_has p xs j r read 
     head false it = it
 
 -- what is put in stands there
-put_has : (leaf : Ref) (rs : List Ref) → IsApart leaf rs → (i : ℕ) × (slice_get (put leaf rs) i ≡ Some leaf)
+pub put_has : (leaf : Ref) (rs : List Ref) → IsApart leaf rs → (i : ℕ) × (slice_get (put leaf rs) i ≡ Some leaf)
 put_has leaf [] a = (0, refl)
 put_has leaf (x ∷ xs) a = elim (a 0 x refl) as (λ _. (i : ℕ) × (slice_get (put leaf (x ∷ xs)) i ≡ Some leaf)) [
   | inl lower ↦ rw (before_apart leaf x lower) (0, refl)
