@@ -73,7 +73,7 @@ module _ (f g : Forest) (at : ℕ) (s : RefSet) (top : ℕ) (sound : IsSound f) 
 
 module _ (f g : Forest) (at : ℕ) (sound : IsSound f) (h : Replaces f g at (f.set at)) where
   none_lost : (key : ℕ) → Loses f at (f.set at) key → ⊥
-  none_lost key loses = loses.lacks loses.place loses.lost loses.was refl
+  none_lost key loses = loses.lacks loses.place loses.lost loses.was refl refl
 
   -- all other nodes are the same
   pub refit_same : (m : ℕ) → f.stands m ≡ true → (m ≡ at → ⊥) → Same f g m
