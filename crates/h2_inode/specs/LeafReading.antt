@@ -1,17 +1,14 @@
 -- A directory's tree and a file's are read from their leaves alone, whatever inodes are loaded, made or replaced.
-use Rattle.std.specs.Prelude.{◌≡◌, ℕ, true, List, Some}
-use Rattle.std.proofs.Common.{ap, ◌∙◌, inl, inr, subst}
+use Rattle.std.specs.Prelude.{◌≡◌, ℕ, List, Some}
+use Rattle.std.proofs.Common.{inl, inr}
 use Rattle.h2_num.specs.Places.{Places}
 use Rattle.h2_ref.specs.declared.reference.Ref.{Ref}
 use Rattle.h2_ref.specs.declared.reference.Dirent.{Dirent}
-use Rattle.h2_set.specs.RefSet.{RefSet}
-use Rattle.h2_set.specs.Forest.{KeepsLeaves, IsSound}
-use Rattle.h2_inode.specs.Nodes.{Replaces}
+use Rattle.h2_set.specs.Forest.{KeepsLeaves}
 use Rattle.h2_inode.specs.Access.{HasLeaves}
 use Rattle.h2_inode.specs.Contents.{IsPart, IsContents}
 use Rattle.h2_inode.specs.Directory.{Entries, IsNameOf, IsEntry, IsDirectory}
 use Rattle.h2_inode.specs.ListLaws.{each_mapped, all_mapped}
-use Rattle.h2_inode.specs.PathLaws.{refit_leaves}
 use Rattle.h2_inode.specs.Loaded.{at_root, View, reading}
 
 module _ (u v : View) (Content : Ref → Places → Type 0) (at : ℕ) (keeps : KeepsLeaves u.forest v.forest at) where

@@ -1,5 +1,5 @@
 -- Worked values of the reading of loaded nodes: a directory without a reference, and a list of one PFS.
-use Rattle.std.specs.Prelude.{◌≡◌, ◌≢◌, ◌<◌, ◌≤◌, ◌^◌, ℕ, List, [], ◌∷◌, AllPairs, All, refl}
+use Rattle.std.specs.Prelude.{◌≡◌, ◌≢◌, ◌<◌, ◌≤◌, ◌^◌, ℕ, [], ◌∷◌, refl}
 use Rattle.std.proofs.Common.{arith}
 use Rattle.std.specs.FinMap.{empty}
 use Rattle.h2_num.specs.Places.{Places}

@@ -1,5 +1,5 @@
 -- What trees stand for stays while indirect blocks and inodes are loaded.
-use Rattle.std.specs.Prelude.{◌≡◌, ◌⊎◌, ◌<◌, ◌≤◌, ◌+◌, ◌^◌, ℕ, zero, suc, Bool, true, false, List, [], ◌∷◌, length, slice_index_or, Contains, Option, Some, None, if◌then◌else◌, refl}
+use Rattle.std.specs.Prelude.{◌≡◌, ◌<◌, ◌≤◌, ◌+◌, ◌^◌, ℕ, zero, suc, Bool, true, false, List, [], ◌∷◌, length, slice_index_or, Contains, Option, Some, if◌then◌else◌, refl}
 use Rattle.std.proofs.Common.{ap, sym, ◌∙◌, arith, inl, inr, subst}
 use Rattle.std.proofs.lemmas.Bool.{cases_eq}
 use Rattle.std.proofs.lemmas.Bool.Decides.{nat_tests}
@@ -12,7 +12,7 @@ use Rattle.h2_set.specs.Forest.{Forest, LeavesOf, KeepsLeaves, IsSound, Walks, U
 use Rattle.h2_set.specs.LeafLaws.{outside_holds, leaves_rising, reaches_find}
 use Rattle.h2_set.specs.StayLaws.{leaves_stay_all, Same-Stays, Unchanged-walks}
 use Rattle.h2_inode.specs.declared.inode.Inode.{Inode}
-use Rattle.h2_inode.specs.Nodes.{Fields, Told, HasInode, IsInodeLeaf, IsNamed, IsUnloaded, IsAsTold, Seeks, KeepsOthersBeside}
+use Rattle.h2_inode.specs.Nodes.{Fields, Told, HasInode, IsInodeLeaf, IsUnloaded, IsAsTold, Seeks, KeepsOthersBeside}
 use Rattle.h2_inode.specs.NodeLaws.{named_back, brings_leaves, inode_held}
 use Rattle.h2_inode.specs.NamedLaws.{told_on, loaded_on, unloaded_on, brings_fresh, brings_loaded, brings_names, brings_bare}
 use Rattle.h2_inode.specs.Contents.{IsContents}
@@ -22,7 +22,7 @@ use Rattle.h2_inode.specs.Following.{Follows}
 use Rattle.h2_inode.specs.CarryLaws.{contents_carried, directory_carried, pfs_list_carried}
 use Rattle.h2_inode.specs.FollowLaws.{same_inode}
 use Rattle.h2_inode.specs.ListLaws.{all_beside}
-use Rattle.h2_inode.specs.Loaded.{Tree, at_root, of_leaves, HasAsLeaves, IsTold, IsLoaded, NamesInode, View, view_of, reading, IsSameTree, IsLeafOf, Rereads, HoldsOn, HoldsBut, TellsOn, StandsAlike, as_before, by_load, over_loads}
+use Rattle.h2_inode.specs.Loaded.{Tree, at_root, of_leaves, HasAsLeaves, IsTold, NamesInode, View, view_of, reading, IsSameTree, IsLeafOf, Rereads, HoldsOn, HoldsBut, TellsOn, StandsAlike, as_before, by_load, over_loads}
 
 -- A leaf of a list is found by its key.
 

@@ -1,16 +1,15 @@
 -- Where each leaf names one root at most, the reading of loaded nodes gives one answer at most.
-use Rattle.std.specs.Prelude.{◌≡◌, ◌⊎◌, ℕ, true, false, List, [], ◌∷◌, ◌++◌, Option, Some, None, refl}
+use Rattle.std.specs.Prelude.{◌≡◌, ℕ, true, false, List, ◌∷◌, ◌++◌, None, refl}
 use Rattle.std.proofs.Common.{ap, sym, ◌∙◌, inl, inr, subst}
 use Rattle.std.proofs.lemmas.Bool.{cases_Bool, cases_eq}
 use Rattle.std.proofs.lemmas.Option.{same_Some}
 use Rattle.h2_num.specs.Places.{Places, SameBelow}
 use Rattle.h2_ref.specs.declared.reference.Ref.{Ref}
-use Rattle.h2_set.specs.Ranges.{is_indirect}
 use Rattle.h2_set.specs.Forest.{Link, loaded, told, untold, Forest, refs, HasLeaves, done, one, near, far, IsSound, InPlace, Walks, ReadiesOnly, Alters, Stores, Makes}
 use Rattle.h2_set.specs.RefSet.{RefSet}
 use Rattle.h2_set.specs.declared.set.Split.{Split}
 use Rattle.h2_inode.specs.declared.inode.Inode.{Inode}
-use Rattle.h2_inode.specs.Nodes.{Fields, Told, HasInode, IsNamed, Brings, Replaces}
+use Rattle.h2_inode.specs.Nodes.{Told, HasInode, IsNamed, Brings, Replaces}
 use Rattle.h2_inode.specs.NodeLaws.{named_back}
 use Rattle.h2_inode.specs.Single.{IsSingle}
 use Rattle.h2_inode.specs.NamedLaws.{inode_one, brings_bare}

@@ -1,18 +1,18 @@
 -- Which inodes leaves name while inodes are loaded, made and replaced, as the reading of loaded nodes tells.
-use Rattle.std.specs.Prelude.{◌≡◌, ◌⊎◌, ℕ, true, false, List, Option, Some, None, refl}
+use Rattle.std.specs.Prelude.{◌≡◌, ◌⊎◌, ℕ, true, false, Option, refl}
 use Rattle.std.proofs.Common.{ap, sym, ◌∙◌, inl, inr, subst}
 use Rattle.std.proofs.lemmas.Bool.{cases_Bool, cases_eq}
 use Rattle.std.proofs.lemmas.Option.{none-some, same_Some}
 use Rattle.h2_ref.specs.declared.reference.Ref.{Ref}
 use Rattle.h2_set.specs.RefSet.{RefSet}
-use Rattle.h2_set.specs.Forest.{Forest, IsSound, InPlace, Same, Stays, GoesBelow, GoesWith}
+use Rattle.h2_set.specs.Forest.{Forest, IsSound, InPlace, Same, Stays}
 use Rattle.h2_set.specs.StayLaws.{Same-Stays}
 use Rattle.h2_inode.specs.declared.inode.Body.{Body}
 use Rattle.h2_inode.specs.declared.inode.Body.TheVariants.{Refs, Bytes}
 use Rattle.h2_inode.specs.declared.inode.Inode.{Inode}
-use Rattle.h2_inode.specs.Nodes.{Fields, fields_of, bytes_of, set_of, Told, HasInode, IsNamed, IsUnloaded, Brings, Replaces}
+use Rattle.h2_inode.specs.Nodes.{Fields, fields_of, bytes_of, set_of, HasInode, IsNamed, IsUnloaded, Brings, Replaces}
 use Rattle.h2_inode.specs.NodeLaws.{named_stays, named_back, inode_held}
-use Rattle.h2_inode.specs.Loaded.{Tree, at_root, of_leaves, IsTold, IsLoaded, NamesInode, View, IsSameTree, HoldsOn, HoldsBut, TellsOn}
+use Rattle.h2_inode.specs.Loaded.{Tree, at_root, IsTold, IsLoaded, NamesInode, View, IsSameTree, HoldsOn, HoldsBut, TellsOn}
 
 -- A root has one inode.
 

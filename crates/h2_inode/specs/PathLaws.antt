@@ -1,12 +1,12 @@
 -- Loaded paths and leaves stay where a call over inodes leaves them: where one root comes, in trees of which nothing
 -- goes with a leaf that is lost, and where an inode is replaced by one with the same set.
-use Rattle.std.specs.Prelude.{◌≡◌, ◌⊎◌, ◌<◌, ◌≤◌, ◌+◌, ℕ, true, List, Option, Some, slice_get, refl}
+use Rattle.std.specs.Prelude.{◌≡◌, ◌⊎◌, ◌<◌, ℕ, true, Option, Some, slice_get, refl}
 use Rattle.std.proofs.Common.{ap, sym, ◌∙◌, arith, inl, inr, subst}
 use Rattle.std.proofs.lemmas.Bool.{cases_eq}
 use Rattle.h2_ref.specs.declared.reference.Ref.{Ref}
 use Rattle.h2_set.specs.Ranges.{is_indirect}
 use Rattle.h2_set.specs.RefSet.{RefSet}
-use Rattle.h2_set.specs.Forest.{Forest, refs, loaded, KeepsLeaves, Alike, IsSound, Reaches, nowhere, here, below, InPlace, Same, Keeps, Loses, GoesBelow, GoesWith, Walks}
+use Rattle.h2_set.specs.Forest.{Forest, refs, loaded, KeepsLeaves, Alike, IsSound, Reaches, nowhere, here, below, InPlace, Same, Loses, Walks}
 use Rattle.h2_set.specs.StayLaws.{Alike-refl}
 use Rattle.h2_set.specs.ChangeLaws.{Same-Keeps, below_keeps, leaves_move}
 use Rattle.h2_inode.specs.Nodes.{IsInodeLeaf, IsNamed, IsUnloaded, Brings, Seeks, Plants, Replaces, Visits}
@@ -73,7 +73,7 @@ module _ (f g : Forest) (at : ℕ) (s : RefSet) (top : ℕ) (sound : IsSound f) 
 
 module _ (f g : Forest) (at : ℕ) (sound : IsSound f) (h : Replaces f g at (f.set at)) where
   none_lost : (key : ℕ) → Loses f at (f.set at) key → ⊥
-  none_lost key loses = loses.lacks loses.place loses.lost loses.was refl
+  none_lost key loses = loses.lacks loses.place loses.lost loses.was refl refl
 
   -- all other nodes are the same
   pub refit_same : (m : ℕ) → f.stands m ≡ true → (m ≡ at → ⊥) → Same f g m

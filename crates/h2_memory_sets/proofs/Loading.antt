@@ -222,6 +222,10 @@ module _ (f g : Forest) (at c i : ℕ) (r : Ref) (d : DiffersByLoad f g at c r) 
       | inl e ↦ subst (Stays f g) (sym e) here_stays
       | inr off ↦ Keeps-Stays f g m (keeps m st off)
     ];
+    roots = λ m st own. elim (same_or_not m c) as (λ _. f.stands m ≡ true) [
+      | inl e ↦ absurd (d.under (sym d.root ∙ subst (λ z. g.root z ≡ z) e own))
+      | inr ne ↦ d.stands m ne st
+    ];
     sets = λ m st. d.there m st;
     writable = λ m st. d.settled.loose.writable m;
     copies = λ m st. d.settled.loose.copies m;
