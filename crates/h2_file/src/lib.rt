@@ -8,11 +8,13 @@
 mod blocks;
 mod fault;
 mod merging;
+mod reading;
 mod touching;
 
 pub use blocks::Touched;
 pub use fault::{FILE_BYTES, FileFault, check_end};
 pub use merging::merge;
+pub use reading::read_block;
 pub use touching::{BLOCK_BYTES, EMBEDDED_BYTES, touched};
 
 #[cfg(test)]
