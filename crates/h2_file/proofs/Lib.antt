@@ -1,1 +1,5 @@
 pub mod Merged
+mod Parts
+mod Fronts
+mod CutLevels
+mod CutChild

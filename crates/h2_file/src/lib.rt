@@ -6,6 +6,7 @@
 #![tactic(auto)]
 
 mod blocks;
+mod cutting;
 mod fault;
 mod merging;
 mod reading;
