@@ -1,1 +1,6 @@
 pub mod Merged
+mod Parts
+mod Fronts
+mod CutLevels
+mod CutChild
+mod Sized

@@ -6,13 +6,18 @@
 #![tactic(auto)]
 
 mod blocks;
+mod cutting;
 mod fault;
 mod merging;
+mod reading;
+mod sizing;
 mod touching;
 
 pub use blocks::Touched;
+pub use cutting::cut_blocks;
 pub use fault::{FILE_BYTES, FileFault, check_end};
 pub use merging::merge;
+pub use reading::read_block;
 pub use touching::{BLOCK_BYTES, EMBEDDED_BYTES, touched};
 
 #[cfg(test)]

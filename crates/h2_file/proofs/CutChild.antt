@@ -1,0 +1,293 @@
+-- What a cut below a node is to the node.
+use Rattle.std.proofs.Common.{◌≡◌, ℕ, ◌+◌, ◌-◌, ◌<◌, ◌≤◌, ◌^◌, true, false, arith, refl, sym, ◌∙◌, ap, List, [], ◌∷◌, ◌++◌, length, Option, Some, None, subst, ◌⊎◌, inl, inr, slice_get, take, suc, zero}
+use Rattle.std.specs.Prelude.{IfSome}
+use Rattle.std.proofs.lemmas.Nat.{pow_pos, pow_below}
+use Rattle.std.proofs.lemmas.Option.{slice_get_within}
+use Rattle.std.proofs.lemmas.List.{append-nil}
+use Rattle.h2_ref.specs.declared.reference.Ref.{Ref}
+use Rattle.h2_set.specs.Ranges.{Rising, limit, holds, is_indirect, leads_on}
+use Rattle.h2_set.specs.RefSet.{RefSet}
+use Rattle.h2_set.specs.Forest.{Forest, refs, loaded, HasLeaves, done, near, LeavesOf, KeepsLeaves, Alike, IsChild, IsSoundNode, IsSound, InPlace, Stays, Keeps, Renews, Fixed, Walks, Loads, Reaches, nowhere, here, below}
+use Rattle.h2_set.specs.StayLaws.{Alike-refl, Fixed-trans, InPlace-trans, Walks-trans, Walks-leaves, Reaches-walks, leaves_stay, stands_below}
+use Rattle.h2_set.specs.LeafLaws.{holds_inside, leaves_rising}
+use Rattle.h2_set.specs.ChangeLaws.{Keeps-Stays, Keeps-trans, leaves_move, same_or_not, apart_places}
+use Rattle.h2_set.specs.RenewLaws.{Keeps-Renews, Renews-trans, Alike-length, like_at}
+use Rattle.h2_tree.specs.Changes.{Under, LoadsTouched, WalksUnder, PathUnloaded}
+use Rattle.h2_file.specs.Blocks.{HasContents}
+use Rattle.h2_file.specs.Cutting.{IsCutBlock, cut_to, front, KeepsFront, Cuts}
+use Rattle.h2_file.proofs.Parts.{cut_append, Parted, leaves_parted, leaves_join, take_from, take_next, in_order}
+use Rattle.h2_file.proofs.Fronts.{contents_keep}
+use Rattle.h2_file.proofs.CutLevels.{Touched-on, Readied, cuts_front, none_of, own_below, cut_parts}
+
+Alike-take : (n : ℕ) (rs qs : List Ref) → Alike rs qs → Alike (take n rs) (take n qs)
+Alike-take zero rs qs a = tt
+Alike-take (suc n) [] [] a = tt
+Alike-take (suc n) [] (q ∷ qs) a = absurd a
+Alike-take (suc n) (r ∷ rs) [] a = absurd a
+Alike-take (suc n) (r ∷ rs) (q ∷ qs) a = (a.0, Alike-take n rs qs a.1)
+
+contents_root : (f : Forest) (m n : ℕ) → f.root m ≡ f.root n → HasContents f m → HasContents f n
+contents_root f m n e h = record {
+  kinds = λ r may. h.kinds r (subst (λ k. f.allows k r ≡ true) (sym e) may);
+  kinds_all = λ r is. subst (λ k. f.allows k r ≡ true) e (h.kinds_all r is);
+  keybits = ap f.leaf_bits (sym e) ∙ h.keybits;
+}
+
+-- what a loaded path at a node leads on to
+record Onward (f : Forest) (key at : ℕ) (r : Ref) : Type 0 where
+  pub next : ℕ
+  pub link : f.link at r.key ≡ loaded next
+  pub found : Option Ref
+  pub rest : Reaches f key next found
+
+holder : (low high key : ℕ) (rs : List Ref) (i j : ℕ) (q r : Ref) → Rising low high rs → slice_get rs i ≡ Some q → slice_get rs j ≡ Some r → holds key q ≡ true → holds key r ≡ true → r ≡ q
+holder low high key rs i j q r h read_q read_r in_q in_r =
+    let a = holds_inside key q in_q in
+    let b = holds_inside key r in_r in
+    elim (same_or_not j i) as (λ _. r ≡ q) [
+      | inl e ↦ let moved : slice_get rs i ≡ Some r = subst (λ z. slice_get rs z ≡ Some r) e read_r in cc
+      | inr ne ↦ elim (apart_places low high rs i j q r h read_q read_r ne) as (λ _. r ≡ q) [
+        | inl lower ↦ absurd (omega (arith, lower, a.0, b.1))
+        | inr upper ↦ absurd (omega (arith, upper, a.1, b.0))
+      ]
+    ]
+
+onward : {f : Forest} {key at : ℕ} {o : Option Ref} → IsSound f → Reaches f key at o → f.stands at ≡ true → (i : ℕ) (r : Ref) → slice_get (refs f at) i ≡ Some r → holds key r ≡ true → is_indirect r ≡ true → Onward f key at r
+onward sound (nowhere miss) stands i r read in_r ind = absurd (let clash : true ≡ false = sym in_r ∙ miss i r read in cc)
+onward {key = key} sound (here {at = at} {r = q} j read_q in_q leaf) stands i r read in_r ind =
+    let same : r ≡ q = holder _ _ key _ j i q r (sound.node at stands).inside read_q read in_q in_r in
+    absurd (let clash : false ≡ true = sym leaf ∙ (ap (λ (x : Ref). is_indirect x) (sym same) ∙ ind) in cc)
+onward {f} {key} sound (below {at = at} {c = c} {r = q} {o = o} j read_q in_q ind_q link rest) stands i r read in_r ind =
+    let same : r ≡ q = holder _ _ key _ j i q r (sound.node at stands).inside read_q read in_q in_r in
+    subst (λ (x : Ref). Onward f key at x) (sym same) (record { next = c; link = link; found = o; rest = rest })
+
+-- A load of what the last reference below the size leads to
+
+module _ (f h : Forest) (at i size : ℕ) (r : Ref) (sound : IsSound f) (stands : f.stands at ≡ true) (read : slice_get (refs f at) i ≡ Some r) (ind : is_indirect r ≡ true) (in_r : holds size r ≡ true) (walks : Walks f h) (loads : Loads f h at r.key) where
+  pub load_touched : LoadsTouched f h size size
+  load_touched = record {
+    only = λ m st. elim (loads.new m st) as (λ _. (f.stands m ≡ true) ⊎ ((h.low m ≤ size) × (size < h.low m + 2 ^ h.bits m))) [
+      | inl was ↦ inl was
+      | inr link ↦
+          let node = walks.sound.node at (walks.stays at stands).place.stands in
+          let read_h : slice_get (refs h at) i ≡ Some r = ap (λ (s : RefSet). slice_get s.refs i) (walks.sets at stands) ∙ read in
+          let kid = node.child r.key m link in
+          let bits = node.bits i m r read_h ind link in
+          let it = holds_inside size r in_r in
+          inr (omega (arith, kid.low, it.0), omega (arith, kid.low, ap (λ z. 2 ^ z) bits, it.1))
+    ];
+  }
+
+  pub unloaded_child : ((q : Ref) (c : ℕ) → slice_get (refs f at) i ≡ Some q → f.link at q.key ≡ loaded c → ⊥) → PathUnloaded f at size
+  unloaded_child unloaded o reached = let it = onward sound reached stands i r read in_r ind in unloaded r it.next read it.link
+
+  module _ (c : ℕ) (link : h.link at r.key ≡ loaded c) where
+    there : InPlace f h at
+    there = (walks.stays at stands).place
+
+    node : IsSoundNode h at
+    node = walks.sound.node at there.stands
+
+    read_h : slice_get (refs h at) i ≡ Some r
+    read_h = ap (λ (s : RefSet). slice_get s.refs i) (walks.sets at stands) ∙ read
+
+    child : IsChild h at r.key c
+    child = node.child r.key c link
+
+    bits_c : h.bits c ≡ r.keybits
+    bits_c = node.bits i c r read_h ind link
+
+    pub child_stands : h.stands c ≡ true
+    child_stands = child.stands
+
+    pub child_fewer : h.bits c < f.bits at
+    child_fewer = (let less = child.fewer in let same = there.bits in omega (arith, less, same))
+
+    pub child_room : (f.copies at ≤ 62) × (62 ≤ f.room) → (h.copies c ≤ 62) × (62 ≤ h.room)
+    child_room room =
+        let some = (node.fits i r read_h).some_bits ind in
+        let slope = (walks.sound.node c child.stands).slope in
+        let bits = bits_c in
+        (omega (arith, bits, some, slope), omega (arith, walks.room, room.1))
+
+    pub child_contents : HasContents f at → HasContents h c
+    child_contents holds_contents = contents_root h at c (sym child.root) (contents_keep f h at (sym there.root) walks.fixed.leaf_bits walks.fixed.allows holds_contents)
+
+    pub unloaded_below : PathUnloaded h c size → PathUnloaded f at size
+    unloaded_below unloaded o reached =
+        let it = onward sound reached stands i r read in_r ind in
+        let link_h = (walks.stays at stands).near r.key it.next it.link in
+        let same : it.next ≡ c = cc (link_h, link) in
+        unloaded it.found (subst (λ z. Reaches h size z it.found) same (Reaches-walks sound walks (stands_below f sound at r.key it.next stands it.link) it.rest))
+
+    -- what lies outside the node lies outside the child
+    outside : (m : ℕ) → f.stands m ≡ true → (Under f m at → ⊥) → Under h m c → ⊥
+    outside m st out u =
+        let stay = (walks.stays m st).place in
+        let here_at = there in
+        let kid = child in
+        out (record {
+          low = omega (arith, u.low, kid.above, stay.low, here_at.low);
+          high = omega (arith, u.high, kid.within, stay.low, ap (λ z. 2 ^ z) stay.bits, here_at.low, ap (λ z. 2 ^ z) here_at.bits);
+        })
+
+    other_node : (m : ℕ) → (Under f m at → ⊥) → m ≡ at → ⊥
+    other_node m out e = out (subst (λ z. Under f z at) (sym e) (record { low = omega arith; high = omega arith }))
+
+    at_outside : Under h at c → ⊥
+    at_outside u = (let kid = child in let more = pow_below (h.bits c) (h.bits at) kid.fewer in omega (arith, u.low, u.high, more))
+
+    -- what was done below the child makes the node ready
+    readied : (k : Forest) → IsSound k → Fixed h k → InPlace h k at → ((m : ℕ) → h.stands m ≡ true → h.root m ≡ h.root c → (Under h m c → ⊥) → Keeps h k m) → ((m : ℕ) → h.stands m ≡ true → (h.root m ≡ h.root c → ⊥) → Renews h k m) → ((m : ℕ) → h.stands m ≡ true → k.stands m ≡ true → InPlace h k m) → LoadsTouched h k size size → h.room + k.copies at ≤ k.room + 62 → k.room ≤ h.room → k.spare ≡ h.spare → Readied f k at size
+    readied k sound_k fixed place tree above still touched room falls spare = record {
+      sound = sound_k;
+      fixed = Fixed-trans f h k walks.fixed fixed;
+      place = InPlace-trans f h k at there place;
+      tree = λ m st root out.
+          let first = loads.keeps m st (other_node m out) in
+          Keeps-trans f h k m first (tree m first.place.stands (first.place.root ∙ root ∙ sym there.root ∙ sym child.root) (outside m st out));
+      above = λ m st root.
+          let first = loads.keeps m st (λ e. root (ap f.root e)) in
+          Renews-trans f h k m (Keeps-Renews f h m first) (above m first.place.stands (λ e. root (sym first.place.root ∙ e ∙ child.root ∙ there.root)));
+      still = λ m st st'. let first = (walks.stays m st).place in InPlace-trans f h k m first (still m first.stands st');
+      touched = Touched-on f h k size size still load_touched touched;
+      room = (let same = walks.room in omega (arith, same, room));
+      room_falls = (let same = walks.room in omega (arith, same, falls));
+      spare = spare ∙ walks.spare;
+    }
+
+    -- the child was cut
+    module _ (k : Forest) (last : Option Ref) (cuts : Cuts h k c size last) where
+      pub kept : Keeps h k at
+      kept = cuts.tree at there.stands (sym child.root) at_outside
+
+      link_k : k.link at r.key ≡ loaded c
+      link_k = kept.link r.key ∙ link
+
+      none_to_copy : k.copies at ≡ 0
+      none_to_copy = (let kid = (cuts.sound.node at kept.place.stands).child r.key c link_k in let e = kid.copies in let z = cuts.copies in omega (arith, e, z))
+
+      pub ready_cut : Readied f k at size
+      ready_cut = readied k cuts.sound cuts.fixed kept.place cuts.tree cuts.above cuts.still cuts.touched (let e = none_to_copy in let room = cuts.room in omega (arith, e, room)) cuts.room_falls cuts.spare
+
+      pub stands_cut : k.stands at ≡ true
+      stands_cut = kept.place.stands
+
+      pub copies_cut : k.copies at ≤ k.room
+      copies_cut = (let e = none_to_copy in omega (arith, e))
+
+      pub length_cut : 0 < length (refs k at)
+      length_cut = (let n = Alike-length (refs h at) (refs k at) kept.alike in let within = slice_get_within (refs h at) i r read_h in omega (arith, n, within))
+
+      -- nodes below the references before stay
+      pub below_before : (j d : ℕ) (x : Ref) → slice_get (take i (refs h at)) j ≡ Some x → is_indirect x ≡ true → h.link at x.key ≡ loaded d → KeepsLeaves h k d
+      below_before j d x read' ind' link' l hl =
+          let at_j = take_from i (refs h at) j x read' in
+          let order = in_order _ _ (refs h at) j i x r node.inside at_j.1 read_h at_j.0 in
+          let kid = node.child x.key d link' in
+          let bits_d = node.bits j d x at_j.1 ind' link' in
+          let P : ℕ → Type 0 = λ m. (h.stands m ≡ true) × (h.root m ≡ h.root at) × (x.key ≤ h.low m) × (h.low m + 2 ^ h.bits m ≤ limit x) in
+          let closed : (m n e : ℕ) → P m → h.link m n ≡ loaded e → P e = λ m n e p link''. let kid' = (walks.sound.node m p.0).child n e link'' in (kid'.stands, kid'.root ∙ p.1, omega (arith, kid'.above, p.2), omega (arith, kid'.within, p.3)) in
+          let out : (m : ℕ) → P m → (Under h m c → ⊥) = λ m p u. let pos = pow_pos (h.bits m) in let lo = child.low in omega (arith, order, p.3, u.low, lo, pos) in
+          let stay : (m : ℕ) → P m → Stays h k m = λ m p. Keeps-Stays h k m (cuts.tree m p.0 (p.1 ∙ sym child.root) (out m p)) in
+          let start : P d = (kid.stands, kid.root, omega (arith, kid.low), omega (arith, kid.low, ap (λ z. 2 ^ z) bits_d)) in
+          leaves_stay h k P closed stay start hl (refs k d) (stay d start).alike
+
+    -- the child has nothing below the size
+    module _ (k : Forest) (last : Option Ref) (under : WalksUnder h k c) (touched : LoadsTouched h k size size) where
+      whole : Walks f k
+      whole = Walks-trans f h k walks under.walks
+
+      pub ready_none : f.copies at ≤ 62 → Readied f k at size
+      ready_none copies = readied k under.walks.sound under.walks.fixed (under.walks.stays at there.stands).place (λ m st root out. under.keeps m st (λ root' u. out u)) (λ m st root. Keeps-Renews h k m (under.keeps m st (λ root' u. root root'))) (λ m st st'. (under.walks.stays m st).place) touched (let a = whole.copies at stands in let b = under.walks.room in omega (arith, a, b, copies)) (let b = under.walks.room in omega (arith, b)) under.walks.spare
+
+      pub under_none : WalksUnder f k at
+      under_none = record {
+        walks = whole;
+        keeps = λ m st out.
+            let differs : m ≡ at → ⊥ = λ e. out (ap f.root e) (subst (λ z. Under f z at) (sym e) (record { low = omega arith; high = omega arith })) in
+            let first = loads.keeps m st differs in
+            Keeps-trans f h k m first (under.keeps m first.place.stands (λ root u. out (sym first.place.root ∙ root ∙ child.root ∙ there.root) (up m st u)));
+      }
+        where
+          up : (m : ℕ) → f.stands m ≡ true → Under h m c → Under f m at
+          up m st u =
+              let stay = (walks.stays m st).place in
+              let here_at = there in
+              let kid = child in
+              record {
+                low = omega (arith, u.low, kid.above, stay.low, here_at.low);
+                high = omega (arith, u.high, kid.within, stay.low, ap (λ z. 2 ^ z) stay.bits, here_at.low, ap (λ z. 2 ^ z) here_at.bits);
+              }
+
+      pub touched_none : LoadsTouched f k size size
+      touched_none = Touched-on f h k size size (λ m st st'. (under.walks.stays m st).place) load_touched touched
+
+      pub whole_none : Walks f k
+      whole_none = whole
+
+-- The leaves
+
+module _ (f h : Forest) (at count size : ℕ) (last : Option Ref) (r : Ref) (sound : IsSound f) (stands : f.stands at ≡ true) (is : IfSome last (IsCutBlock size)) (holds_contents : HasContents f at) (pos : 0 < count) (read : slice_get (refs f at) (count - 1) ≡ Some r) (low : r.key < size) (past : (j : ℕ) (q : Ref) → slice_get (refs f at) j ≡ Some q → count ≤ j → size ≤ q.key) (ind : is_indirect r ≡ true) (in_r : holds size r ≡ true) (walks : Walks f h) (loads : Loads f h at r.key) (c : ℕ) (link : h.link at r.key ≡ loaded c) where
+  stands_h : h.stands at ≡ true
+  stands_h = (walks.stays at stands).place.stands
+
+  read_at_h : slice_get (refs h at) (count - 1) ≡ Some r
+  read_at_h = ap (λ (s : RefSet). slice_get s.refs (count - 1)) (walks.sets at stands) ∙ read
+
+  contents_h : HasContents h at
+  contents_h = contents_keep f h at (sym (walks.stays at stands).place.root) walks.fixed.leaf_bits walks.fixed.allows holds_contents
+
+  past_h : (j : ℕ) (q : Ref) → slice_get (refs h at) j ≡ Some q → count ≤ j → size ≤ q.key
+  past_h j q read' le = past j q (ap (λ (s : RefSet). slice_get s.refs j) (sym (walks.sets at stands)) ∙ read') le
+
+  parts_h : (l : List Ref) (p : Parted h at (count - 1) (refs h at) r l) → cut_to size last l ≡ p.before ++ cut_to size last p.own
+  parts_h = cut_parts h at count size last r walks.sound stands_h is contents_h pos read_at_h low past_h
+
+  pub leaves_cut : (k : Forest) → Cuts h k c size last → (l : List Ref) → LeavesOf f at l → HasLeaves k at (front count None (refs k at)) (cut_to size last l)
+  leaves_cut k cuts l hl =
+      let F : List Ref → List Ref = cut_to size last in
+      let p = leaves_parted (Walks-leaves f h sound walks at stands l hl) (count - 1) r read_at_h in
+      let keeps : Keeps h k at = kept f h at (count - 1) size r sound stands read ind in_r walks loads c link k last cuts in
+      let q = like_at (refs h at) (refs k at) keeps.alike (count - 1) r read_at_h in
+      let before : HasLeaves k at (take (count - 1) (refs k at)) p.before = leaves_move p.has_before (take (count - 1) (refs k at)) (Alike-take (count - 1) (refs h at) (refs k at) keeps.alike) (λ j x read' ind'. keeps.link x.key) (below_before f h at (count - 1) size r sound stands read ind in_r walks loads c link k last cuts) in
+      let b = own_below r c p.has_own refl ind link in
+      let kids : LeavesOf k c (F b.list) = cuts.leaves b.list b.leaves in
+      let rising = leaves_rising kids _ _ (cuts.sound.node c cuts.place.stands).inside in
+      let kid = (walks.sound.node at stands_h).child r.key c link in
+      let bits = (walks.sound.node at stands_h).bits (count - 1) c r read_at_h ind link in
+      let q_key : q.ref.key ≡ r.key = q.like.key in
+      let q_bits : q.ref.keybits ≡ r.keybits = q.like.keybits in
+      let lo : q.ref.key ≡ k.low c = q_key ∙ sym (cuts.place.low ∙ kid.low) in
+      let hi : limit q.ref ≡ k.low c + 2 ^ k.bits c = (let e = lo in let e2 = ap (λ z. 2 ^ z) (q_bits ∙ sym (cuts.place.bits ∙ bits)) in omega (arith, e, e2)) in
+      let inside : Rising q.ref.key (limit q.ref) (F b.list) = subst (λ z. Rising z (limit q.ref) (F b.list)) (sym lo) (subst (λ z. Rising (k.low c) z (F b.list)) (sym hi) rising) in
+      let link_q : k.link at q.ref.key ≡ loaded c = ap (λ z. k.link at z) q_key ∙ (keeps.link r.key ∙ link) in
+      let single : HasLeaves k at (q.ref ∷ []) (F b.list ++ []) = near (ap leads_on q.like.kind ∙ ind) link_q kids inside done in
+      let own : F p.own ≡ F b.list ++ [] = ap F b.same ∙ cut_append size last b.list [] in
+      let all : HasLeaves k at (take (count - 1) (refs k at) ++ (q.ref ∷ [])) (p.before ++ (F b.list ++ [])) = leaves_join before single in
+      let now : F l ≡ p.before ++ (F b.list ++ []) = parts_h l p ∙ ap (λ (z : List Ref). p.before ++ z) own in
+      let next : count ≡ suc (count - 1) = omega (arith, pos) in
+      let refs_are : take count (refs k at) ≡ take (count - 1) (refs k at) ++ (q.ref ∷ []) = ap (λ n. take n (refs k at)) next ∙ take_next (refs k at) (count - 1) q.ref q.read in
+      subst (λ z. HasLeaves k at z (F l)) (sym refs_are) (subst (λ z. HasLeaves k at (take (count - 1) (refs k at) ++ (q.ref ∷ [])) z) (sym now) all)
+
+  module _ (none : (b : List Ref) → LeavesOf h c b → cut_to size last b ≡ []) where
+    front_alone : (l : List Ref) (p : Parted h at (count - 1) (refs h at) r l) → cut_to size last l ≡ p.before
+    front_alone l p =
+        let F : List Ref → List Ref = cut_to size last in
+        let b = own_below r c p.has_own refl ind link in
+        let own : F p.own ≡ [] = ap F b.same ∙ (ap F (append-nil b.list) ∙ none b.list b.leaves) in
+        parts_h l p ∙ (ap (λ (z : List Ref). p.before ++ z) own ∙ append-nil p.before)
+
+    pub leaves_front : (k : Forest) → Walks h k → (l : List Ref) → LeavesOf f at l → HasLeaves k at (front (count - 1) None (refs k at)) (cut_to size last l)
+    leaves_front k after l hl =
+        let p = leaves_parted (Walks-leaves f h sound walks at stands l hl) (count - 1) r read_at_h in
+        let here_k : HasLeaves k at (take (count - 1) (refs h at)) p.before = leaves_stay h k (λ m. h.stands m ≡ true) (stands_below h walks.sound) after.stays stands_h p.has_before (take (count - 1) (refs h at)) (Alike-refl (take (count - 1) (refs h at))) in
+        let same : take (count - 1) (refs h at) ≡ take (count - 1) (refs k at) = ap (λ (s : RefSet). take (count - 1) s.refs) (sym (after.sets at stands_h)) in
+        subst (λ z. HasLeaves k at z (cut_to size last l)) same (subst (λ z. HasLeaves k at (take (count - 1) (refs h at)) z) (sym (front_alone l p)) here_k)
+
+    pub leaves_none : count ≡ 1 → (l : List Ref) → LeavesOf f at l → cut_to size last l ≡ []
+    leaves_none one_is l hl =
+        let p = leaves_parted (Walks-leaves f h sound walks at stands l hl) (count - 1) r read_at_h in
+        let zero_is : count - 1 ≡ 0 = omega (arith, one_is) in
+        let empty : take (count - 1) (refs h at) ≡ [] = ap (λ n. take n (refs h at)) zero_is in
+        front_alone l p ∙ none_of p.has_before empty

@@ -1,0 +1,288 @@
+-- A cut at a node, and what one below it is to the node.
+use Rattle.std.proofs.Common.{◌≡◌, ℕ, ◌+◌, ◌-◌, ◌%◌, ◌<◌, ◌≤◌, ◌^◌, true, false, arith, refl, sym, ◌∙◌, ap, List, [], ◌∷◌, ◌++◌, length, Option, Some, None, subst, ◌⊎◌, inl, inr, Result, Ok, Err, nat_eq, slice_get, slice_set, take, drop, suc, zero, Bool, if◌then◌else◌}
+use Rattle.std.specs.Prelude.{IfSome, OnErr}
+use Rattle.std.proofs.lemmas.Bool.Decides.{nat_tests}
+use Rattle.std.proofs.lemmas.Nat.{pow_pos, pow_below}
+use Rattle.std.proofs.lemmas.Option.{none-some, slice_get_within}
+use Rattle.std.proofs.lemmas.List.{append-nil}
+use Rattle.h2_ref.specs.declared.reference.Ref.{Ref}
+use Rattle.h2_set.specs.Ranges.{Rising, limit, holds, is_indirect, leads_on}
+use Rattle.h2_set.specs.RefSet.{RefSet}
+use Rattle.h2_set.specs.Forest.{Forest, refs, loaded, told, HasLeaves, done, one, near, far, LeavesOf, KeepsLeaves, Alike, Fits, IsChild, IsSoundNode, IsSound, InPlace, Stays, Keeps, Renews, Fixed, Walks, Loads, KeepsBeside, Reaches, nowhere, here, below}
+use Rattle.h2_set.specs.StayLaws.{Alike-refl, Fixed-refl, Fixed-trans, InPlace-refl, InPlace-trans, Walks-refl, Walks-trans, Walks-leaves, Reaches-walks, leaves_stay, stands_below}
+use Rattle.h2_set.specs.LeafLaws.{holds_inside, holds_outside, leaves_rising}
+use Rattle.h2_set.specs.ChangeLaws.{Keeps-Stays, Keeps-refl, Keeps-trans, leaves_move, same_or_not, apart_places}
+use Rattle.h2_set.specs.RenewLaws.{Keeps-Renews, Renews-trans, like_at}
+use Rattle.h2_tree.specs.Changes.{Under, LoadsTouched, WalksUnder, PathUnloaded}
+use Rattle.h2_file.specs.Blocks.{HasContents}
+use Rattle.h2_file.specs.Cutting.{cut_block, IsCutBlock, in_place, cut_to, front, FitsLast, KeepsFront, Cuts}
+use Rattle.h2_file.proofs.Parts.{cut_append, cut_one, cut_key, end_block, Parted, leaves_parted, leaves_join, behind_gone, before_stays, take_from, drop_from, take_next, set_next, in_order}
+use Rattle.h2_file.proofs.Fronts.{contents_keep}
+
+pub always_err : {T E P : Type 0} (r : Result T E) → P → OnErr r P
+always_err (Ok o) p = tt
+always_err (Err e) p = p
+
+pub beside_on : {B : Type 0} (f g h : Forest) (a b c : ℕ → B) → ((m : ℕ) → f.stands m ≡ true → g.stands m ≡ true) → KeepsBeside f g a b → KeepsBeside g h b c → KeepsBeside f h a c
+beside_on f g h a b c still first second = record { same = λ m st st'. let there = still m st in second.same m there st' ∙ first.same m st there }
+
+pub Touched-refl : (f : Forest) (from to : ℕ) → LoadsTouched f f from to
+Touched-refl f from to = record { only = λ m st. inl st }
+
+pub Touched-on : (f g h : Forest) (from to : ℕ) → ((m : ℕ) → g.stands m ≡ true → h.stands m ≡ true → InPlace g h m) → LoadsTouched f g from to → LoadsTouched g h from to → LoadsTouched f h from to
+Touched-on f g h from to places a b = record {
+  only = λ m st. elim (b.only m st) as (λ _. (f.stands m ≡ true) ⊎ ((h.low m ≤ to) × (from < h.low m + 2 ^ h.bits m))) [
+    | inr new ↦ inr new
+    | inl was ↦ elim (a.only m was) as (λ _. (f.stands m ≡ true) ⊎ ((h.low m ≤ to) × (from < h.low m + 2 ^ h.bits m))) [
+      | inl first ↦ inl first
+      | inr new ↦
+          let place = places m was st in
+          inr (omega (arith, place.low, new.0), omega (arith, place.low, ap (λ z. 2 ^ z) place.bits, new.1))
+    ]
+  ];
+}
+
+-- each reference of a file's tree is a block long at least
+pub wide : (f : Forest) (at : ℕ) (r : Ref) → HasContents f at → Fits f at r → 14 ≤ r.keybits
+wide f at r holds fits = by (is_indirect r) refl
+  where
+    by : (b : Bool) → is_indirect r ≡ b → 14 ≤ r.keybits
+    by true e = let it = fits.wide e in let n = holds.keybits in omega (arith, it, n)
+    by false e = let it = fits.leaf e in let n = holds.keybits in omega (arith, it, n)
+
+-- Before a node's set is cut: what was done below it
+
+pub record Readied (f k : Forest) (at size : ℕ) : Type 0 where
+  pub sound : IsSound k
+  pub fixed : Fixed f k
+  pub place : InPlace f k at
+  pub tree : (m : ℕ) → f.stands m ≡ true → f.root m ≡ f.root at → (Under f m at → ⊥) → Keeps f k m
+  pub above : (m : ℕ) → f.stands m ≡ true → (f.root m ≡ f.root at → ⊥) → Renews f k m
+  pub still : (m : ℕ) → f.stands m ≡ true → k.stands m ≡ true → InPlace f k m
+  pub touched : LoadsTouched f k size size
+  pub room : f.room + k.copies at ≤ k.room + 62
+  pub room_falls : k.room ≤ f.room
+  pub spare : k.spare ≡ f.spare
+
+pub readied_here : (f : Forest) (at size : ℕ) → IsSound f → f.stands at ≡ true → f.copies at ≤ 62 → Readied f f at size
+readied_here f at size sound stands copies = record {
+  sound = sound;
+  fixed = Fixed-refl f;
+  place = InPlace-refl f at stands;
+  tree = λ m st root out. Keeps-refl f m st;
+  above = λ m st root. Keeps-Renews f f m (Keeps-refl f m st);
+  still = λ m st _. InPlace-refl f m st;
+  touched = Touched-refl f size size;
+  room = omega (arith, copies);
+  room_falls = omega arith;
+  spare = refl;
+}
+
+pub cuts_front : (f k g : Forest) (at size count : ℕ) (last last' : Option Ref) → Readied f k at size → KeepsFront k g at count last' → ((l : List Ref) → LeavesOf f at l → HasLeaves k at (front count last' (refs k at)) (cut_to size last l)) → Cuts f g at size last
+cuts_front f k g at size count last last' mid keeps leaves = record {
+  sound = keeps.sound;
+  fixed = Fixed-trans f k g mid.fixed keeps.fixed;
+  place = InPlace-trans f k g at mid.place keeps.place;
+  leaves = λ l hl. keeps.leaves (cut_to size last l) (leaves l hl);
+  tree = λ m st root out.
+      let first = mid.tree m st root out in
+      Keeps-trans f k g m first (keeps.tree m first.place.stands (first.place.root ∙ root ∙ sym mid.place.root) (λ u. out (record {
+        low = omega (arith, u.low, first.place.low, mid.place.low);
+        high = omega (arith, u.high, first.place.low, ap (λ z. 2 ^ z) first.place.bits, mid.place.low, ap (λ z. 2 ^ z) mid.place.bits);
+      })));
+  above = λ m st root.
+      let first = mid.above m st root in
+      Renews-trans f k g m first (keeps.above m first.place.stands (λ e. root (sym first.place.root ∙ e ∙ mid.place.root)));
+  still = λ m st st'. InPlace-trans f k g m (mid.still m st (keeps.none_new m st')) (keeps.still m st');
+  touched = Touched-on f k g size size (λ m was st. keeps.still m st) mid.touched (record { only = λ m st. inl (keeps.none_new m st) });
+  writable = keeps.writable;
+  copies = keeps.copies;
+  room = omega (arith, mid.room, keeps.room);
+  room_falls = omega (arith, mid.room_falls, keeps.room);
+  spare = keeps.spare ∙ mid.spare;
+}
+
+pub none_of : {f : Forest} {at : ℕ} {rs l : List Ref} → HasLeaves f at rs l → rs ≡ [] → l ≡ []
+none_of done e = refl
+none_of (one {r = r} {rs = rs} leaf rest) e = absurd (let n = ap length e in omega (arith, n))
+none_of (near {r = r} {rs = rs} ind link kids inside rest) e = absurd (let n = ap length e in omega (arith, n))
+none_of (far {r = r} {rs = rs} ind link inside rest) e = absurd (let n = ap length e in omega (arith, n))
+
+-- the leaves of a leaf alone
+own_leaf : {f : Forest} {at : ℕ} {rs l : List Ref} (r : Ref) → HasLeaves f at rs l → rs ≡ r ∷ [] → is_indirect r ≡ false → l ≡ r ∷ []
+own_leaf r done e k = absurd (let n = ap length e in omega (arith, n))
+own_leaf r (one {r = x} {rs = rs} {l = l} leaf rest) e k =
+    let first : slice_get (x ∷ rs) 0 ≡ slice_get (r ∷ []) 0 = ap (λ (z : List Ref). slice_get z 0) e in
+    let same : x ≡ r = (cc) in
+    let others : rs ≡ [] = ap (drop 1) e in
+    let none = none_of rest others in
+    rw (same, none) refl
+own_leaf r (near {r = x} {rs = rs} ind link kids inside rest) e k =
+    let first : slice_get (x ∷ rs) 0 ≡ slice_get (r ∷ []) 0 = ap (λ (z : List Ref). slice_get z 0) e in
+    let same : x ≡ r = (cc) in
+    absurd (let clash : true ≡ false = sym ind ∙ (ap (λ (y : Ref). is_indirect y) same ∙ k) in cc)
+own_leaf r (far {r = x} {rs = rs} ind link inside rest) e k =
+    let first : slice_get (x ∷ rs) 0 ≡ slice_get (r ∷ []) 0 = ap (λ (z : List Ref). slice_get z 0) e in
+    let same : x ≡ r = (cc) in
+    absurd (let clash : true ≡ false = sym ind ∙ (ap (λ (y : Ref). is_indirect y) same ∙ k) in cc)
+
+-- those of a reference to a loaded node alone
+pub record OwnBelow (f : Forest) (c : ℕ) (l : List Ref) : Type 0 where
+  pub list : List Ref
+  pub leaves : LeavesOf f c list
+  pub same : l ≡ list ++ []
+
+pub own_below : {f : Forest} {at : ℕ} {rs l : List Ref} (r : Ref) (c : ℕ) → HasLeaves f at rs l → rs ≡ r ∷ [] → is_indirect r ≡ true → f.link at r.key ≡ loaded c → OwnBelow f c l
+own_below r c done e k link = absurd (let n = ap length e in omega (arith, n))
+own_below r c (one {r = x} {rs = rs} leaf rest) e k link =
+    let first : slice_get (x ∷ rs) 0 ≡ slice_get (r ∷ []) 0 = ap (λ (z : List Ref). slice_get z 0) e in
+    let same : x ≡ r = (cc) in
+    absurd (let clash : false ≡ true = sym leaf ∙ (ap (λ (y : Ref). is_indirect y) same ∙ k) in cc)
+own_below {f} {at} r c (near {c = d} {r = x} {rs = rs} {below = b} {l = l} ind link' kids inside rest) e k link =
+    let first : slice_get (x ∷ rs) 0 ≡ slice_get (r ∷ []) 0 = ap (λ (z : List Ref). slice_get z 0) e in
+    let same : x ≡ r = (cc) in
+    let dc : d ≡ c = grind (arith, link, link', ap (λ (y : Ref). f.link at y.key) same) in
+    let others : rs ≡ [] = ap (drop 1) e in
+    let none = none_of rest others in
+    record { list = b; leaves = subst (λ z. LeavesOf f z b) dc kids; same = ap (λ (z : List Ref). b ++ z) none }
+own_below {f} {at} r c (far {r = x} {rs = rs} {below = b} ind link' inside rest) e k link =
+    let first : slice_get (x ∷ rs) 0 ≡ slice_get (r ∷ []) 0 = ap (λ (z : List Ref). slice_get z 0) e in
+    let same : x ≡ r = (cc) in
+    absurd (let clash : told b ≡ loaded c = sym link' ∙ ap (λ (y : Ref). f.link at y.key) same ∙ link in cc)
+
+-- A node of which the reference at place count - 1 is the last below the size
+module _ (f : Forest) (at count size : ℕ) (last : Option Ref) (r : Ref) (sound : IsSound f) (stands : f.stands at ≡ true) (is : IfSome last (IsCutBlock size)) (holds_contents : HasContents f at) (pos : 0 < count) (read : slice_get (refs f at) (count - 1) ≡ Some r) (low : r.key < size) (past : (j : ℕ) (q : Ref) → slice_get (refs f at) j ≡ Some q → count ≤ j → size ≤ q.key) where
+  node : IsSoundNode f at
+  node = sound.node at stands
+
+  next : count ≡ suc (count - 1)
+  next = omega (arith, pos)
+
+  before_ends : (j : ℕ) (q : Ref) → slice_get (take (count - 1) (refs f at)) j ≡ Some q → limit q ≤ cut_block size
+  before_ends j q read' =
+      let it = take_from (count - 1) (refs f at) j q read' in
+      let order = in_order _ _ (refs f at) j (count - 1) q r node.inside it.1 read it.0 in
+      let fits = node.fits j q it.1 in
+      end_block size q fits.aligned (wide f at q holds_contents fits) (omega (arith, order, low))
+
+  behind_past : (j : ℕ) (q : Ref) → slice_get (drop (suc (count - 1)) (refs f at)) j ≡ Some q → size ≤ q.key
+  behind_past j q read' = let it = drop_from (suc (count - 1)) (refs f at) j q read' in let n = next in past it.0 q it.2 (omega (arith, it.1, n))
+
+  -- what the cut makes of the node's leaves
+  pub cut_parts : (l : List Ref) (p : Parted f at (count - 1) (refs f at) r l) → cut_to size last l ≡ p.before ++ cut_to size last p.own
+  cut_parts l p =
+      let F : List Ref → List Ref = cut_to size last in
+      let first : F p.before ≡ p.before = before_stays size last is p.has_before before_ends in
+      let behind : F p.behind ≡ [] = behind_gone size last p.has_behind behind_past in
+      let rest : F (p.own ++ p.behind) ≡ F p.own = cut_append size last p.own p.behind ∙ (ap (λ (z : List Ref). F p.own ++ z) behind ∙ append-nil (F p.own)) in
+      ap F p.whole ∙ (cut_append size last p.before (p.own ++ p.behind) ∙ (ap (λ (z : List Ref). z ++ F (p.own ++ p.behind)) first ∙ ap (λ (z : List Ref). p.before ++ z) rest))
+
+  front_none : take count (refs f at) ≡ take (count - 1) (refs f at) ++ (r ∷ [])
+  front_none = ap (λ n. take n (refs f at)) next ∙ take_next (refs f at) (count - 1) r read
+
+  -- the reference ends by the size
+  pub ends_here : holds size r ≡ false → (l : List Ref) → LeavesOf f at l → HasLeaves f at (front count None (refs f at)) (cut_to size last l)
+  ends_here out l hl =
+      let p = leaves_parted hl (count - 1) r read in
+      let fits = node.fits (count - 1) r read in
+      let high : limit r ≤ size = elim (holds_outside size r out) as (λ _. limit r ≤ size) [
+        | inl lt ↦ absurd (omega (arith, lt, low))
+        | inr le ↦ le
+      ] in
+      let ends = end_block size r fits.aligned (wide f at r holds_contents fits) high in
+      let own : cut_to size last p.own ≡ p.own = before_stays size last is p.has_own (λ j q read'. let it = take_from 1 (r ∷ []) j q (only_first j q read') in subst (λ (y : Ref). limit y ≤ cut_block size) (first_is j q read') ends) in
+      let all : HasLeaves f at (take (count - 1) (refs f at) ++ (r ∷ [])) (p.before ++ p.own) = leaves_join p.has_before p.has_own in
+      let now : cut_to size last l ≡ p.before ++ p.own = cut_parts l p ∙ ap (λ (z : List Ref). p.before ++ z) own in
+      subst (λ z. HasLeaves f at z (cut_to size last l)) (sym front_none) (subst (λ z. HasLeaves f at (take (count - 1) (refs f at) ++ (r ∷ [])) z) (sym now) all)
+    where
+      first_is : (j : ℕ) (q : Ref) → slice_get (r ∷ []) j ≡ Some q → r ≡ q
+      first_is zero q e = (cc)
+      first_is (suc j) q e = absurd (none-some q e)
+
+      only_first : (j : ℕ) (q : Ref) → slice_get (r ∷ []) j ≡ Some q → slice_get (take 1 (r ∷ [])) j ≡ Some q
+      only_first j q e = e
+
+  -- the reference is the leaf in which the cut ends
+  module _ (leaf : is_indirect r ≡ false) (in_r : holds size r ≡ true) where
+    fits_r : Fits f at r
+    fits_r = node.fits (count - 1) r read
+
+    bits_r : r.keybits ≡ 14
+    bits_r = fits_r.leaf leaf ∙ holds_contents.keybits
+
+    same_key : (q : Ref) → IsCutBlock size q → r.key ≡ q.key
+    same_key q it =
+        let inside = holds_inside size r in_r in
+        let mine = block_start r.key r.keybits size bits_r fits_r.aligned low inside.1 in
+        let other = cut_key size q it in
+        omega (arith, mine, other)
+      where
+        block_start : (key bits size : ℕ) → bits ≡ 14 → key % 2 ^ bits ≡ 0 → key < size → size < key + 2 ^ bits → key ≡ cut_block size
+        block_start key bits size e aligned lo hi = let a : key % 16384 ≡ 0 = rw e at aligned in let h : size < key + 16384 = rw e at hi in omega (arith, a, h, lo)
+
+    fits_last : (last' : Option Ref) → IfSome last' (IsCutBlock size) → IfSome last' (FitsLast (refs f at) count)
+    fits_last None it = tt
+    fits_last (Some q) it = record {
+      some = pos;
+      ref = r;
+      read = read;
+      leaf_was = leaf;
+      key = same_key q it;
+      keybits = bits_r ∙ sym it.keybits;
+      kind = it.kind;
+      held = it.held;
+    }
+
+    pub last_fits : IfSome last (FitsLast (refs f at) count)
+    last_fits = fits_last last is
+
+    placed : (last' : Option Ref) → IfSome last' (IsCutBlock size) → front count last' (refs f at) ≡ take (count - 1) (refs f at) ++ (in_place last' r ∷ [])
+    placed None it = front_none
+    placed (Some q) it =
+        let same : nat_eq r.key q.key ≡ true = (let e = same_key q it in grind (arith, nat_tests)) in
+        let first : slice_set (take count (refs f at)) (count - 1) q ≡ slice_set (take (suc (count - 1)) (refs f at)) (count - 1) q = ap (λ n. slice_set (take n (refs f at)) (count - 1) q) next in
+        let second : slice_set (take (suc (count - 1)) (refs f at)) (count - 1) q ≡ take (count - 1) (refs f at) ++ (q ∷ []) = set_next (refs f at) (count - 1) r q read in
+        rw same (first ∙ second)
+
+    in_place_leaf : (last' : Option Ref) → IfSome last' (IsCutBlock size) → is_indirect (in_place last' r) ≡ false
+    in_place_leaf None it = leaf
+    in_place_leaf (Some q) it =
+        let same : nat_eq r.key q.key ≡ true = (let e = same_key q it in grind (arith, nat_tests)) in
+        let q_leaf : is_indirect q ≡ false = ap leads_on it.kind in
+        rw same q_leaf
+
+    pub ends_in : (l : List Ref) → LeavesOf f at l → HasLeaves f at (front count last (refs f at)) (cut_to size last l)
+    ends_in l hl =
+        let p = leaves_parted hl (count - 1) r read in
+        let own_is : p.own ≡ r ∷ [] = own_leaf r p.has_own refl leaf in
+        let own : cut_to size last p.own ≡ in_place last r ∷ [] = ap (cut_to size last) own_is ∙ cut_one size last r [] low in
+        let now : cut_to size last l ≡ p.before ++ (in_place last r ∷ []) = cut_parts l p ∙ ap (λ (z : List Ref). p.before ++ z) own in
+        let single : HasLeaves f at (in_place last r ∷ []) (in_place last r ∷ []) = one (in_place_leaf last is) done in
+        let all : HasLeaves f at (take (count - 1) (refs f at) ++ (in_place last r ∷ [])) (p.before ++ (in_place last r ∷ [])) = leaves_join p.has_before single in
+        subst (λ z. HasLeaves f at z (cut_to size last l)) (sym (placed last is)) (subst (λ z. HasLeaves f at (take (count - 1) (refs f at) ++ (in_place last r ∷ [])) z) (sym now) all)
+
+pub under_refl : (f : Forest) (at : ℕ) → IsSound f → WalksUnder f f at
+under_refl f at sound = record { walks = Walks-refl f sound; keeps = λ m st out. Keeps-refl f m st }
+
+-- three changes, of which the first loses no node and the last makes none
+pub beside_over : {B : Type 0} (f h k g : Forest) (a b c d : ℕ → B) → ((m : ℕ) → f.stands m ≡ true → h.stands m ≡ true) → ((m : ℕ) → g.stands m ≡ true → k.stands m ≡ true) → KeepsBeside f h a b → KeepsBeside h k b c → KeepsBeside k g c d → KeepsBeside f g a d
+beside_over f h k g a b c d still none_new first second third = record { same = λ m st st'. let there = still m st in let was = none_new m st' in third.same m was st' ∙ (second.same m there was ∙ first.same m st there) }
+
+-- At a root, where nothing is below the size: all its references go
+
+pub root_cut : (f k g : Forest) (at size : ℕ) (last : Option Ref) → IsSound f → f.stands at ≡ true → f.root at ≡ at → WalksUnder f k at → LoadsTouched f k size size → ((l : List Ref) → LeavesOf f at l → cut_to size last l ≡ []) → KeepsFront k g at 0 None → Cuts f g at size last
+root_cut f k g at size last sound stands top under touched none keeps = cuts_front f k g at size 0 last None ready keeps (λ l hl. subst (λ z. HasLeaves k at (take 0 (refs k at)) z) (sym (none l hl)) done)
+  where
+    ready : Readied f k at size
+    ready = (let walks = under.walks in let copies = walks.copies at stands in let zero_is = (sound.node at stands).top top in let room = walks.room in record {
+      sound = walks.sound;
+      fixed = walks.fixed;
+      place = (walks.stays at stands).place;
+      tree = λ m st root out. under.keeps m st (λ root' u. out u);
+      above = λ m st root. Keeps-Renews f k m (under.keeps m st (λ root' u. root root'));
+      still = λ m st st'. (walks.stays m st).place;
+      touched = touched;
+      room = omega (arith, copies, zero_is, room);
+      room_falls = omega (arith, room);
+      spare = walks.spare;
+    })

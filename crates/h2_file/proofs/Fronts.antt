@@ -1,0 +1,275 @@
+-- A node whose set is cut to its first references.
+use Rattle.std.proofs.Common.{◌≡◌, ℕ, ◌+◌, ◌-◌, ◌%◌, ◌<◌, ◌≤◌, ◌^◌, true, false, arith, refl, sym, ◌∙◌, ap, List, [], ◌∷◌, length, Option, Some, None, subst, ◌⊎◌, inl, inr, slice_get, slice_set, take, suc, min}
+use Rattle.std.specs.Prelude.{IfSome}
+use Rattle.std.proofs.lemmas.Nat.{pow_pos}
+use Rattle.std.proofs.lemmas.Option.{none-some}
+use Rattle.std.proofs.lemmas.List.{length-take, length-take-le}
+use Rattle.h2_ref.specs.declared.reference.Ref.{Ref}
+use Rattle.h2_ref.specs.declared.reference.Kind.{Kind}
+use Rattle.h2_ref.specs.declared.reference.Kind.TheVariants.{Inode, Content}
+use Rattle.h2_set.specs.Ranges.{Rising, limit, holds, is_indirect, leads_on, IsAligned}
+use Rattle.h2_set.specs.RefSet.{RefSet, IsRefSet}
+use Rattle.h2_set.specs.Forest.{Forest, refs, loaded, HasLeaves, LeavesOf, KeepsLeaves, Fits, IsSoundNode, IsSound, InPlace, Stays, Keeps, Alters, Stores, Storable, GoesBelow, GoesWith, OnWay, inside, across, Reaches, nowhere, here, below}
+use Rattle.h2_set.specs.StayLaws.{Alike-refl, Fixed-trans, InPlace-trans, leaves_stay}
+use Rattle.h2_set.specs.LeafLaws.{holds_inside, place_above}
+use Rattle.h2_set.specs.EditLaws.{Rising-set, length-slice_set}
+use Rattle.h2_set.specs.ChangeLaws.{Keeps-Stays, Keeps-trans, Same-Keeps, leaves_move, same_or_not, apart_places}
+use Rattle.h2_set.specs.SplitLaws.{nested, below_high}
+use Rattle.h2_set.specs.RenewLaws.{Keeps-Renews, Renews-trans, Alike-length}
+use Rattle.h2_tree.specs.Changes.{Under}
+use Rattle.h2_file.specs.Blocks.{HasContents}
+use Rattle.h2_file.specs.Cutting.{front, FitsLast, KeepsFront}
+use Rattle.h2_file.proofs.Parts.{take_from, set_from, taken_at, Rising-take}
+
+-- The set of a node that is altered
+
+-- lists of one length, of which one has all that the other has, each at its place
+same_list : (rs qs : List Ref) → length qs ≡ length rs → ((i : ℕ) (r : Ref) → slice_get rs i ≡ Some r → slice_get qs i ≡ Some r) → qs ≡ rs
+same_list [] [] n each = refl
+same_list [] (q ∷ qs) n each = absurd (omega (arith, n))
+same_list (r ∷ rs) [] n each = absurd (omega (arith, n))
+same_list (r ∷ rs) (q ∷ qs) n each =
+    let first : slice_get (q ∷ qs) 0 ≡ Some r = each 0 r refl in
+    let head : q ≡ r = (cc) in
+    let tail : qs ≡ rs = same_list rs qs (omega (arith, n)) (λ i x read. each (suc i) x read) in
+    rw (head, tail) refl
+
+pub same_set : (s t : RefSet) → s.refs ≡ t.refs → s.capacity ≡ t.capacity → s ≡ t
+same_set s t refs_are capacity =
+    let with_refs : RefSet = record { refs = t.refs; capacity = s.capacity } in
+    let first : s ≡ with_refs = ap (λ z. let w : RefSet = record { refs = z; capacity = s.capacity } in w) refs_are in
+    let second : with_refs ≡ t = ap (λ z. let w : RefSet = record { refs = t.refs; capacity = z } in w) capacity in
+    first ∙ second
+
+-- no reference of a node is on the way to it
+not_own : (f : Forest) (at i : ℕ) (r : Ref) → IsSoundNode f at → slice_get (refs f at) i ≡ Some r → OnWay f at r at → ⊥
+not_own f at i r node read (inside root ind in_r bits) = omega (arith, (node.fits i r read).falls ind, bits)
+not_own f at i r node read (across key other in_r belongs) = other refl
+
+-- the set of a node that is altered stays
+pub own_set : (f h : Forest) (at : ℕ) → IsSound f → f.stands at ≡ true → Alters f h at → h.set at ≡ f.set at
+own_set f h at sound stands alters =
+    let node = sound.node at stands in
+    let n = Alike-length (refs f at) (refs h at) (alters.tree at stands refl).alike in
+    same_set (h.set at) (f.set at) (same_list (refs f at) (refs h at) n (λ i r read. alters.exact at i r stands read (not_own f at i r node read))) (alters.capacity at stands)
+
+pub altered_place : (f h : Forest) (at : ℕ) → Alters f h at → (m : ℕ) → f.stands m ≡ true → InPlace f h m
+altered_place f h at alters m st = elim (same_or_not (f.root m) (f.root at)) as (λ _. InPlace f h m) [
+  | inl same ↦ (alters.tree m st same).place
+  | inr differs ↦ (alters.above m st differs).place
+]
+
+-- A file's tree holds content alone, to which nothing belongs
+
+-- a leaf that is reached is one that the tree may have
+pub reached_allowed : {f : Forest} {key at : ℕ} {o : Option Ref} → IsSound f → f.stands at ≡ true → Reaches f key at o → (leaf : Ref) → o ≡ Some leaf → f.allows (f.root at) leaf ≡ true
+reached_allowed sound stands (nowhere none) leaf e = absurd (none-some leaf e)
+reached_allowed {f} sound stands (here {at = at} {r = r} i read in_r k) leaf e =
+    let same : r ≡ leaf = (cc) in
+    subst (λ (y : Ref). f.allows (f.root at) y ≡ true) same (((sound.node at stands).fits i r read).allowed k)
+reached_allowed {f} sound stands (below {at = at} {c = c} {r = r} i read in_r ind link rest) leaf e =
+    let child = (sound.node at stands).child r.key c link in
+    subst (λ m. f.allows m leaf ≡ true) child.root (reached_allowed sound child.stands rest leaf e)
+
+pub nothing_goes : (f : Forest) (at : ℕ) (s : RefSet) → IsSound f → HasContents f at → (m : ℕ) → f.stands m ≡ true → GoesWith f m at s → ⊥
+nothing_goes f at s sound holds m st goes =
+    let it = sound.owner m (f.root at) goes.key st goes.belongs in
+    let may : f.allows (f.root (f.root at)) it.leaf ≡ true = reached_allowed sound it.stands it.path it.leaf refl in
+    let is : it.leaf.kind ≡ Content = holds.kinds it.leaf (subst (λ n. f.allows n it.leaf ≡ true) it.root may) in
+    let clash : Inode ≡ Content = sym it.kind_is ∙ is in
+    cc
+
+pub contents_keep : (f g : Forest) (at : ℕ) → (f.root at ≡ g.root at) → ((m : ℕ) → g.leaf_bits m ≡ f.leaf_bits m) → ((m : ℕ) (r : Ref) → g.allows m r ≡ f.allows m r) → HasContents f at → HasContents g at
+contents_keep f g at root bits allows h = record {
+  kinds = λ r e. h.kinds r (sym (allows (f.root at) r) ∙ subst (λ m. g.allows m r ≡ true) (sym root) e);
+  kinds_all = λ r e. subst (λ m. g.allows m r ≡ true) root (allows (f.root at) r ∙ h.kinds_all r e);
+  keybits = ap g.leaf_bits (sym root) ∙ (bits (f.root at) ∙ h.keybits);
+}
+
+-- Its first references
+
+front_length : (count : ℕ) (last : Option Ref) (rs : List Ref) → length (front count last rs) ≡ min count (length rs)
+front_length count None rs = length-take count rs
+front_length count (Some q) rs = length-slice_set (take count rs) (count - 1) q ∙ length-take count rs
+
+front_from : (count : ℕ) (last : Option Ref) (rs : List Ref) (i : ℕ) (r : Ref) → slice_get (front count last rs) i ≡ Some r → (last ≡ Some r) ⊎ (slice_get rs i ≡ Some r)
+front_from count None rs i r read = inr ((take_from count rs i r read).1)
+front_from count (Some q) rs i r read = elim (set_from (take count rs) (count - 1) q i r read) as (λ _. (Some q ≡ Some r) ⊎ (slice_get rs i ≡ Some r)) [
+  | inl same ↦ inl (ap Some (sym same))
+  | inr there ↦ inr ((take_from count rs i r there).1)
+]
+
+Rising-front : (low high count : ℕ) (last : Option Ref) (rs : List Ref) → IfSome last (FitsLast rs count) → Rising low high rs → Rising low high (front count last rs)
+Rising-front low high count None rs fits h = Rising-take low high count rs h
+Rising-front low high count (Some q) rs fits h = (let pos = fits.some in Rising-set low high (take count rs) (count - 1) q fits.ref (Rising-take low high count rs h) (taken_at count rs (count - 1) fits.ref fits.read (omega (arith, pos))) fits.key fits.keybits)
+
+content_leaf : (k : Kind) → k ≡ Content → leads_on k ≡ false
+content_leaf k e = rw e refl
+
+module _ (f h : Forest) (at count : ℕ) (last : Option Ref) (sound : IsSound f) (stands : f.stands at ≡ true) (alters : Alters f h at) (holds : HasContents f at) (fits : IfSome last (FitsLast (refs f at) count)) where
+  here_at : Keeps f h at
+  here_at = alters.tree at stands refl
+
+  node : IsSoundNode h at
+  node = alters.sound.node at here_at.place.stands
+
+  same : h.set at ≡ f.set at
+  same = own_set f h at sound stands alters
+
+  holds_h : HasContents h at
+  holds_h = contents_keep f h at (sym here_at.place.root) alters.fixed.leaf_bits alters.fixed.allows holds
+
+  pub fits_h : IfSome last (FitsLast (refs h at) count)
+  fits_h = subst (λ (s : RefSet). IfSome last (FitsLast s.refs count)) (sym same) fits
+
+  abbrev pub s : RefSet
+  s = let t = h.set at in record { refs = front count last t.refs; capacity = t.capacity }
+
+  -- the last one fits where that which it replaces did
+  last_fits : (last' : Option Ref) → IfSome last' (FitsLast (refs h at) count) → (r : Ref) → last' ≡ Some r → Fits h at r × (is_indirect r ≡ false)
+  last_fits None is r e = absurd (none-some r e)
+  last_fits (Some q) is r e =
+      let it : q ≡ r = (cc) in
+      let old = node.fits (count - 1) is.ref is.read in
+      let leaf : is_indirect q ≡ false = content_leaf q.kind is.kind in
+      let no : is_indirect q ≡ true → ⊥ = λ ind. (let clash : true ≡ false = sym ind ∙ leaf in cc) in
+      let key = is.key in
+      let bits = is.keybits in
+      let aligned : q.key % 2 ^ q.keybits ≡ 0 = rw (is.key, is.keybits) at old.aligned in
+      let class : (q.key < 2 ^ 62) ⊎ (2 ^ 63 ≤ q.key) = rw is.key at old.class in
+      subst (λ (y : Ref). Fits h at y × (is_indirect y ≡ false)) it (
+        record {
+          held = is.held;
+          aligned = aligned;
+          class = class;
+          leaf = λ _. sym bits ∙ old.leaf is.leaf_was;
+          allowed = λ _. holds_h.kinds_all q is.kind;
+          wide = λ ind. absurd (no ind);
+          some_bits = λ ind. absurd (no ind);
+          falls = λ ind. absurd (no ind);
+        },
+        leaf,
+      )
+
+  pub storable : (f.root at ≡ at) ⊎ ((0 < count) × (0 < length (refs f at))) → Storable h at s
+  storable some = record {
+    capacity = refl;
+    set = record {
+      rising = Rising-front 0 (2 ^ 64) count last (refs h at) fits_h node.set.rising;
+      fits = (let n = front_length count last (refs h at) in let m = node.set.fits in omega (arith, n, m));
+      known = node.set.known;
+    };
+    some = λ other. elim some as (λ _. 0 < length s.refs) [
+      | inl top ↦ absurd (other (here_at.place.root ∙ top))
+      | inr both ↦ let n = front_length count last (refs h at) in let m : length (refs h at) ≡ length (refs f at) = ap (λ (t : RefSet). length t.refs) same in omega (arith, n, m, both.0, both.1)
+    ];
+    inside = Rising-front _ _ count last (refs h at) fits_h node.inside;
+    fits = λ i r read. elim (front_from count last (refs h at) i r read) as (λ _. Fits h at r) [
+      | inl is ↦ (last_fits last fits_h r is).0
+      | inr there ↦ node.fits i r there
+    ];
+    stood = λ i r read ind. elim (front_from count last (refs h at) i r read) as (λ _. (j : ℕ) × (slice_get (refs h at) j ≡ Some r)) [
+      | inl is ↦ absurd (let clash : true ≡ false = sym ind ∙ (last_fits last fits_h r is).1 in cc)
+      | inr there ↦ (i, there)
+    ];
+    free = λ m st goes. absurd (nothing_goes h at s alters.sound holds_h m st goes);
+  }
+
+  -- what goes below the node lies in its range
+  goes_under : (m : ℕ) → h.stands m ≡ true → GoesBelow h m at s → Under h m at
+  goes_under m st goes =
+      let kid = alters.sound.node m st in
+      let held = holds_inside (h.low m) goes.loses.lost goes.loses.held in
+      let from = place_above _ _ (refs h at) goes.loses.place goes.loses.lost node.inside goes.loses.was in
+      let to = below_high _ _ (refs h at) goes.loses.place goes.loses.lost node.inside goes.loses.was in
+      elim (nested (h.low m) (h.bits m) (h.low at) (h.bits at) kid.aligned node.aligned (omega (arith, goes.fewer))) as (λ _. Under h m at) [
+        | inl in_it ↦ record { low = in_it.0; high = in_it.1 }
+        | inr out ↦ elim out as (λ _. Under h m at) [
+          | inl before ↦ let pos = pow_pos (h.bits m) in absurd (omega (arith, before, held.0, from, pos))
+          | inr behind ↦ absurd (omega (arith, behind, held.1, to))
+        ]
+      ]
+
+  module _ (g : Forest) (stores : Stores h g at s) where
+    others : (m : ℕ) → h.stands m ≡ true → (m ≡ at → ⊥) → (GoesBelow h m at s → ⊥) → Keeps h g m
+    others m st ne not_below = Same-Keeps h g m (stores.others m st ne not_below (nothing_goes h at s alters.sound holds_h m st))
+
+    -- what is below a reference that stays, stays
+    below_stays : (i d : ℕ) (r : Ref) → slice_get s.refs i ≡ Some r → is_indirect r ≡ true → h.link at r.key ≡ loaded d → KeepsLeaves h g d
+    below_stays i d r read ind link l hl =
+        let old = (storable_stood i r read ind) in
+        let kid = node.child r.key d link in
+        let bits_d = node.bits old.0 d r old.1 ind link in
+        let Q : ℕ → Type 0 = λ m. (h.stands m ≡ true) × (h.root m ≡ h.root at) × (r.key ≤ h.low m) × (h.low m + 2 ^ h.bits m ≤ limit r) × (h.bits m < h.bits at) in
+        let closed : (m k e : ℕ) → Q m → h.link m k ≡ loaded e → Q e = λ m k e p link'. let kid' = (alters.sound.node m p.0).child k e link' in (kid'.stands, kid'.root ∙ p.1, omega (arith, kid'.above, p.2), omega (arith, kid'.within, p.3), omega (arith, kid'.fewer, p.4)) in
+        let apart : (m : ℕ) → Q m → GoesBelow h m at s → ⊥ = λ m p goes.
+        let pos = pow_pos (h.bits m) in
+        let held = holds_inside (h.low m) goes.loses.lost goes.loses.held in
+        let is : goes.loses.lost ≡ r = elim (same_or_not goes.loses.place old.0) as (λ _. goes.loses.lost ≡ r) [
+          | inl e ↦ let there : slice_get (refs h at) old.0 ≡ Some goes.loses.lost = subst (λ z. slice_get (refs h at) z ≡ Some goes.loses.lost) e goes.loses.was in let b = old.1 in cc
+          | inr ne ↦ elim (apart_places _ _ (refs h at) old.0 goes.loses.place r goes.loses.lost node.inside old.1 goes.loses.was ne) as (λ _. goes.loses.lost ≡ r) [
+            | inl lower ↦ absurd (omega (arith, lower, held.1, p.2))
+            | inr upper ↦ absurd (omega (arith, upper, held.0, p.3, pos))
+          ]
+        ] in
+        goes.loses.lacks i r read (ap (λ (y : Ref). y.key) (sym is)) (ap (λ (y : Ref). is_indirect y) (sym is)) in
+        let stay : (m : ℕ) → Q m → Stays h g m = λ m p. Keeps-Stays h g m (others m p.0 (λ e. let same_bits = ap h.bits e in omega (arith, p.4, same_bits)) (apart m p)) in
+        let start : Q d = (kid.stands, kid.root, omega (arith, kid.low), omega (arith, kid.low, ap (λ z. 2 ^ z) bits_d), kid.fewer) in
+        leaves_stay h g Q closed stay start hl (refs g d) (stay d start).alike
+      where
+        storable_stood : (i : ℕ) (r : Ref) → slice_get s.refs i ≡ Some r → is_indirect r ≡ true → (j : ℕ) × (slice_get (refs h at) j ≡ Some r)
+        storable_stood i r read ind = elim (front_from count last (refs h at) i r read) as (λ _. (j : ℕ) × (slice_get (refs h at) j ≡ Some r)) [
+          | inl is ↦ absurd (let clash : true ≡ false = sym ind ∙ (last_fits last fits_h r is).1 in cc)
+          | inr there ↦ (i, there)
+        ]
+
+    pub keeps_front : KeepsFront f g at count last
+    keeps_front = record {
+      sound = stores.sound;
+      fixed = Fixed-trans f h g alters.fixed stores.fixed;
+      place = InPlace-trans f h g at here_at.place stores.place;
+      leaves = λ l hl.
+          let P : ℕ → Type 0 = λ m. (f.stands m ≡ true) × (f.root m ≡ f.root at) in
+          let closed : (m k c : ℕ) → P m → f.link m k ≡ loaded c → P c = λ m k c p link. let child = (sound.node m p.0).child k c link in (child.stands, child.root ∙ p.1) in
+          let stay : (m : ℕ) → P m → Stays f h m = λ m p. Keeps-Stays f h m (alters.tree m p.0 p.1) in
+          let same_front : front count last (refs f at) ≡ s.refs = ap (λ (t : RefSet). front count last t.refs) (sym same) in
+          let in_f : HasLeaves f at s.refs l = subst (λ rs. HasLeaves f at rs l) same_front hl in
+          let in_h : HasLeaves h at s.refs l = leaves_stay f h P closed stay (stands, refl) in_f s.refs (Alike-refl s.refs) in
+          let in_g : HasLeaves g at s.refs l = leaves_move in_h s.refs (Alike-refl s.refs) (λ j r read ind. stores.link j r read ind) below_stays in
+          subst (λ (t : RefSet). HasLeaves g at t.refs l) (sym stores.set) in_g;
+      tree = λ m st root out.
+          let k = alters.tree m st root in
+          let ne : m ≡ at → ⊥ = λ e. out (subst (λ z. Under f z at) (sym e) (record { low = omega arith; high = omega arith })) in
+          let not_below : GoesBelow h m at s → ⊥ = λ goes.
+          let u = goes_under m k.place.stands goes in
+          out (record { low = omega (arith, u.low, here_at.place.low, k.place.low); high = omega (arith, u.high, here_at.place.low, k.place.low, ap (λ z. 2 ^ z) here_at.place.bits, ap (λ z. 2 ^ z) k.place.bits) }) in
+          Keeps-trans f h g m k (others m k.place.stands ne not_below);
+      above = λ m st root.
+          let k = alters.above m st root in
+          let ne : m ≡ at → ⊥ = λ e. root (ap f.root e) in
+          let not_below : GoesBelow h m at s → ⊥ = λ goes. root (sym k.place.root ∙ goes.tree ∙ here_at.place.root) in
+          Renews-trans f h g m k (Keeps-Renews h g m (others m k.place.stands ne not_below));
+      none_new = λ m st. alters.none_new m (stores.none_new m st);
+      still = λ m st.
+          let there = stores.none_new m st in
+          let first = altered_place f h at alters m (alters.none_new m there) in
+          elim (same_or_not m at) as (λ _. InPlace f g m) [
+            | inl e ↦ InPlace-trans f h g m first (subst (InPlace h g) (sym e) stores.place)
+            | inr ne ↦ InPlace-trans f h g m first (others m there ne (λ goes. let clash : true ≡ false = sym st ∙ stores.gone m there (inl goes) in cc)).place
+          ];
+      writable = stores.place.writable alters.writable;
+      copies = stores.copies ∙ alters.copies;
+      room = omega (arith, alters.room, stores.room);
+      spare = stores.spare ∙ alters.spare;
+    }
+
+  -- the same of the set that the code made
+  module _ (set got : RefSet) (e1 : got ≡ h.set at) (e2 : set ≡ record { refs = front count last got.refs; capacity = got.capacity }) where
+    set_is : set ≡ s
+    set_is = e2 ∙ ap (λ (t : RefSet). let w : RefSet = record { refs = front count last t.refs; capacity = t.capacity } in w) e1
+
+    pub storable_made : (f.root at ≡ at) ⊎ ((0 < count) × (0 < length (refs f at))) → Storable h at set
+    storable_made some = subst (Storable h at) (sym set_is) (storable some)
+
+    pub keeps_made : (g : Forest) → Stores h g at set → KeepsFront f g at count last
+    keeps_made g stores = keeps_front g (subst (Stores h g at) set_is stores)

@@ -1,0 +1,110 @@
+-- What cutting a file to a size does to the references of its contents.
+use Rattle.std.specs.Prelude.{◌≡◌, ◌<◌, ◌≤◌, ◌+◌, ◌-◌, ◌*◌, ◌/◌, ◌==◌, nat_lt, ℕ, true, false, List, [], Option, Some, None, filter, map, take, slice_get, slice_set, if◌then◌else◌}
+use Rattle.h2_ref.specs.declared.reference.Ref.{Ref}
+use Rattle.h2_ref.specs.declared.reference.Kind.TheVariants.{Content}
+use Rattle.h2_set.specs.Ranges.{limit, IsAligned, is_indirect}
+use Rattle.h2_set.specs.SetBytes.{IsHeld}
+use Rattle.h2_set.specs.Forest.{Forest, refs, IsSound, HasLeaves, LeavesOf, Fixed, InPlace, Keeps, Renews}
+use Rattle.h2_tree.specs.Changes.{Under, LoadsTouched, WalksUnder}
+use Rattle.h2_file.specs.declared.cutting.Left.{Left}
+use Rattle.h2_file.specs.declared.cutting.Left.TheVariants.{Nothing, Something}
+
+-- where the block begins in which a cut to the size ends
+abbrev pub cut_block : ℕ → ℕ
+cut_block size = 16384 * (size / 16384)
+
+-- a reference that is to stand in place of that of the block in which the cut ends
+pub record IsCutBlock (size : ℕ) (r : Ref) : Type 0 where
+  pub kind : r.kind ≡ Content
+  pub held : IsHeld r
+  pub keybits : r.keybits ≡ 14
+  pub aligned : IsAligned r
+  pub low : r.key < size
+  pub high : size < limit r
+
+-- the reference, or the one that is put in its place
+abbrev pub in_place : Option Ref → Ref → Ref
+in_place None r = r
+in_place (Some q) r = if r.key == q.key then q else r
+
+-- the references below the size, with the last one in place of the one with its key
+abbrev pub cut_to : ℕ → Option Ref → List Ref → List Ref
+cut_to size last l = map (in_place last) (filter (λ r. nat_lt r.key size) l)
+
+-- the first references, with the last one in place of the last of them
+abbrev pub front : ℕ → Option Ref → List Ref → List Ref
+front count None rs = take count rs
+front count (Some q) rs = slice_set (take count rs) (count - 1) q
+
+-- a reference that may stand in place of the last of the first references
+pub record FitsLast (rs : List Ref) (count : ℕ) (q : Ref) : Type 0 where
+  pub some : 0 < count
+  pub ref : Ref
+  pub read : slice_get rs (count - 1) ≡ Some ref
+  pub leaf_was : is_indirect ref ≡ false
+  pub key : ref.key ≡ q.key
+  pub keybits : ref.keybits ≡ q.keybits
+  pub kind : q.kind ≡ Content
+  pub held : IsHeld q
+
+-- Node at has its first references alone, and the last one; other nodes of its tree keep theirs, but for what is below
+-- those that it lost.
+pub record KeepsFront (f g : Forest) (at count : ℕ) (last : Option Ref) : Type 0 where
+  pub sound : IsSound g
+  pub fixed : Fixed f g
+  pub place : InPlace f g at
+  pub leaves : (l : List Ref) → HasLeaves f at (front count last (refs f at)) l → LeavesOf g at l
+  pub tree : (m : ℕ) → f.stands m ≡ true → f.root m ≡ f.root at → (Under f m at → ⊥) → Keeps f g m
+  pub above : (m : ℕ) → f.stands m ≡ true → (f.root m ≡ f.root at → ⊥) → Renews f g m
+  pub none_new : (m : ℕ) → g.stands m ≡ true → f.stands m ≡ true
+  pub still : (m : ℕ) → g.stands m ≡ true → InPlace f g m
+  pub writable : g.writable at ≡ true
+  pub copies : g.copies at ≡ 0
+  pub room : g.room + f.copies at ≡ f.room
+  pub spare : g.spare ≡ f.spare
+
+-- The references at or past the size are out of the list of node at, the last one is in it in place of the one with its
+-- key, and other nodes keep theirs.
+pub record Cuts (f g : Forest) (at size : ℕ) (last : Option Ref) : Type 0 where
+  pub sound : IsSound g
+  pub fixed : Fixed f g
+  pub place : InPlace f g at
+  pub leaves : (l : List Ref) → LeavesOf f at l → LeavesOf g at (cut_to size last l)
+  pub tree : (m : ℕ) → f.stands m ≡ true → f.root m ≡ f.root at → (Under f m at → ⊥) → Keeps f g m
+  pub above : (m : ℕ) → f.stands m ≡ true → (f.root m ≡ f.root at → ⊥) → Renews f g m
+  -- what stands before and after stands where it stood
+  pub still : (m : ℕ) → f.stands m ≡ true → g.stands m ≡ true → InPlace f g m
+  -- no node off the path of the size was loaded
+  pub touched : LoadsTouched f g size size
+  pub writable : g.writable at ≡ true
+  pub copies : g.copies at ≡ 0
+  pub room : f.room ≤ g.room + 62
+  pub room_falls : g.room ≤ f.room
+  pub spare : g.spare ≡ f.spare
+
+-- what a cut leaves of the tree below a node: the references below the size, or, where there is none, all as it was
+abbrev pub Remains : Forest → Forest → ℕ → ℕ → Option Ref → Left → Type 0
+Remains f g at size last Nothing = WalksUnder f g at × LoadsTouched f g size size × ((l : List Ref) → LeavesOf f at l → cut_to size last l ≡ [])
+Remains f g at size last Something = Cuts f g at size last
+
+-- The references at or past the size are out of the file's list, and the last one is in it in place of the one with its
+-- key. What stands before and after stands where it stood; in other trees references to what changed name other blocks.
+pub record CutsFile (f g : Forest) (at size : ℕ) (last : Option Ref) : Type 0 where
+  pub sound : IsSound g
+  pub leaves : (l : List Ref) → LeavesOf f at l → LeavesOf g at (cut_to size last l)
+  pub place : InPlace f g at
+  pub others : (m : ℕ) → f.stands m ≡ true → (f.root m ≡ at → ⊥) → Renews f g m
+  pub still : (m : ℕ) → f.stands m ≡ true → g.stands m ≡ true → InPlace f g m
+  -- no node off the path of the size was loaded
+  pub touched : LoadsTouched f g size size
+  pub leaf_bits : (m : ℕ) → g.stands m ≡ true → g.leaf_bits m ≡ f.leaf_bits m
+  pub allows : (m : ℕ) (r : Ref) → g.stands m ≡ true → g.allows m r ≡ f.allows m r
+  pub held : (m : ℕ) → g.held m ≡ f.held m
+  pub name : (r : Ref) → g.name r ≡ f.name r
+  pub epoch : g.epoch ≡ f.epoch
+  pub failed : f.failed ≤ g.failed
+  pub bad : f.bad ≤ g.bad
+  pub writable : g.writable at ≡ true
+  pub room : f.room ≤ g.room + 62
+  pub room_falls : g.room ≤ f.room
+  pub spare : g.spare ≡ f.spare

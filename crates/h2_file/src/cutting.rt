@@ -1,0 +1,191 @@
+ghost use Rattle.std.specs.Prelude.{◌≡◌, ◌<◌, ◌≤◌, ◌⊎◌, ◌-◌, ◌↔◌, true, false, ℕ, List, [], Some, slice_get, length, take, IfOk, IfErr, IfSome, OnOk, OnErr};
+ghost use Rattle.h2_ref.specs.declared.reference.Ref.{Ref};
+ghost use Rattle.h2_ref.specs.declared.reference.Kind.{Kind};
+ghost use Rattle.h2_set.specs.Ranges.{is_indirect, limit};
+ghost use Rattle.h2_set.specs.RefSet.{RefSet};
+ghost use Rattle.h2_set.specs.Forest.{Forest, refs, IsSound, Walks, HasCause, LeavesOf, HasLeaves, KeepsBeside};
+ghost use Rattle.h2_tree.specs.Changes.{LoadsTouched, PathUnloaded, WalksUnder};
+ghost use Rattle.h2_inode.specs.Nodes.{held_by, KeepsOthersBeside};
+ghost use Rattle.h2_file.specs.Blocks.{IsFileOfRefs, HasContents};
+ghost use Rattle.h2_file.specs.Sizing.{HasResized};
+ghost use Rattle.h2_file.specs.Cutting.{IsCutBlock, cut_to, front, FitsLast, KeepsFront, Cuts, CutsFile, Remains};
+ghost use Rattle.h2_file.specs.declared.cutting.Left.{Left};
+
+use crate::sizing::set_size;
+use h2_inode::Nodes;
+use h2_ref::{Ref, Trouble};
+use h2_set::{NodeId, Set, Sets, holds, is_indirect};
+use std::alloc::Global;
+
+/// What a cut leaves of the references below a node.
+#[derive(Clone, Copy, PartialEq, Eq)]
+pub(crate) enum Left {
+    /// Nothing would be left, and nothing has changed: the reference to the node has to go.
+    Nothing,
+    /// The references below the size.
+    Something,
+}
+
+// How many references of a set are below the size.
+fn count_below(set: &Set, size: u64) -> usize
+    ensures within { result ≤ length set.now.refs }
+    ensures below { (i : ℕ) (r : Ref) → slice_get set.now.refs i ≡ Some r → i < result → r.key < size }
+    ensures past { (i : ℕ) (r : Ref) → slice_get set.now.refs i ≡ Some r → result ≤ i → size ≤ r.key }
+{
+    for i in 0..set.len() {
+        if set.at(i).key >= size {
+            return i;
+        }
+    }
+    set.len()
+}
+
+// Takes all but the first references out of a set.
+fn truncate(set: &mut Set, count: usize)
+    ensures { set.new ≡ record set.old { refs = take count set.old.refs } }
+{
+    while set.len() > count {
+        let end = set.len() - 1;
+        set.cut(end);
+    }
+}
+
+// The first references of a set, with `last` in place of the last of them where it is given.
+fn front(set: &Set, count: usize, last: Option<Ref>) -> Set
+    requires { IfSome last (FitsLast set.now.refs count) }
+    ensures { result ≡ record set.now { refs = front count last set.now.refs } }
+{
+    let mut kept = set.copy();
+    truncate(&mut kept, count);
+    if let Some(r) = last {
+        kept.swap(count - 1, r);
+    }
+    kept
+}
+
+// Leaves a node its first references, with `last` in place of the last of them where it is given.
+fn keep_front<N: Sets>(n: &mut N, at: NodeId, count: usize, last: Option<Ref>)
+    requires sound { IsSound (N.forest n.old) }
+    requires stands { let f = N.forest n.old in f.stands at.0 ≡ true }
+    requires room { let f = N.forest n.old in f.copies at.0 ≤ f.room }
+    requires contents { HasContents (N.forest n.old) at.0 }
+    requires some { let f = N.forest n.old in (f.root at.0 ≡ at.0) ⊎ ((0 < count) × (0 < length (refs f at.0))) }
+    requires last { IfSome last (FitsLast (refs (N.forest n.old) at.0) count) }
+    ensures kept { KeepsFront (N.forest n.old) (N.forest n.new) at.0 count last }
+    ensures beside { KeepsBeside (N.forest n.old) (N.forest n.new) (N.beside n.old) (N.beside n.new) }
+    ensures later { N.later n.old n.new }
+{
+    n.alter(at);
+    let set = front(n.get(at), count, last);
+    n.store(at, set);
+}
+
+// Takes the references at or past the size out of the tree below a node, unless none would be left.
+fn cut_below<N: Sets>(
+    alloc: Global,
+    n: &mut N,
+    at: NodeId,
+    size: u64,
+    last: Option<Ref>,
+) -> Result<Left, Trouble>
+    requires sound { IsSound (N.forest n.old) }
+    requires stands { let f = N.forest n.old in f.stands at.0 ≡ true }
+    requires room { let f = N.forest n.old in (f.copies at.0 ≤ 62) × (62 ≤ f.room) }
+    requires contents { HasContents (N.forest n.old) at.0 }
+    requires last { IfSome last (IsCutBlock size) }
+    ensures left { IfOk result (Remains (N.forest n.old) (N.forest n.new) at.0 size last) }
+    ensures walks { OnErr result (Walks (N.forest n.old) (N.forest n.new)) }
+    ensures err { IfErr result (HasCause (N.forest n.old) (N.forest n.new)) }
+    ensures touched { OnErr result (LoadsTouched (N.forest n.old) (N.forest n.new) size size) }
+    ensures unloaded { OnErr result (PathUnloaded (N.forest n.old) at.0 size) }
+    ensures beside { KeepsBeside (N.forest n.old) (N.forest n.new) (N.beside n.old) (N.beside n.new) }
+    ensures later { N.later n.old n.new }
+{
+    let set = n.get(at);
+    let count = count_below(set, size);
+    if count == 0 {
+        return Ok(Left::Nothing);
+    }
+    let r = *set.at(count - 1);
+    if !holds(&r, size) {
+        keep_front(n, at, count, None);
+        return Ok(Left::Something);
+    }
+    if !is_indirect(&r) {
+        keep_front(n, at, count, last);
+        return Ok(Left::Something);
+    }
+    let child = n.child(alloc, at, count - 1)?;
+    match cut_below(alloc, n, child, size, last)? {
+        Left::Something => keep_front(n, at, count, None),
+        Left::Nothing => {
+            if count == 1 {
+                return Ok(Left::Nothing);
+            }
+            keep_front(n, at, count - 1, None);
+        }
+    }
+    Ok(Left::Something)
+}
+
+// Takes the references at or past the size out of the tree of a root.
+fn cut_tree<N: Sets>(
+    alloc: Global,
+    n: &mut N,
+    root: NodeId,
+    size: u64,
+    last: Option<Ref>,
+) -> Result<(), Trouble>
+    requires sound { IsSound (N.forest n.old) }
+    requires stands { let f = N.forest n.old in f.stands root.0 ≡ true }
+    requires top { let f = N.forest n.old in f.root root.0 ≡ root.0 }
+    requires room { let f = N.forest n.old in 62 ≤ f.room }
+    requires contents { HasContents (N.forest n.old) root.0 }
+    requires last { IfSome last (IsCutBlock size) }
+    ensures cuts { OnOk result (Cuts (N.forest n.old) (N.forest n.new) root.0 size last) }
+    ensures walks { OnErr result (Walks (N.forest n.old) (N.forest n.new)) }
+    ensures err { IfErr result (HasCause (N.forest n.old) (N.forest n.new)) }
+    ensures touched { OnErr result (LoadsTouched (N.forest n.old) (N.forest n.new) size size) }
+    ensures unloaded { OnErr result (PathUnloaded (N.forest n.old) root.0 size) }
+    ensures beside { KeepsBeside (N.forest n.old) (N.forest n.new) (N.beside n.old) (N.beside n.new) }
+    ensures later { N.later n.old n.new }
+{
+    match cut_below(alloc, n, root, size, last)? {
+        Left::Something => Ok(()),
+        Left::Nothing => {
+            keep_front(n, root, 0, None);
+            Ok(())
+        }
+    }
+}
+
+/// Cuts a file to a size: takes out every content reference at or past it, puts `last`, where it is given, in place of
+/// the reference of the block that the cut ends in, where there is one, and sets the size. The file's body is
+/// references. A node that lies wholly past the size goes without being made writable. The room is at least 62, and is
+/// lowered by the number of nodes that are copied. Trouble only where a node on the path of the size isn't loaded;
+/// nothing but loads took place then.
+pub fn cut_blocks<N: Nodes>(
+    alloc: Global,
+    n: &mut N,
+    inode: NodeId,
+    size: u64,
+    last: Option<Ref>,
+) -> Result<(), Trouble>
+    requires sound { IsSound (N.forest n.old) }
+    requires file { IsFileOfRefs (N.forest n.old) (held_by N.fields (N.beside n.old)) inode.0 }
+    requires room { let f = N.forest n.old in 62 ≤ f.room }
+    requires last { IfSome last (IsCutBlock size) }
+    ensures cuts { OnOk result (CutsFile (N.forest n.old) (N.forest n.new) inode.0 size last) }
+    ensures inode { OnOk result ((file : IsFileOfRefs (N.forest n.old) (held_by N.fields (N.beside n.old)) inode.0) → HasResized (N.forest n.new) (held_by N.fields (N.beside n.new)) inode.0 file.inode size) }
+    ensures walks { OnErr result (Walks (N.forest n.old) (N.forest n.new)) }
+    ensures err { IfErr result (HasCause (N.forest n.old) (N.forest n.new)) }
+    ensures touched { OnErr result (LoadsTouched (N.forest n.old) (N.forest n.new) size size) }
+    ensures unloaded { OnErr result (PathUnloaded (N.forest n.old) inode.0 size) }
+    ensures beside { KeepsOthersBeside (N.forest n.old) (N.forest n.new) inode.0 (N.beside n.old) (N.beside n.new) }
+    ensures same { OnErr result (KeepsBeside (N.forest n.old) (N.forest n.new) (N.beside n.old) (N.beside n.new)) }
+    ensures later { N.later n.old n.new }
+{
+    cut_tree(alloc, n, inode, size, last)?;
+    set_size(n, inode, size);
+    Ok(())
+}

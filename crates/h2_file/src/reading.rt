@@ -1,0 +1,36 @@
+ghost use Rattle.std.specs.Prelude.{◌≡◌, ℕ, true, List, Option, IfOk, IfErr, OnErr};
+ghost use Rattle.h2_ref.specs.declared.reference.Ref.{Ref};
+ghost use Rattle.h2_set.specs.Ranges.{find};
+ghost use Rattle.h2_set.specs.Forest.{IsSound, Walks, HasCause, LeavesOf, Reaches, KeepsBeside};
+ghost use Rattle.h2_tree.specs.Changes.{LoadsTouched, PathUnloaded};
+ghost use Rattle.h2_inode.specs.Nodes.{held_by};
+ghost use Rattle.h2_file.specs.Blocks.{IsFileOfRefs};
+
+use h2_inode::Nodes;
+use h2_ref::{Ref, Trouble};
+use h2_set::NodeId;
+use h2_tree::lookup;
+use std::alloc::Global;
+
+/// The content reference of the file's block that holds the byte `start`; None exactly at a hole. The file's body is
+/// references. Afterwards every node on the path of `start` is loaded, and no other was. Trouble only where one
+/// wasn't. Nothing but loads takes place.
+pub fn read_block<N: Nodes>(
+    alloc: Global,
+    n: &mut N,
+    inode: NodeId,
+    start: u64,
+) -> Result<Option<Ref>, Trouble>
+    requires sound { IsSound (N.forest n.old) }
+    requires file { IsFileOfRefs (N.forest n.old) (held_by N.fields (N.beside n.old)) inode.0 }
+    ensures found { IfOk result (λ o. (l : List Ref) → LeavesOf (N.forest n.old) inode.0 l → o ≡ find start l) }
+    ensures path { IfOk result (Reaches (N.forest n.new) start inode.0) }
+    ensures walks { Walks (N.forest n.old) (N.forest n.new) }
+    ensures touched { LoadsTouched (N.forest n.old) (N.forest n.new) start start }
+    ensures err { IfErr result (HasCause (N.forest n.old) (N.forest n.new)) }
+    ensures unloaded { OnErr result (PathUnloaded (N.forest n.old) inode.0 start) }
+    ensures beside { KeepsBeside (N.forest n.old) (N.forest n.new) (N.beside n.old) (N.beside n.new) }
+    ensures later { N.later n.old n.new }
+{
+    lookup(alloc, n, inode, start)
+}
