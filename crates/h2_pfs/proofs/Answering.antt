@@ -1,0 +1,34 @@
+-- What holds of answers, and what is kept beside sets.
+use Rattle.std.proofs.Common.{arith, ◌≡◌, ℕ, ◌∙◌, sym, subst, refl, true, Result, Ok, Err}
+use Rattle.std.specs.Prelude.{IfOk, IfErr}
+use Rattle.std.specs.Result.{IsErrAnd}
+use Rattle.h2_ref.specs.declared.faults.Trouble.{Trouble}
+use Rattle.h2_ref.specs.declared.faults.Trouble.TheVariants.{Failed, Bad, NoMemory}
+use Rattle.h2_set.specs.Forest.{Forest, HasCause, KeepsBeside}
+use Rattle.h2_inode.specs.Nodes.{Visits}
+
+-- what holds of an error holds where it is handed on
+pub carried_err : {T E : Type 0} (P : E → Type 0) (r : Result T E) (e : E) → IsErrAnd r (λ x. x ≡ e) → P e → IfErr r P
+carried_err P (Ok v) e same p = tt
+carried_err P (Err x) e same p = subst P (sym same) p
+
+pub beside_same : {B : Type 0} (f : Forest) (a : ℕ → B) → KeepsBeside f f a a
+beside_same f a = record { same = λ m st st'. refl }
+
+pub beside_on : {B : Type 0} (f g h : Forest) (a b c : ℕ → B) → ((m : ℕ) → f.stands m ≡ true → g.stands m ≡ true) → KeepsBeside f g a b → KeepsBeside g h b c → KeepsBeside f h a c
+beside_on f g h a b c still first second = record { same = λ m st st'. let there = still m st in second.same m there st' ∙ first.same m st there }
+
+-- answers with more
+pub on_ok : {T E : Type 0} (P Q : T → Type 0) (r : Result T E) → ((v : T) → P v → Q v) → IfOk r P → IfOk r Q
+on_ok P Q (Ok v) step p = step v p
+on_ok P Q (Err e) step p = tt
+
+pub on_err : {T E : Type 0} (P Q R : E → Type 0) (r : Result T E) → ((e : E) → P e → Q e → R e) → IfErr r P → IfErr r Q → IfErr r R
+on_err P Q R (Ok v) step p q = tt
+on_err P Q R (Err e) step p q = step e p q
+
+-- a cause that came after loads
+pub cause_after : (f h g : Forest) (t : Trouble) → Visits f h → HasCause h g t → HasCause f g t
+cause_after f h g Failed visits cause = let failed = visits.failed in grind arith
+cause_after f h g (Bad place why) visits cause = let bad = visits.bad in grind arith
+cause_after f h g NoMemory visits cause = tt

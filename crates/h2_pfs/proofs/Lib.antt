@@ -1,0 +1,11 @@
+pub mod Answering
+pub mod Visiting
+pub mod Members
+pub mod Growing
+pub mod Scanned
+pub mod Listed
+pub mod Kept
+pub mod Found
+pub mod Renewed
+pub mod Dropped
+pub mod Gone

@@ -1,0 +1,27 @@
+use Rattle.std.proofs.Common.{◌≡◌, ◌∙◌, ap, List, ℕ}
+use Rattle.h2_ref.specs.declared.reference.Ref.{Ref}
+use Rattle.h2_inode.specs.VisitLaws.{unchanged_visits, seeks_visit}
+use Rattle.h2_pfs.specs.declared.met.Met.{Met}
+use Rattle.h2_pfs.proofs.Visiting.{seeks_meets, seeks_tells}
+use Rattle.h2_pfs.proofs.scanning.meet.Goals as goal
+
+pub returns-in_err-at-clause-visits : goal.returns-in_err-at-clause-visits
+returns-in_err-at-clause-visits g c = unchanged_visits _ _ c.in_err-at.ensures.same
+
+pub returns-in-Ok-clause-met : goal.returns-in-Ok-clause-met
+returns-in-Ok-clause-met g c =
+    let leaf : Ref = c.args.leaf.now in
+    let j = c.inode.result.now in
+    let seek = c.in_ok-at.ensures in
+    let top = c.args.root.0 in
+    let met = seeks_meets g.N.Nodes.fields _ _ _ top c.in_ok-at.at.0 leaf seek.inode.0 j c.requires.sound c.requires.leaf seek.ok seek.inode.1 seek.inode.2 c.inode.ensures in
+    let tells = seeks_tells g.N.Nodes.fields _ _ _ _ (g.N.Nodes.told c.args.n.now) top c.in_ok-at.at.0 leaf j c.requires.leaf.stands seek.ok seek.beside seek.told c.inode.ensures in
+    let name : c.in-Ok.name ≡ j.name = c.in-Ok.ensures ∙ c.as_slice.ensures.bytes in
+    let same = ap (λ (z : List ℕ). let m : Met = record { id = leaf.key; name = z } in m) name in
+    (record { id = leaf.key; name = j.name; next = j.next }, (met, tells), same)
+
+pub returns-in-Ok-clause-visits : goal.returns-in-Ok-clause-visits
+returns-in-Ok-clause-visits g c = seeks_visit _ _ _ _ _ c.in_ok-at.ensures.ok
+
+pub returns-in-Err-clause-visits : goal.returns-in-Err-clause-visits
+returns-in-Err-clause-visits g c = seeks_visit _ _ _ _ _ c.in_ok-at.ensures.ok

@@ -1,0 +1,74 @@
+use Rattle.std.proofs.Common.{◌≡◌, ◌⊎◌, inl, inr, arith, ◌∙◌, sym, ap, subst, List, [], ◌∷◌, ◌++◌, length, take}
+use Rattle.std.specs.Prelude.{map}
+use Rattle.h2_ref.specs.declared.faults.Trouble.{Trouble}
+use Rattle.h2_ref.specs.declared.faults.Trouble.TheVariants.{NoMemory}
+use Rattle.h2_inode.specs.Nodes.{held_by}
+use Rattle.h2_inode.specs.VisitLaws.{visits_trans, visits_leaf}
+use Rattle.h2_inode.specs.Access.{OneByOne}
+use Rattle.h2_pfs.specs.declared.met.Met.{Met}
+use Rattle.h2_pfs.specs.Mets.{met_of}
+use Rattle.h2_pfs.specs.Meets.{MetBy, InodeMissing}
+use Rattle.h2_pfs.proofs.Answering.{carried_err, beside_same, beside_on}
+use Rattle.h2_pfs.proofs.Members.{whole_front, at_place, map_more}
+use Rattle.h2_pfs.proofs.Growing.{front_met, named_no_more}
+use Rattle.h2_pfs.proofs.Visiting.{visits_same, visits_unloaded}
+use Rattle.h2_pfs.proofs.scanning.meet_all.Goals as goal
+
+pub loop-i-init : goal.loop-i-init
+loop-i-init g c = record {
+  visits = visits_same _ c.requires.sound;
+  beside = beside_same _ _;
+  later = g.met.N.Sets.same_later _;
+  met = ([], tt, c.new-out.ensures.items);
+  named = λ j d r le read named. named;
+}
+
+pub meet-requires-clause-leaf : goal.meet-requires-clause-leaf
+meet-requires-clause-leaf g c =
+    let read = at_place c.args.leaves.now c.loop-i.i _ c.loop-i-test.true in
+    visits_leaf _ _ _ _ c.requires.sound c.loop-i.invariant.visits (c.requires.leaves.each _ _ read)
+
+pub returns-in_err-met-clause-visits : goal.returns-in_err-met-clause-visits
+returns-in_err-met-clause-visits g c = visits_trans _ _ _ c.loop-i.invariant.visits c.in_err-met.ensures.visits
+
+pub returns-in_err-met-clause-unloaded : goal.returns-in_err-met-clause-unloaded
+returns-in_err-met-clause-unloaded g c =
+    let read = at_place c.args.leaves.now c.loop-i.i _ c.loop-i-test.true in
+    let leaf = c.requires.leaves.each _ _ read in
+    let Cause = λ (e : Trouble). (e ≡ NoMemory) ⊎ InodeMissing (g.N.Sets.forest c.args.n.now) (g.N.Sets.forest c.args.n.now) c.args.root.0 in
+    carried_err Cause c.from_residual.result c.in_err-met.field-0.0 c.from_residual.ensures.1 (elim c.in_err-met.ensures.unloaded as (λ _. Cause c.in_err-met.field-0.0) [
+      | inl none ↦ inl none
+      | inr unloaded ↦ inr (record { leaf = _; is_leaf = leaf; unloaded = visits_unloaded _ _ _ _ c.loop-i.invariant.visits leaf.stands unloaded })
+    ])
+
+pub returns-in_err-met-clause-beside : goal.returns-in_err-met-clause-beside
+returns-in_err-met-clause-beside g c = beside_on _ _ _ _ _ _ (λ m st. (c.loop-i.invariant.visits.stays m st).place.stands) c.loop-i.invariant.beside c.in_err-met.ensures.beside
+
+pub returns-in-Err-clause-visits : goal.returns-in-Err-clause-visits
+returns-in-Err-clause-visits g c = visits_trans _ _ _ c.loop-i.invariant.visits c.in_ok-met.ensures.visits
+
+pub loop-i-preserved : goal.loop-i-preserved
+loop-i-preserved g c =
+    let inv = c.loop-i.invariant in
+    let met = c.in_ok-met.ensures in
+    let read = at_place c.args.leaves.now c.loop-i.i _ c.loop-i-test.true in
+    let leaf = c.requires.leaves.each _ _ read in
+    let rising = c.requires.leaves.rising in
+    let p = met.met.0 in
+    let pfss = inv.met.0 in
+    let all = front_met g.N.Nodes.fields _ _ _ _ _ _ _ (g.N.Nodes.told c.loop-i.n) c.args.root.0 c.loop-i.i met.seeks.0 c.args.leaves.now pfss _ p rising read leaf inv.visits inv.beside (g.met.N.Nodes.told_later _ _ inv.later) inv.named met.seeks.1 met.beside inv.met.1 met.met.1 in
+    let items : c.push.new.self.items ≡ map met_of (pfss ++ p ∷ []) = c.in-Ok.ensures.items ∙ ap (λ (z : List Met). z ++ c.in_ok-met.met ∷ []) inv.met.2 ∙ ap (λ (z : Met). map met_of pfss ++ z ∷ []) met.met.2 ∙ sym (map_more met_of pfss p) in
+    record {
+      visits = visits_trans _ _ _ inv.visits met.visits;
+      beside = beside_on _ _ _ _ _ _ (λ m st. (inv.visits.stays m st).place.stands) inv.beside met.beside;
+      later = g.met.N.Sets.later_later _ _ _ inv.later met.later;
+      met = (pfss ++ p ∷ [], all, items);
+      named = named_no_more _ _ _ c.args.root.0 c.loop-i.i met.seeks.0 c.args.leaves.now _ rising read leaf inv.visits met.seeks.1 inv.named;
+    }
+
+pub returns-clause-met : goal.returns-clause-met
+returns-clause-met g c =
+    let met = c.loop-i.invariant.met in
+    let all : c.loop-i.i ≡ length c.args.leaves.now = omega (arith, c.loop-i-test.false, c.loop-i.auto.i-end) in
+    let rest = subst (λ k. OneByOne (MetBy (g.N.Sets.forest c.args.n.now) (g.N.Sets.forest c.loop-i.n) (held_by g.N.Nodes.fields (g.N.Sets.beside c.args.n.now)) (held_by g.N.Nodes.fields (g.N.Sets.beside c.loop-i.n)) (g.N.Nodes.told c.args.n.now) c.args.root.0) (take k c.args.leaves.now) met.0) all met.1 in
+    (met.0, whole_front _ c.args.leaves.now met.0 rest, met.2)

@@ -1,0 +1,6 @@
+pub mod SuperRoot
+pub mod Listing
+pub mod Mets
+pub mod Meets
+pub mod Faults
+pub mod Removal

@@ -1,0 +1,52 @@
+ghost use Rattle.std.specs.Prelude.{◌≡◌, ◌≤◌, ℕ, List, OnOk, IfErr, OnErr};
+ghost use Rattle.h2_set.specs.Forest.{IsSound, KeepsBeside};
+ghost use Rattle.h2_inode.specs.Nodes.{held_by, Visits};
+ghost use Rattle.h2_inode.specs.PfsList.{ListedPfs};
+ghost use Rattle.h2_pfs.specs.SuperRoot.{IsSuperRoot};
+ghost use Rattle.h2_pfs.specs.Listing.{HasPfss};
+ghost use Rattle.h2_pfs.specs.Removal.{NoneHeld, RemovesPfs, DropsPfs};
+ghost use Rattle.h2_pfs.specs.Faults.{IsRemoveFault, IsFaultIn};
+
+use crate::fault::PfsFault;
+use crate::met::id_in;
+use crate::scanning::scan;
+use h2_inode::Nodes;
+use h2_set::NodeId;
+use h2_tree::remove;
+use std::alloc::Global;
+
+/// Removes the PFS with this name, and all that belongs to it, where no handle is open in it. NoPfs exactly where no
+/// PFS has the name, and otherwise InUse with the number of handles exactly where there are some. Without handles the
+/// room is at least 62, and nothing of the PFS is held. The room is lowered by the number of nodes that are copied, at
+/// most 62. Trouble only where a leaf of the super-root's tree wasn't loaded, or an inode that one names, or for want
+/// of memory. After a refusal nothing but loads took place.
+pub fn pfs_remove<N: Nodes>(
+    alloc: Global,
+    n: &mut N,
+    root: NodeId,
+    name: &[u8],
+    handles: u32,
+) -> Result<(), PfsFault>
+    requires sound { IsSound (N.forest n.old) }
+    requires super_root { IsSuperRoot (N.forest n.old) root.0 }
+    requires room { handles ≡ 0 → let f = N.forest n.old in 62 ≤ f.room }
+    requires free { handles ≡ 0 → NoneHeld (N.forest n.old) (held_by N.fields (N.beside n.old)) root.0 name.now }
+    ensures removes { OnOk result (RemovesPfs (N.forest n.old) (N.forest n.new) (held_by N.fields (N.beside n.old)) (held_by N.fields (N.beside n.new)) root.0 name.now) }
+    ensures listed { OnOk result (DropsPfs (N.forest n.old) (N.forest n.new) (held_by N.fields (N.beside n.old)) (held_by N.fields (N.beside n.new)) (N.told n.old) (N.told n.new) root.0 name.now) }
+    ensures unused { OnOk result (handles ≡ 0) }
+    ensures fault { IfErr result (IsRemoveFault (N.forest n.old) (N.forest n.new) (held_by N.fields (N.beside n.new)) root.0 name.now handles) }
+    ensures refused { IfErr result (λ e. (next : ℕ) (pfss : List ListedPfs) → HasPfss (N.forest n.old) (held_by N.fields (N.beside n.old)) (N.told n.old) root.0 next pfss → IsFaultIn name.now pfss e) }
+    ensures visits { OnErr result (Visits (N.forest n.old) (N.forest n.new)) }
+    ensures beside { KeepsBeside (N.forest n.old) (N.forest n.new) (N.beside n.old) (N.beside n.new) }
+    ensures later { N.later n.old n.new }
+{
+    let pfss = scan(alloc, n, root)?;
+    let Some(id) = id_in(&pfss, name) else {
+        return Err(PfsFault::NoPfs);
+    };
+    if handles > 0 {
+        return Err(PfsFault::InUse(handles));
+    }
+    remove(alloc, n, root, id)?;
+    Ok(())
+}
