@@ -1,0 +1,7 @@
+pub mod Unchanging
+pub mod Scanning
+pub mod Paths
+pub mod Members
+pub mod Held
+pub mod Agreeing
+pub mod Searched
