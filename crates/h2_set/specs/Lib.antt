@@ -11,6 +11,7 @@ pub mod CutLaws
 pub mod PutLaws
 pub mod SplitLaws
 pub mod RenewLaws
+pub mod PathLaws
 pub mod MadeLaws
 pub mod ValidLaws
 pub mod SetBytesLaws

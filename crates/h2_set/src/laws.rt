@@ -1,7 +1,9 @@
-ghost use Rattle.std.specs.Prelude.{◌≡◌, ◌+◌, ◌*◌, ◌^◌, ◌<◌, ◌≤◌, ℕ, List, true, Some, length, slice_get, count_by};
+ghost use Rattle.std.specs.Prelude.{◌≡◌, ◌+◌, ◌*◌, ◌^◌, ◌<◌, ◌≤◌, ℕ, List, true, Option, Some, length, slice_get, count_by};
 ghost use Rattle.h2_num.specs.Places.{Places, AreBytes, SameBelow};
 ghost use Rattle.h2_ref.specs.declared.reference.Ref.{Ref};
-ghost use Rattle.h2_set.specs.Ranges.{lies, AllAligned, Rising, Sides};
+ghost use Rattle.h2_set.specs.Ranges.{find, lies, AllAligned, Rising, Sides};
+ghost use Rattle.h2_set.specs.Forest.{Forest, Alters, IsSound, LeavesOf, Reaches, Walks};
+ghost use Rattle.h2_set.specs.PathLaws.{PathRenewed};
 ghost use Rattle.h2_set.specs.RefSet.{HoldsAll, IsSplitOf};
 ghost use Rattle.h2_set.specs.SetBytes.{IsFaultOf, IsSetAt, SetBytes};
 ghost use Rattle.h2_set.specs.declared.set_decoding.SetFault.{SetFault};
@@ -38,4 +40,20 @@ pub fn set_bytes_law()
         → IsSetAt capacity refs b → ⊥ }
     ensures one_refusal { (capacity : ℕ) (b : Places) (fault other : SetFault) → IsFaultOf capacity b fault
         → IsFaultOf capacity b other → other ≡ fault }
+{}
+
+/// A law of loaded paths in a sound forest: the path of a key leads to one leaf or to none, which is what the list of
+/// leaves has where it is known. While nodes are loaded it stays, and where a node is altered it leads to what it led
+/// to, but for where the block of an inode lies in another tree.
+pub fn path_law()
+    ensures one { (f : Forest) (key at : ℕ) (o p : Option Ref) → IsSound f → f.stands at ≡ true → Reaches f key at o
+        → Reaches f key at p → o ≡ p }
+    ensures found { (f : Forest) (key at : ℕ) (o : Option Ref) (l : List Ref) → IsSound f → f.stands at ≡ true
+        → Reaches f key at o → LeavesOf f at l → o ≡ find key l }
+    ensures walked { (f g : Forest) (key at : ℕ) (o : Option Ref) → IsSound f → Walks f g → f.stands at ≡ true
+        → Reaches f key at o → Reaches g key at o }
+    ensures altered { (f g : Forest) (key at m : ℕ) (o : Option Ref) → IsSound f → Alters f g at → f.stands m ≡ true
+        → Reaches f key m o → PathRenewed g key m o }
+    ensures tree { (f g : Forest) (key at m : ℕ) (o : Option Ref) → IsSound f → Alters f g at → f.stands m ≡ true
+        → f.root m ≡ f.root at → Reaches f key m o → Reaches g key m o }
 {}
