@@ -17,7 +17,7 @@ use Rattle.h2_dir.proofs.Members.{at_place, has_place, kept, keeps}
 use Rattle.std.proofs.lemmas.Bool.Decides.{nat_tests}
 use Rattle.h2_dir.proofs.Held.{held_in, held_by, exact_names, names_total}
 
-between : (low high : ℕ) (leaf : Ref) → low ≤ leaf.key → leaf.key ≤ high → is_between low high leaf ≡ true
+pub between : (low high : ℕ) (leaf : Ref) → low ≤ leaf.key → leaf.key ≤ high → is_between low high leaf ≡ true
 between low high leaf from to = grind (arith, nat_tests)
 
 -- a key with the upper bits of a name's keys lies among them

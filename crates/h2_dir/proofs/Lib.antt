@@ -5,3 +5,4 @@ pub mod Members
 pub mod Held
 pub mod Agreeing
 pub mod Searched
+pub mod Spotting

@@ -4,6 +4,9 @@
 mod fault;
 mod finding;
 mod naming;
+mod placing;
 mod searching;
 
 pub use fault::DirFault;
+pub use finding::find;
+pub use placing::spot;
