@@ -6,3 +6,7 @@ pub mod Held
 pub mod Agreeing
 pub mod Searched
 pub mod Spotting
+pub mod Leaf
+pub mod Resized
+pub mod Growing
+pub mod Areas
