@@ -1,0 +1,12 @@
+pub mod Unchanging
+pub mod Scanning
+pub mod Paths
+pub mod Members
+pub mod Held
+pub mod Agreeing
+pub mod Searched
+pub mod Spotting
+pub mod Leaf
+pub mod Resized
+pub mod Growing
+pub mod Areas

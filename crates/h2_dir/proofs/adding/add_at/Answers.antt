@@ -1,0 +1,107 @@
+use Rattle.std.proofs.Common.{◌≡◌, ◌≤◌, ◌<◌, ◌+◌, ℕ, None, Some, sym, subst, ap, ◌∙◌, arith, List, true, false, refl}
+use Rattle.std.specs.Prelude.{length, Option}
+use Rattle.h2_num.specs.declared.block.Block.{Block}
+use Rattle.h2_ref.specs.declared.reference.Check.{Check}
+use Rattle.h2_ref.specs.declared.reference.Ref.{Ref}
+use Rattle.h2_ref.specs.Ref.{IsValid}
+use Rattle.h2_set.specs.Ranges.{put, holds}
+use Rattle.h2_set.specs.RefSet.{RefSet}
+use Rattle.h2_set.specs.Forest.{Reaches, LeavesOf}
+use Rattle.h2_tree.specs.Changes.{Takes, Inserts, KeepsPaths}
+use Rattle.h2_inode.specs.declared.inode.Inode.{Inode}
+use Rattle.h2_inode.specs.Nodes.{Fields, held_by, HasInode}
+use Rattle.h2_dir.specs.Changing.{entry_ref, with_entries, Adds}
+use Rattle.h2_dir.proofs.Leaf.{takes_entry, ref_kind, short_name}
+use Rattle.h2_dir.proofs.Growing.{same_but_set, writable_in, beside_on}
+use Rattle.h2_dir.proofs.Resized.{root_leaves, root_path, same_fields, regrown}
+use Rattle.h2_dir.proofs.adding.add_at.Goals as goal
+
+pub inode-requires : goal.inode-requires
+inode-requires g c = (c.requires.directory.inode, c.requires.directory.has)
+
+pub entry_ref-leaf-requires-clause-few : goal.entry_ref-leaf-requires-clause-few
+entry_ref-leaf-requires-clause-few g c = c.requires.under.good.few
+
+pub entry_ref-leaf-requires-clause-short : goal.entry_ref-leaf-requires-clause-short
+entry_ref-leaf-requires-clause-short g c none =
+    let f = g.N.Sets.forest c.args.n.now in
+    short_name f.epoch c.args.key c.args.name.now c.args.number c.args.target (subst (λ (b : Option (Block × Check)). IsValid (entry_ref f.epoch c.args.key c.args.name.now b c.args.number c.args.target)) none c.requires.valid)
+
+pub put_in-requires-clause-takes : goal.put_in-requires-clause-takes
+put_in-requires-clause-takes g c =
+    let f = g.N.Sets.forest c.args.n.now in
+    let r = entry_ref f.epoch c.args.key c.args.name.now c.args.block c.args.number c.args.target in
+    let is : c.entry_ref-leaf.result ≡ r = c.entry_ref-leaf.ensures ∙ ap (λ e. entry_ref e c.args.key c.args.name.now c.args.block c.args.number c.args.target) c.epoch.ensures in
+    let d = c.requires.directory in
+    subst (λ (x : Ref). Takes f c.args.dir.0 x) (sym is) (takes_entry f _ c.args.dir.0 d.inode r d.has d.kind d.refs c.requires.valid (ref_kind f.epoch c.args.key c.args.name.now c.args.block c.args.number c.args.target).0)
+
+pub put_in-requires-clause-free : goal.put_in-requires-clause-free
+put_in-requires-clause-free g c =
+    let f = g.N.Sets.forest c.args.n.now in
+    let is : c.entry_ref-leaf.result.key ≡ c.args.key = ap (λ (x : Ref). x.key) c.entry_ref-leaf.ensures ∙ (ref_kind c.epoch.result c.args.key c.args.name.now c.args.block c.args.number c.args.target).1 in
+    subst (λ k. Reaches f k c.args.dir.0 None) (sym is) c.requires.free
+
+pub resize-requires-clause-inode : goal.resize-requires-clause-inode
+resize-requires-clause-inode g c =
+    let h = g.N.Sets.forest c.put_in.new.n in
+    let d = c.requires.directory in
+    let ins = c.put_in.ensures.inserts in
+    (with_entries d.inode d.inode.size (h.set c.args.dir.0), same_but_set g.N.Nodes.fields _ h _ _ c.args.dir.0 d.inode ins.place ins.fixed c.put_in.ensures.beside d.refs d.has)
+
+pub resize-requires-clause-writable : goal.resize-requires-clause-writable
+resize-requires-clause-writable g c = let d = c.requires.directory in writable_in _ _ _ _ _ d.has.stands d.has.root c.put_in.ensures.inserts
+
+pub returns-clause-adds : goal.returns-clause-adds
+returns-clause-adds g c =
+    let f = g.N.Sets.forest c.args.n.now in
+    let h = g.N.Sets.forest c.put_in.new.n in
+    let now = g.N.Sets.forest c.resize.new.n in
+    let r = entry_ref f.epoch c.args.key c.args.name.now c.args.block c.args.number c.args.target in
+    let is : c.entry_ref-leaf.result ≡ r = c.entry_ref-leaf.ensures ∙ ap (λ e. entry_ref e c.args.key c.args.name.now c.args.block c.args.number c.args.target) c.epoch.ensures in
+    let adds : Adds f now c.args.dir.0 c.entry_ref-leaf.result = record { between = h; inserts = c.put_in.ensures.inserts; paths = c.put_in.ensures.paths; path = c.put_in.ensures.path; resizes = c.resize.ensures.replaces } in
+    subst (λ (x : Ref). Adds f now c.args.dir.0 x) is adds
+
+pub returns-clause-inode : goal.returns-clause-inode
+returns-clause-inode g c i has =
+    let f = g.N.Sets.forest c.args.n.now in
+    let h = g.N.Sets.forest c.put_in.new.n in
+    let now = g.N.Sets.forest c.resize.new.n in
+    let d = c.requires.directory in
+    let ins = c.put_in.ensures.inserts in
+    let j = with_entries d.inode d.inode.size (h.set c.args.dir.0) in
+    let then = same_but_set g.N.Nodes.fields f h _ _ c.args.dir.0 d.inode ins.place ins.fixed c.put_in.ensures.beside d.refs d.has in
+    let new = c.resize.ensures.inode j then (record { set = h.set c.args.dir.0; body_is = refl }) in
+    let size : c.inode.result.now.size ≡ i.size = ap (λ (x : Fields). x.size) (same_fields f _ c.args.dir.0 i c.inode.result.now has c.inode.ensures) in
+    let is = regrown i d.inode (c.inode.result.now.size + 1) (i.size + 1) (h.set c.args.dir.0) (now.set c.args.dir.0) (same_fields f _ c.args.dir.0 i d.inode has d.has) (ap (λ n. n + 1) size) (sym c.resize.ensures.replaces.set) in
+    subst (λ (x : Inode). HasInode now (held_by g.N.Nodes.fields (g.N.Sets.beside c.resize.new.n)) c.args.dir.0 x) is new
+
+pub returns-clause-leaves : goal.returns-clause-leaves
+returns-clause-leaves g c l leaves =
+    let f = g.N.Sets.forest c.args.n.now in
+    let now = g.N.Sets.forest c.resize.new.n in
+    let r = entry_ref f.epoch c.args.key c.args.name.now c.args.block c.args.number c.args.target in
+    let is : c.entry_ref-leaf.result ≡ r = c.entry_ref-leaf.ensures ∙ ap (λ e. entry_ref e c.args.key c.args.name.now c.args.block c.args.number c.args.target) c.epoch.ensures in
+    let ins = c.put_in.ensures.inserts in
+    subst (λ (x : Ref). LeavesOf now c.args.dir.0 (put x l)) is (root_leaves _ now c.args.dir.0 ins.sound ins.place.stands (ins.place.root ∙ c.requires.directory.has.root) c.resize.ensures.replaces (put c.entry_ref-leaf.result l) (ins.leaves l leaves))
+
+pub returns-clause-path : goal.returns-clause-path
+returns-clause-path g c =
+    let f = g.N.Sets.forest c.args.n.now in
+    let now = g.N.Sets.forest c.resize.new.n in
+    let r = entry_ref f.epoch c.args.key c.args.name.now c.args.block c.args.number c.args.target in
+    let is : c.entry_ref-leaf.result ≡ r = c.entry_ref-leaf.ensures ∙ ap (λ e. entry_ref e c.args.key c.args.name.now c.args.block c.args.number c.args.target) c.epoch.ensures in
+    let ins = c.put_in.ensures.inserts in
+    let path = root_path _ now c.args.dir.0 ins.sound ins.place.stands (ins.place.root ∙ c.requires.directory.has.root) c.resize.ensures.replaces c.put_in.ensures.path in
+    subst (λ k. Reaches now k c.args.dir.0 (Some r)) (ref_kind f.epoch c.args.key c.args.name.now c.args.block c.args.number c.args.target).1 (subst (λ (x : Ref). Reaches now x.key c.args.dir.0 (Some x)) is path)
+
+pub returns-clause-paths : goal.returns-clause-paths
+returns-clause-paths g c k o apart path =
+    let f = g.N.Sets.forest c.args.n.now in
+    let now = g.N.Sets.forest c.resize.new.n in
+    let r = entry_ref f.epoch c.args.key c.args.name.now c.args.block c.args.number c.args.target in
+    let is : c.entry_ref-leaf.result ≡ r = c.entry_ref-leaf.ensures ∙ ap (λ e. entry_ref e c.args.key c.args.name.now c.args.block c.args.number c.args.target) c.epoch.ensures in
+    let ins = c.put_in.ensures.inserts in
+    root_path _ now c.args.dir.0 ins.sound ins.place.stands (ins.place.root ∙ c.requires.directory.has.root) c.resize.ensures.replaces (c.put_in.ensures.paths k o (subst (λ (x : Ref). holds k x ≡ false) (sym is) apart) path)
+
+pub returns-clause-beside : goal.returns-clause-beside
+returns-clause-beside g c = beside_on _ _ _ _ _ _ _ (λ m old new. c.resize.ensures.replaces.none_new m new) c.put_in.ensures.beside c.resize.ensures.beside

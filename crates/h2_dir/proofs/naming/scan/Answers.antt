@@ -1,0 +1,31 @@
+use Rattle.std.proofs.Common.{◌≡◌, ℕ, ◌<◌, ◌≤◌, length, arith}
+use Rattle.std.proofs.lemmas.Option.{slice_get_within}
+use Rattle.h2_dir.proofs.Unchanging.{unchanged_trans, beside_unchanged}
+use Rattle.h2_dir.proofs.Scanning.{place_found, none_more}
+use Rattle.h2_dir.proofs.naming.scan.Goals as goal
+
+pub returns-in_err-has_name-clause-same : goal.returns-in_err-has_name-clause-same
+returns-in_err-has_name-clause-same g c = unchanged_trans _ _ _ c.loop-i.invariant.same c.in_err-has_name.ensures.same
+
+pub returns-then-branch-clause-same : goal.returns-then-branch-clause-same
+returns-then-branch-clause-same g c = unchanged_trans _ _ _ c.loop-i.invariant.same c.in_ok-has_name.ensures.same
+
+pub returns-then-branch-clause-scanned : goal.returns-then-branch-clause-scanned
+returns-then-branch-clause-scanned g c = place_found _ _ _ _ _ _ c.loop-i.invariant.same c.loop-i-test.true (c.in_ok-has_name.ensures.yes c.if-branch.true)
+
+pub loop-i-preserved : goal.loop-i-preserved
+loop-i-preserved g c =
+    let before = c.loop-i.invariant in
+    let now = c.in_ok-has_name.ensures in
+    record {
+      same = unchanged_trans _ _ _ before.same now.same;
+      beside = beside_unchanged _ _ _ _ _ _ before.same before.beside now.beside;
+      later = g.met.N.Sets.later_later _ _ _ before.later now.later;
+      none = none_more _ _ _ _ _ _ before.same before.none (now.no c.if-branch.false);
+    }
+
+pub returns-clause-scanned : goal.returns-clause-scanned
+returns-clause-scanned g c i leaf read named =
+    let within : i < length c.args.leaves.now = slice_get_within _ _ _ read in
+    let end : length c.args.leaves.now ≤ c.loop-i.i = c.loop-i-test.false in
+    c.loop-i.invariant.none i leaf (omega arith) read named

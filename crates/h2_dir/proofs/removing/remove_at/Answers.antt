@@ -1,0 +1,109 @@
+use Rattle.std.proofs.Common.{◌≡◌, ◌-◌, ℕ, None, Some, sym, subst, ap, ◌∙◌, List, true, false, refl}
+use Rattle.h2_ref.specs.declared.reference.Ref.{Ref}
+use Rattle.h2_set.specs.Ranges.{without, holds}
+use Rattle.h2_set.specs.RefSet.{RefSet}
+use Rattle.h2_set.specs.Forest.{Reaches, LeavesOf}
+use Rattle.h2_set.specs.PathLaws.{reaches_one}
+use Rattle.std.proofs.lemmas.Option.{same_Some}
+use Rattle.h2_inode.specs.declared.inode.Inode.{Inode}
+use Rattle.h2_inode.specs.Nodes.{Fields, held_by, HasInode}
+use Rattle.h2_dir.specs.Changing.{with_entries, TakesAway}
+use Rattle.h2_dir.proofs.Paths.{leaf_valid}
+use Rattle.h2_dir.proofs.Spotting.{own_key}
+use Rattle.h2_dir.proofs.Leaf.{entry_free, entry_kind, of_entry, leaf_refs}
+use Rattle.h2_dir.proofs.Growing.{same_but_set, writable_out, beside_on}
+use Rattle.h2_dir.proofs.Resized.{root_leaves, root_path, same_fields, regrown}
+use Rattle.h2_dir.proofs.removing.remove_at.Goals as goal
+
+pub inode-requires : goal.inode-requires
+inode-requires g c = (c.requires.directory.inode, c.requires.directory.has)
+
+pub take_out-leaf-requires-clause-stands : goal.take_out-leaf-requires-clause-stands
+take_out-leaf-requires-clause-stands g c = c.requires.directory.has.stands
+
+pub take_out-leaf-requires-clause-top : goal.take_out-leaf-requires-clause-top
+take_out-leaf-requires-clause-top g c = c.requires.directory.has.root
+
+pub take_out-leaf-requires-clause-free : goal.take_out-leaf-requires-clause-free
+take_out-leaf-requires-clause-free g c = let d = c.requires.directory in entry_free _ _ _ d.inode c.args.key c.requires.there.0 c.requires.sound d.has d.kind c.requires.there.1
+
+pub take_out-leaf-requires-clause-there : goal.take_out-leaf-requires-clause-there
+take_out-leaf-requires-clause-there g c =
+    let d = c.requires.directory in
+    (c.requires.there.0, c.requires.there.1, own_key _ _ _ d.inode c.args.key c.requires.there.0 c.requires.sound d.has d.kind c.requires.there.1)
+
+pub resize-requires-clause-inode : goal.resize-requires-clause-inode
+resize-requires-clause-inode g c =
+    let h = g.N.Sets.forest c.take_out-leaf.new.n in
+    let d = c.requires.directory in
+    let out = c.take_out-leaf.ensures.removes in
+    let refs = leaf_refs _ _ _ d.inode c.args.key c.requires.there.0 c.requires.sound d.has c.requires.there.1 in
+    (with_entries d.inode d.inode.size (h.set c.args.dir.0), same_but_set g.N.Nodes.fields _ h _ _ c.args.dir.0 d.inode out.place out.fixed c.take_out-leaf.ensures.beside refs d.has)
+
+pub resize-requires-clause-writable : goal.resize-requires-clause-writable
+resize-requires-clause-writable g c = let d = c.requires.directory in writable_out _ _ _ _ d.has.stands d.has.root c.take_out-leaf.ensures.removes
+
+pub says-requires : goal.says-requires
+says-requires g c =
+    let d = c.requires.directory in
+    let was = c.take_out-leaf.ensures.was in
+    let of = of_entry c.take_out-leaf.result (leaf_valid c.requires.sound d.has.stands was) (entry_kind _ _ _ d.inode c.args.key c.take_out-leaf.result c.requires.sound d.has d.kind was) in
+    (of.entry, of.entry_is)
+
+pub returns-clause-takes : goal.returns-clause-takes
+returns-clause-takes g c leaf path =
+    let f = g.N.Sets.forest c.args.n.now in
+    let h = g.N.Sets.forest c.take_out-leaf.new.n in
+    let now = g.N.Sets.forest c.resize.new.n in
+    let d = c.requires.directory in
+    let e = c.take_out-leaf.ensures in
+    let same : c.take_out-leaf.result ≡ leaf = same_Some c.take_out-leaf.result leaf (reaches_one c.requires.sound d.has.stands e.was path) in
+    let away : TakesAway f now c.args.dir.0 c.take_out-leaf.result = record { between = h; removes = e.removes; paths = e.paths; path = subst (λ k. Reaches h k c.args.dir.0 None) (sym e.key) e.path; resizes = c.resize.ensures.replaces } in
+    subst (λ (x : Ref). TakesAway f now c.args.dir.0 x) same away
+
+pub returns-clause-says : goal.returns-clause-says
+returns-clause-says g c leaf path =
+    let d = c.requires.directory in
+    let same : c.take_out-leaf.result ≡ leaf = same_Some c.take_out-leaf.result leaf (reaches_one c.requires.sound d.has.stands c.take_out-leaf.ensures.was path) in
+    ap (λ (x : Ref). x.dirent) (sym same) ∙ c.says.ensures
+
+pub returns-clause-inode : goal.returns-clause-inode
+returns-clause-inode g c i has =
+    let f = g.N.Sets.forest c.args.n.now in
+    let h = g.N.Sets.forest c.take_out-leaf.new.n in
+    let now = g.N.Sets.forest c.resize.new.n in
+    let d = c.requires.directory in
+    let out = c.take_out-leaf.ensures.removes in
+    let refs = leaf_refs _ _ _ d.inode c.args.key c.requires.there.0 c.requires.sound d.has c.requires.there.1 in
+    let j = with_entries d.inode d.inode.size (h.set c.args.dir.0) in
+    let then = same_but_set g.N.Nodes.fields f h _ _ c.args.dir.0 d.inode out.place out.fixed c.take_out-leaf.ensures.beside refs d.has in
+    let new = c.resize.ensures.inode j then (record { set = h.set c.args.dir.0; body_is = refl }) in
+    let size : c.inode.result.now.size ≡ i.size = ap (λ (x : Fields). x.size) (same_fields f _ c.args.dir.0 i c.inode.result.now has c.inode.ensures) in
+    let is = regrown i d.inode c.one_less.result (i.size - 1) (h.set c.args.dir.0) (now.set c.args.dir.0) (same_fields f _ c.args.dir.0 i d.inode has d.has) (c.one_less.ensures ∙ ap (λ n. n - 1) size) (sym c.resize.ensures.replaces.set) in
+    subst (λ (x : Inode). HasInode now (held_by g.N.Nodes.fields (g.N.Sets.beside c.resize.new.n)) c.args.dir.0 x) is new
+
+pub returns-clause-leaves : goal.returns-clause-leaves
+returns-clause-leaves g c l leaves =
+    let now = g.N.Sets.forest c.resize.new.n in
+    let out = c.take_out-leaf.ensures.removes in
+    subst (λ k. LeavesOf now c.args.dir.0 (without k l)) c.take_out-leaf.ensures.key
+    (root_leaves _ now c.args.dir.0 out.sound out.place.stands (out.place.root ∙ c.requires.directory.has.root) c.resize.ensures.replaces (without c.take_out-leaf.result.key l) (out.leaves l leaves))
+
+pub returns-clause-path : goal.returns-clause-path
+returns-clause-path g c =
+    let out = c.take_out-leaf.ensures.removes in
+    root_path _ _ c.args.dir.0 out.sound out.place.stands (out.place.root ∙ c.requires.directory.has.root) c.resize.ensures.replaces c.take_out-leaf.ensures.path
+
+pub returns-clause-paths : goal.returns-clause-paths
+returns-clause-paths g c leaf there k o apart path =
+    let d = c.requires.directory in
+    let e = c.take_out-leaf.ensures in
+    let out = e.removes in
+    let same : c.take_out-leaf.result ≡ leaf = same_Some c.take_out-leaf.result leaf (reaches_one c.requires.sound d.has.stands e.was there) in
+    root_path _ _ c.args.dir.0 out.sound out.place.stands (out.place.root ∙ d.has.root) c.resize.ensures.replaces (e.paths k o (subst (λ (x : Ref). holds k x ≡ false) (sym same) apart) path)
+
+pub returns-clause-beside : goal.returns-clause-beside
+returns-clause-beside g c = beside_on _ _ _ _ _ _ _ (λ m old new. c.resize.ensures.replaces.none_new m new) c.take_out-leaf.ensures.beside c.resize.ensures.beside
+
+pub returns-clause-later : goal.returns-clause-later
+returns-clause-later g c = g.met.N.Sets.later_later _ _ _ c.take_out-leaf.ensures.later c.resize.ensures.later

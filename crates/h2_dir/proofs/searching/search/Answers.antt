@@ -1,0 +1,40 @@
+use Rattle.std.proofs.Common.{◌≡◌, ◌+◌, sym, subst, List}
+use Rattle.std.specs.Prelude.{All}
+use Rattle.h2_ref.specs.declared.reference.Ref.{Ref}
+use Rattle.h2_ref.specs.Ref.{IsValid}
+use Rattle.h2_set.specs.StayLaws.{Walks-trans, Unchanged-walks}
+use Rattle.h2_tree.specs.Changes.{LoadsTouched, Lists}
+use Rattle.h2_dir.proofs.Paths.{lists_valid, lists_same}
+use Rattle.h2_dir.proofs.Searched.{touched_same, scanned_stays}
+use Rattle.h2_dir.proofs.searching.search.Goals as goal
+
+pub scan-requires-clause-valid : goal.scan-requires-clause-valid
+scan-requires-clause-valid g c =
+    let walks = c.in_ok-leaves.ensures.walks in
+    let stands = (walks.stays c.args.dir.0 c.requires.stands).place.stands in
+    subst (λ (xs : List Ref). All IsValid xs) (sym c.deref.ensures.value) (lists_valid _ _ _ _ _ walks.sound stands c.in_ok-leaves.ensures.lists)
+
+pub returns-in_err-place-clause-walks : goal.returns-in_err-place-clause-walks
+returns-in_err-place-clause-walks g c = Walks-trans _ _ _ c.in_ok-leaves.ensures.walks (Unchanged-walks _ _ c.in_err-place.ensures.same)
+
+pub returns-in_err-place-clause-touched : goal.returns-in_err-place-clause-touched
+returns-in_err-place-clause-touched g c =
+    let f = g.N.Sets.forest c.args.n.now in
+    subst (λ k. LoadsTouched f (g.N.Sets.forest c.scan.new.n) k (k + 32767)) c.requires.least (touched_same _ _ _ _ _ c.in_ok-leaves.ensures.touched c.in_err-place.ensures.same)
+
+pub returns-clause-walks : goal.returns-clause-walks
+returns-clause-walks g c = Walks-trans _ _ _ c.in_ok-leaves.ensures.walks (Unchanged-walks _ _ c.in_ok-place.ensures.same)
+
+pub returns-clause-lists : goal.returns-clause-lists
+returns-clause-lists g c =
+    let walks = c.in_ok-leaves.ensures.walks in
+    let stands = (walks.stays c.args.dir.0 c.requires.stands).place.stands in
+    subst (λ k. Lists (g.N.Sets.forest c.scan.new.n) c.args.dir.0 k (k + 32767) c.in_ok-leaves.leaves.items) c.requires.least (lists_same _ _ _ _ _ _ walks.sound stands c.in_ok-place.ensures.same c.in_ok-leaves.ensures.lists)
+
+pub returns-clause-scanned : goal.returns-clause-scanned
+returns-clause-scanned g c = scanned_stays _ _ _ _ _ c.in_ok-place.place c.deref.ensures.value (λ r. sym (c.in_ok-place.ensures.same.fixed.name r)) c.in_ok-place.ensures.scanned
+
+pub returns-clause-touched : goal.returns-clause-touched
+returns-clause-touched g c =
+    let f = g.N.Sets.forest c.args.n.now in
+    subst (λ k. LoadsTouched f (g.N.Sets.forest c.scan.new.n) k (k + 32767)) c.requires.least (touched_same _ _ _ _ _ c.in_ok-leaves.ensures.touched c.in_ok-place.ensures.same)

@@ -1,0 +1,4 @@
+pub mod Names
+pub mod Finding
+pub mod Placing
+pub mod Changing

@@ -1,0 +1,76 @@
+ghost use Rattle.std.specs.Prelude.{◌≡◌, ◌≤◌, ◌+◌, ℕ, Bool, true, List, Some, None};
+ghost use Rattle.std.specs.FinMap.{get, insert};
+ghost use Rattle.h2_ref.specs.Ref.{IsValid};
+ghost use Rattle.h2_ref.specs.declared.reference.Ref.{Ref};
+ghost use Rattle.h2_set.specs.Ranges.{put};
+ghost use Rattle.h2_set.specs.Forest.{Forest, IsSound, LeavesOf, Reaches, KeepsBeside};
+ghost use Rattle.h2_tree.specs.Changes.{Takes, Inserts, KeepsPaths};
+ghost use Rattle.h2_dirkey.specs.Key.{IsNameUnder};
+ghost use Rattle.h2_inode.specs.declared.inode.Inode.{Inode};
+ghost use Rattle.h2_inode.specs.Nodes.{held_by, HasInode, KeepsOthersBeside};
+ghost use Rattle.h2_inode.specs.Directory.{Entries};
+ghost use Rattle.h2_dir.specs.Finding.{HoldsEntries};
+ghost use Rattle.h2_dir.specs.Changing.{HasRoom, Adds, entry_ref, with_entries};
+
+use crate::entry::entry_ref;
+use crate::resizing::resize;
+use h2_inode::Nodes;
+use h2_num::Block;
+use h2_ref::{Check, Ref};
+use h2_set::{NodeId, Sets};
+use h2_tree::insert;
+use std::alloc::Global;
+
+// Puts a leaf into a tree in which the loaded path of its key leads to none.
+fn put_in<N: Sets>(alloc: Global, n: &mut N, root: NodeId, leaf: Ref)
+    requires sound { IsSound (N.forest n.old) }
+    requires stands { let f = N.forest n.old in f.stands root.0 ≡ true }
+    requires takes { Takes (N.forest n.old) root.0 leaf }
+    requires free { Reaches (N.forest n.old) leaf.key root.0 None }
+    requires space { let f = N.forest n.old in (1 ≤ f.spare) × (63 ≤ f.room) }
+    ensures inserts { Inserts (N.forest n.old) (N.forest n.new) root.0 leaf None }
+    ensures paths { KeepsPaths (N.forest n.old) (N.forest n.new) root.0 leaf }
+    ensures path { Reaches (N.forest n.new) leaf.key root.0 (Some leaf) }
+    ensures beside { KeepsBeside (N.forest n.old) (N.forest n.new) (N.beside n.old) (N.beside n.new) }
+    ensures later { N.later n.old n.new }
+{
+    let Ok(_replaced) = insert(alloc, n, root, leaf) else {
+        unreachable!();
+    };
+}
+
+/// Adds an entry to a directory, with the epoch as its id, and raises the directory's size by one.
+///
+/// No entry has the key, its path is loaded, and it has the upper bits of the name's keys (`spot` gives such a key). The size
+/// is below 4096. The number is from 1 to 2^62 - 1, and the target 1 for a directory or 2 for a file. A name of more
+/// than 64 bytes has a block of 1 KiB, and no other has: it is given with its check. At least one node is spare, and
+/// the room is at least 63. It can't be refused. No node is unloaded, and all loaded paths stay.
+pub fn add_at<N: Nodes>(
+    alloc: Global,
+    n: &mut N,
+    dir: NodeId,
+    key: u64,
+    name: &[u8],
+    block: Option<(Block, Check)>,
+    number: u64,
+    target: u8,
+)
+    requires sound { IsSound (N.forest n.old) }
+    requires directory { HasRoom (N.forest n.old) (held_by N.fields (N.beside n.old)) dir.0 }
+    requires under { IsNameUnder key name.now }
+    requires free { Reaches (N.forest n.old) key dir.0 None }
+    requires valid { let f = N.forest n.old in IsValid (entry_ref f.epoch key name.now block number target) }
+    requires space { let f = N.forest n.old in (1 ≤ f.spare) × (63 ≤ f.room) }
+    ensures adds { let f = N.forest n.old in Adds f (N.forest n.new) dir.0 (entry_ref f.epoch key name.now block number target) }
+    ensures inode { let g = N.forest n.new in (i : Inode) → HasInode (N.forest n.old) (held_by N.fields (N.beside n.old)) dir.0 i → HasInode g (held_by N.fields (N.beside n.new)) dir.0 (with_entries i (i.size + 1) (g.set dir.0)) }
+    ensures leaves { let f = N.forest n.old in (l : List Ref) → LeavesOf f dir.0 l → LeavesOf (N.forest n.new) dir.0 (put (entry_ref f.epoch key name.now block number target) l) }
+    ensures path { let f = N.forest n.old in Reaches (N.forest n.new) key dir.0 (Some (entry_ref f.epoch key name.now block number target)) }
+    ensures paths { let f = N.forest n.old in KeepsPaths f (N.forest n.new) dir.0 (entry_ref f.epoch key name.now block number target) }
+    ensures beside { KeepsOthersBeside (N.forest n.old) (N.forest n.new) dir.0 (N.beside n.old) (N.beside n.new) }
+    ensures later { N.later n.old n.new }
+{
+    let size = n.inode(dir).size;
+    let leaf = entry_ref(n.epoch(), key, name, block, number, target);
+    put_in(alloc, n, dir, leaf);
+    resize(n, dir, size + 1);
+}
