@@ -66,6 +66,11 @@ fn call_both(
     Ok(Ok(()))
 }
 
+// The key of a leaf; none is 0, which is the number of no inode.
+fn key_at(i: u64) -> u64 {
+    i.saturating_add(1).saturating_mul(STEP)
+}
+
 // A tree and its list, with leaves at every step.
 fn filled(rt: &(impl Abort + AllocGlobal)) -> Result<(Tree, PlainList), Fail>
     ensures { IfOk result (λ p. let t = p.0 in IsTree t.sets t.root.0 t.keys t.leaf_bits) }
@@ -74,7 +79,7 @@ fn filled(rt: &(impl Abort + AllocGlobal)) -> Result<(Tree, PlainList), Fail>
     let mut tree = Tree::new(alloc, KeyClass::Low, 0)?;
     let mut list = PlainList::new(alloc);
     for i in 0..LEAVES {
-        let Some(leaf) = tree.leaf(i.saturating_mul(STEP), 1) else {
+        let Some(leaf) = tree.leaf(key_at(i), 1) else {
             return Err(Fail::new("no leaf of the tree"));
         };
         tree.insert(alloc, leaf)?;
@@ -195,7 +200,7 @@ fn each_split_needs_a_spare_node(rt: HostRuntime) -> Result<(), Fail> {
     let (mut tree, mut list) = filled(&rt)?;
     let mut refused = 0u64;
     for i in 0..LEAVES {
-        let key = i.saturating_mul(STEP).saturating_add(1);
+        let key = key_at(i).saturating_add(1);
         if insert_unspared(&rt, &mut tree, &mut list, key)? {
             refused = refused.saturating_add(1);
         }
@@ -210,16 +215,16 @@ fn a_split_needs_a_spare_node(rt: HostRuntime) -> Result<(), Fail> {
     let alloc = rt.alloc();
     let mut tree = Tree::new(alloc, KeyClass::Low, 0)?;
     let mut list = PlainList::new(alloc);
-    for key in 0..4u64 {
+    for key in 1..5u64 {
         tree.refuse_spare(1);
         let done = call_both(&rt, &mut tree, &mut list, Call::Insert(key))?;
         assert_eq!(rt; done, Ok(()), "key {key}");
     }
     tree.refuse_spare(1);
-    let done = call_both(&rt, &mut tree, &mut list, Call::Insert(4))?;
+    let done = call_both(&rt, &mut tree, &mut list, Call::Insert(5))?;
     assert_eq!(rt; done, Err(Trouble::NoMemory));
     assert_eq!(rt; list.leaves.len(), 4);
-    for call in [Call::Range, Call::Insert(4), Call::Range] {
+    for call in [Call::Range, Call::Insert(5), Call::Range] {
         let done = call_both(&rt, &mut tree, &mut list, call)?;
         assert_eq!(rt; done, Ok(()));
     }

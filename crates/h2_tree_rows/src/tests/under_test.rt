@@ -1,12 +1,13 @@
 ghost use Rattle.std.specs.Prelude.{◌≡◌, ◌<◌, ◌≤◌, ◌+◌, ◌^◌, false, IfOk, IfSome, IsTrue};
-ghost use Rattle.h2_set.specs.Ranges.{leads_on};
+ghost use Rattle.h2_ref.specs.declared.reference.Kind.TheVariants.{Empty};
+ghost use Rattle.h2_set.specs.Ranges.{is_indirect};
 ghost use Rattle.h2_memory_sets.specs.Seen.{forest_of};
 ghost use Rattle.h2_tree.specs.Changes.{Takes};
 ghost use Rattle.h2_tree_rows.specs.TreeUnderTest.{IsLeafKey, IsTree};
 
 use h2_memory_sets::{KeyClass, MemorySets};
 use h2_num::NoMemory;
-use h2_ref::{Check, Kind, Ref, Trouble};
+use h2_ref::{Check, Dirent, Kind, Ref, Trouble};
 use h2_set::NodeId;
 use h2_tree::{insert, lookup, range, remove};
 use std::alloc::Global;
@@ -16,6 +17,9 @@ const EPOCH: u64 = 5;
 
 /// How many blocks can be taken: more than all tests take.
 const ROOM: u64 = 1_000_000_000;
+
+/// Where the blocks of all leaves lie: a place of a block of 1 or 16 KiB.
+const PLACE: u64 = 1 << 20;
 
 /// The longest range of a leaf that is tried: that of a block of contents.
 const LONGEST: u64 = 16384;
@@ -52,16 +56,14 @@ impl Tree {
         if !is_leaf_key(self.keys, key, self.leaf_bits) {
             return None;
         }
-        Some(Ref {
-            kind: kind_of(self.keys, self.leaf_bits),
-            key,
-            keybits: self.leaf_bits,
-            place: 0,
-            radix: 0,
-            id: version,
-            check: Check::Nothing,
-            dirent: None,
-        })
+        let leaf = match self.keys {
+            KeyClass::High => entry_leaf(key, self.leaf_bits, version),
+            KeyClass::Low => block_leaf(key, self.leaf_bits, version),
+        };
+        if !leaf.valid() {
+            return None;
+        }
+        Some(leaf)
     }
 
     pub fn insert(&mut self, alloc: Global, leaf: Ref) -> Result<Option<Ref>, Trouble>
@@ -129,19 +131,53 @@ impl Tree {
     }
 }
 
-// What a leaf of such a tree names.
-fn kind_of(keys: KeyClass, leaf_bits: u8) -> Kind
-    ensures { leads_on result ≡ false }
+// A leaf that names the block of an inode, or of contents where its range has more keys than one.
+fn block_leaf(key: u64, keybits: u8, version: u64) -> Ref
+    ensures leaf { is_indirect result ≡ false }
+    ensures something { result.kind ≡ Empty → ⊥ }
+    ensures key { result.key ≡ key }
+    ensures keybits { result.keybits ≡ keybits }
 {
-    match keys {
-        KeyClass::High => Kind::Dirent,
-        KeyClass::Low => {
-            if leaf_bits == 0 {
-                Kind::Inode
-            } else {
-                Kind::Content
-            }
-        }
+    let (kind, radix) = if keybits == 0 {
+        (Kind::Inode, 10)
+    } else {
+        (Kind::Content, 14)
+    };
+    Ref {
+        kind,
+        key,
+        keybits,
+        place: PLACE,
+        radix,
+        id: version,
+        check: Check::Xx(0),
+        dirent: None,
+    }
+}
+
+// A leaf that is the entry of a name, which stands in it.
+fn entry_leaf(key: u64, keybits: u8, version: u64) -> Ref
+    ensures leaf { is_indirect result ≡ false }
+    ensures something { result.kind ≡ Empty → ⊥ }
+    ensures key { result.key ≡ key }
+    ensures keybits { result.keybits ≡ keybits }
+{
+    let mut name = [0u8; 64];
+    name[0] = b'x';
+    Ref {
+        kind: Kind::Dirent,
+        key,
+        keybits,
+        place: 0,
+        radix: 0,
+        id: version,
+        check: Check::Nothing,
+        dirent: Some(Dirent {
+            number: 1,
+            len: 1,
+            target: 2,
+            name,
+        }),
     }
 }
 
