@@ -10,7 +10,7 @@ use Rattle.h2_set.specs.Forest.{Link, loaded, untold, Forest, Loads, Walks, IsSo
 use Rattle.h2_set.specs.ChangeLaws.{same_or_not}
 use Rattle.h2_set.specs.StayLaws.{Alike-refl}
 use Rattle.h2_memory_sets.specs.declared.node.Node.{Node}
-use Rattle.h2_memory_sets.specs.View.{stands_of, set_of, root_of, low_of, bits_of, leaf_bits_of, is_up, is_below, is_child, link_of, forest_with, brought, IsLoadable}
+use Rattle.h2_memory_sets.specs.View.{stands_of, set_of, root_of, low_of, bits_of, writable_of, copies_of, leaf_bits_of, is_up, is_below, is_child, link_of, forest_with, brought, IsLoadable}
 use Rattle.h2_memory_sets.proofs.Lists.{below_names}
 use Rattle.h2_memory_sets.proofs.Loading.{DiffersByLoad, walks, loads}
 use Rattle.h2_memory_sets.proofs.Nodes.{settled_of, position_same, get_set, get_set_other, field_stays}
@@ -47,10 +47,10 @@ module _ (xs : List Node) (at c : ℕ) (r : Ref) (stands : stands_of (slice_get 
   not_fresh m st e = let clash : true ≡ false = sym st ∙ ap (λ z. stands_of (slice_get xs z)) e ∙ fresh in cc
 
   abbrev new : Node
-  new = brought (root_of (slice_get xs at)) r.keybits l.node
+  new = brought (root_of (slice_get xs at)) (copies_of (slice_get xs at)) r.keybits l.node
 
   abbrev ys : List Node
-  ys = slice_set xs c (brought (root_of (slice_get xs at)) r.keybits l.node)
+  ys = slice_set xs c (brought (root_of (slice_get xs at)) (copies_of (slice_get xs at)) r.keybits l.node)
 
   at_c : slice_get ys c ≡ Some new
   at_c = get_set xs c new (slice_get_within xs c l.node l.read)
@@ -105,9 +105,9 @@ module _ (xs : List Node) (at c : ℕ) (r : Ref) (stands : stands_of (slice_get 
   pub was_untold : link_of xs at r.key ≡ untold
   was_untold = rw none (cond_same _ untold)
 
-  pub differs_by_load : (root_of (slice_get xs at) ≡ c → ⊥) → (spare epoch room failed bad : ℕ) (i : ℕ) → slice_get (let s = set_of (slice_get xs at) in s.refs) i ≡ Some r → is_indirect r ≡ true → DiffersByLoad (forest_with xs spare epoch room failed bad) (forest_with (slice_set xs c (brought (root_of (slice_get xs at)) r.keybits l.node)) spare epoch room failed bad) at c r
+  pub differs_by_load : (root_of (slice_get xs at) ≡ c → ⊥) → (spare epoch room failed bad : ℕ) (i : ℕ) → slice_get (let s = set_of (slice_get xs at) in s.refs) i ≡ Some r → is_indirect r ≡ true → DiffersByLoad (forest_with xs spare epoch room failed bad) (forest_with (slice_set xs c (brought (root_of (slice_get xs at)) (copies_of (slice_get xs at)) r.keybits l.node)) spare epoch room failed bad) at c r
   differs_by_load under spare epoch room failed bad i read ind = record {
-    settled = settled_of xs ys spare spare epoch room room failed failed bad bad leaf (omega arith) (omega arith) (λ m st. let off = off_c m (not_fresh m st) in (ap stands_of off ∙ st, ap root_of off, ap low_of off, ap bits_of off));
+    settled = settled_of xs ys spare spare epoch room room failed failed bad bad leaf (omega arith) (omega arith) (λ m st. let off = off_c m (not_fresh m st) in (ap stands_of off ∙ st, ap root_of off, ap low_of off, ap bits_of off, ap writable_of off, ap copies_of off));
     fresh = fresh;
     under = under;
     new = ap stands_of at_c;
@@ -115,6 +115,8 @@ module _ (xs : List Node) (at c : ℕ) (r : Ref) (stands : stands_of (slice_get 
     root = ap root_of at_c;
     low = ap low_of at_c ∙ alike l.node.low r.key parts.2;
     bits = ap bits_of at_c;
+    clean = ap writable_of at_c;
+    copies = ap copies_of at_c;
     set = rw (ap set_of at_c) l.fits.set;
     fits = rw (ap set_of at_c) l.fits;
     there = λ m st. set_same m;
@@ -137,7 +139,7 @@ module _ (xs : List Node) (at i : ℕ) (x : Node) (q : Ref) (read : slice_get xs
 -- nothing was loaded, though the counts rose
 pub loads_nothing : (xs : List Node) (spare epoch room failed failed' bad bad' at k : ℕ) → Loads (forest_with xs spare epoch room failed bad) (forest_with xs spare epoch room failed' bad') at k
 loads_nothing xs spare epoch room failed failed' bad bad' at k = record {
-  keeps = λ m st ne. record { place = record { stands = st; root = refl; low = refl; bits = refl; belongs = λ t j. refl; writable = λ e. refl }; alike = Alike-refl _; link = λ j. refl };
+  keeps = λ m st ne. record { place = record { stands = st; root = refl; low = refl; bits = refl; belongs = λ t j. refl; writable = λ e. e }; alike = Alike-refl _; link = λ j. refl };
   link = λ j ne. refl;
   new = λ m st. inl st;
 }
@@ -160,11 +162,11 @@ pub loadable_away : (xs : List Node) (at c : ℕ) (r : Ref) → IsLoadable xs at
 loadable_away xs at c r l = ap stands_of l.read ∙ (away_parts l.node.loaded (is_up at l.node.up) (nat_eq l.node.low r.key) l.away).0
 
 -- the node that was written is the one that was loaded
-pub brought_is : (xs : List Node) (at c : ℕ) (r : Ref) (x y z : Node) (l : IsLoadable xs at r c) → slice_get xs at ≡ Some x → slice_get xs c ≡ Some y → z ≡ brought x.root r.keybits y → slice_set xs c (brought (root_of (slice_get xs at)) r.keybits l.node) ≡ slice_set xs c z
+pub brought_is : (xs : List Node) (at c : ℕ) (r : Ref) (x y z : Node) (l : IsLoadable xs at r c) → slice_get xs at ≡ Some x → slice_get xs c ≡ Some y → z ≡ brought x.root x.copies r.keybits y → slice_set xs c (brought (root_of (slice_get xs at)) (copies_of (slice_get xs at)) r.keybits l.node) ≡ slice_set xs c z
 brought_is xs at c r x y z l at_x at_y z_is =
     let same : l.node ≡ y = one_of l.node y (sym l.read ∙ at_y) in
     let root : root_of (slice_get xs at) ≡ x.root = ap root_of at_x in
-    ap (λ (n : ℕ). slice_set xs c (brought n r.keybits l.node)) root ∙ ap (λ (n : Node). slice_set xs c (brought x.root r.keybits n)) same ∙ ap (slice_set xs c) (sym z_is)
+    ap (λ (n : ℕ). slice_set xs c (brought n (copies_of (slice_get xs at)) r.keybits l.node)) root ∙ ap (λ (n : ℕ). slice_set xs c (brought x.root n r.keybits l.node)) (ap copies_of at_x) ∙ ap (λ (n : Node). slice_set xs c (brought x.root x.copies r.keybits n)) same ∙ ap (slice_set xs c) (sym z_is)
 
 -- what loading a node does
 pub record Brings (f g : Forest) (at c : ℕ) (q : Ref) : Type 0 where
@@ -172,7 +174,7 @@ pub record Brings (f g : Forest) (at c : ℕ) (q : Ref) : Type 0 where
   pub link : g.link at q.key ≡ loaded c
   pub loaded_there : Loads f g at q.key
 
-brings_new : (xs : List Node) (spare epoch room failed bad at i c : ℕ) (q : Ref) → IsSound (forest_with xs spare epoch room failed bad) → stands_of (slice_get xs at) ≡ true → (l : IsLoadable xs at q c) → position (is_child at q.key) xs ≡ None → (root_of (slice_get xs at) ≡ c → ⊥) → slice_get (let s = set_of (slice_get xs at) in s.refs) i ≡ Some q → is_indirect q ≡ true → Brings (forest_with xs spare epoch room failed bad) (forest_with (slice_set xs c (brought (root_of (slice_get xs at)) q.keybits l.node)) spare epoch room failed bad) at c q
+brings_new : (xs : List Node) (spare epoch room failed bad at i c : ℕ) (q : Ref) → IsSound (forest_with xs spare epoch room failed bad) → stands_of (slice_get xs at) ≡ true → (l : IsLoadable xs at q c) → position (is_child at q.key) xs ≡ None → (root_of (slice_get xs at) ≡ c → ⊥) → slice_get (let s = set_of (slice_get xs at) in s.refs) i ≡ Some q → is_indirect q ≡ true → Brings (forest_with xs spare epoch room failed bad) (forest_with (slice_set xs c (brought (root_of (slice_get xs at)) (copies_of (slice_get xs at)) q.keybits l.node)) spare epoch room failed bad) at c q
 brings_new xs spare epoch room failed bad at i c q sound stands l none under read ind =
     let d = differs_by_load xs at c q stands l none under spare epoch room failed bad i read ind in
     record {
@@ -181,5 +183,5 @@ brings_new xs spare epoch room failed bad at i c q sound stands l none under rea
       loaded_there = loads _ _ at c i q d sound stands read ind;
     }
 
-pub brings : (xs : List Node) (spare epoch room failed bad at i c : ℕ) (q : Ref) (x y z : Node) → IsSound (forest_with xs spare epoch room failed bad) → stands_of (slice_get xs at) ≡ true → IsLoadable xs at q c → position (is_child at q.key) xs ≡ None → (root_of (slice_get xs at) ≡ c → ⊥) → slice_get (let s = set_of (slice_get xs at) in s.refs) i ≡ Some q → is_indirect q ≡ true → slice_get xs at ≡ Some x → slice_get xs c ≡ Some y → z ≡ brought x.root q.keybits y → Brings (forest_with xs spare epoch room failed bad) (forest_with (slice_set xs c z) spare epoch room failed bad) at c q
+pub brings : (xs : List Node) (spare epoch room failed bad at i c : ℕ) (q : Ref) (x y z : Node) → IsSound (forest_with xs spare epoch room failed bad) → stands_of (slice_get xs at) ≡ true → IsLoadable xs at q c → position (is_child at q.key) xs ≡ None → (root_of (slice_get xs at) ≡ c → ⊥) → slice_get (let s = set_of (slice_get xs at) in s.refs) i ≡ Some q → is_indirect q ≡ true → slice_get xs at ≡ Some x → slice_get xs c ≡ Some y → z ≡ brought x.root x.copies q.keybits y → Brings (forest_with xs spare epoch room failed bad) (forest_with (slice_set xs c z) spare epoch room failed bad) at c q
 brings xs spare epoch room failed bad at i c q x y z sound stands l none under read ind at_x at_y z_is = subst (λ (zs : List Node). Brings (forest_with xs spare epoch room failed bad) (forest_with zs spare epoch room failed bad) at c q) (brought_is xs at c q x y z l at_x at_y z_is) (brings_new xs spare epoch room failed bad at i c q sound stands l none under read ind)

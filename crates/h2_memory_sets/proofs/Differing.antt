@@ -12,7 +12,7 @@ use Rattle.h2_set.specs.Forest.{loaded, untold}
 use Rattle.h2_set.specs.LeafLaws.{outside_holds}
 use Rattle.h2_set.specs.ChangeLaws.{same_or_not}
 use Rattle.h2_memory_sets.specs.declared.node.Node.{Node}
-use Rattle.h2_memory_sets.specs.View.{stands_of, set_of, root_of, low_of, bits_of, leaf_bits_of, is_child, link_to, moved, moved_all, with_set, new_node, parted, forest_with}
+use Rattle.h2_memory_sets.specs.View.{stands_of, set_of, root_of, low_of, bits_of, writable_of, copies_of, leaf_bits_of, is_child, link_to, moved, moved_all, with_set, new_node, parted, forest_with}
 use Rattle.h2_memory_sets.proofs.Made.{DiffersByMake}
 use Rattle.h2_memory_sets.proofs.Nodes.{settled_of, is_there}
 use Rattle.h2_memory_sets.proofs.Parting.{unlike, alike, up_other, up_at_out, up_c_out, up_at_in, up_c_in, tests, fails, first_push, first_none, none_passes, item_at, front_length, at_new, at_here, at_other, field, front_same, front_none}
@@ -114,7 +114,7 @@ module _ (xs : List Node) (at : ℕ) (x : Node) (set : RefSet) (s : Split) (ref 
 
   pub differs_by_make : (root_of (slice_get xs at) ≡ length xs → ⊥) → (spare spare' epoch room room' failed bad : ℕ) → spare' + 1 ≡ spare → room' + 1 ≡ room → DiffersByMake (forest_with xs spare epoch room failed bad) (forest_with (parted xs at x (record { refs = put ref (with_rest s.rest set.refs); capacity = set.capacity }) s.moved ref) spare' epoch room' failed bad) at (length xs) set s ref
   differs_by_make under spare spare' epoch room room' failed bad spare_is room_is = record {
-    settled = settled_of xs ys spare spare' epoch room room' failed failed bad bad leaf (omega arith) (omega arith) (λ m st. let ne = not_fresh m st in (stays stands_of (λ y. refl) refl m ne ∙ st, stays root_of (λ y. refl) refl m ne, stays low_of (λ y. refl) refl m ne, stays bits_of (λ y. refl) refl m ne));
+    settled = settled_of xs ys spare spare' epoch room room' failed failed bad bad leaf (omega arith) (omega arith) (λ m st. let ne = not_fresh m st in (stays stands_of (λ y. refl) refl m ne ∙ st, stays root_of (λ y. refl) refl m ne, stays low_of (λ y. refl) refl m ne, stays bits_of (λ y. refl) refl m ne, stays writable_of (λ y. refl) refl m ne, stays copies_of (λ y. refl) refl m ne));
     fresh = fresh;
     under = under;
     new = ap stands_of (at_new xs at x kept s.moved ref read);
@@ -122,6 +122,8 @@ module _ (xs : List Node) (at : ℕ) (x : Node) (set : RefSet) (s : Split) (ref 
     root = ap root_of (at_new xs at x kept s.moved ref read) ∙ ap root_of (sym read);
     low = ap low_of (at_new xs at x kept s.moved ref read) ∙ key_is;
     bits = ap bits_of (at_new xs at x kept s.moved ref read) ∙ bits_is;
+    new_writable = ap writable_of (at_new xs at x kept s.moved ref read);
+    new_copies = ap copies_of (at_new xs at x kept s.moved ref read) ∙ ap copies_of (sym read);
     moved = ap set_of (at_new xs at x kept s.moved ref read);
     now = ap set_of (at_here xs at x kept s.moved ref read);
     there = there;

@@ -14,7 +14,7 @@ use Rattle.h2_set.specs.RefSet.{RefSet}
 use Rattle.h2_set.specs.Forest.{Forest, refs, Link, loaded, untold, Loses, GoesBelow, IsSound, Storable, Stores}
 use Rattle.h2_set.specs.ChangeLaws.{same_or_not}
 use Rattle.h2_memory_sets.specs.declared.node.Node.{Node}
-use Rattle.h2_memory_sets.specs.View.{stands_of, set_of, root_of, low_of, bits_of, leaf_bits_of, is_up, is_child, is_top, is_bare, names, link_to, link_of, with_set, forest_with, any_of, names_same, lacks, loses, goes, lost, dropped, dropped_all, AllRooted}
+use Rattle.h2_memory_sets.specs.View.{stands_of, set_of, root_of, low_of, bits_of, writable_of, copies_of, leaf_bits_of, is_up, is_child, is_top, is_bare, names, link_to, link_of, with_set, forest_with, any_of, names_same, lacks, loses, goes, lost, dropped, dropped_all, AllRooted}
 use Rattle.h2_memory_sets.proofs.Nodes.{get_set, get_set_other, loose_of}
 use Rattle.h2_memory_sets.proofs.Parting.{alike, one_of, item_at, get_map, position_less}
 use Rattle.h2_memory_sets.proofs.Nesting.{few_bits}
@@ -232,7 +232,7 @@ module _ (xs : List Node) (at : ℕ) (x y : Node) (s : RefSet) (read : slice_get
 
     pub differs_by_store : DiffersByStore f g at s
     differs_by_store = record {
-      loose = loose_of xs dropped_with spare spare epoch room room failed failed bad bad (field leaf_bits_of (λ z. refl) refl) (omega arith) (omega arith) (λ m st now. (field root_of (λ z. refl) refl m, field low_of (λ z. refl) refl m, field bits_of (λ z. refl) refl m));
+      loose = loose_of xs dropped_with spare spare epoch room room failed failed bad bad (field leaf_bits_of (λ z. refl) refl) (omega arith) (omega arith) (λ m st now. (field root_of (λ z. refl) refl m, field low_of (λ z. refl) refl m, field bits_of (λ z. refl) refl m, field writable_of (λ z. refl) refl m, field copies_of (λ z. refl) refl m));
       goes = λ m. going m;
       gone = gone;
       stays = stays;

@@ -18,3 +18,6 @@ pub mod Bringing
 pub mod Rooted
 pub mod Rooting
 pub mod Unloads
+pub mod Counting
+pub mod Recounting
+pub mod Altered

@@ -22,6 +22,8 @@ pub record DiffersByLoad (f g : Forest) (at c : ℕ) (r : Ref) : Type 0 where
   pub root : g.root c ≡ f.root at
   pub low : g.low c ≡ r.key
   pub bits : g.bits c ≡ r.keybits
+  pub clean : g.writable c ≡ false
+  pub copies : g.copies c ≡ f.copies at + 1
   pub set : IsRefSet (g.set c)
   pub fits : AllFitBelow r (f.leaf_bits (f.root at)) (g.set c)
   pub there : (m : ℕ) → f.stands m ≡ true → g.set m ≡ f.set m
@@ -76,7 +78,7 @@ module _ (f g : Forest) (at c i : ℕ) (r : Ref) (d : DiffersByLoad f g at c r) 
         above = rw (p.low, d.low) starts;
         within = rw (p.low, d.low, p.bits, d.bits) ends;
         fewer = rw (p.bits, d.bits) (fits.falls ind);
-        copies = (let s = d.settled.loose in rw (s.copies c, s.copies at, s.writable c, s.uncopied c, s.uncopied at, s.all_writable c) refl);
+        copies = (let s = d.settled.loose in rw (d.clean, s.copies at stands (stays at stands)) d.copies);
         belongs = λ t k. d.settled.loose.none_belong c t k ∙ sym (d.settled.loose.none_belong at t k);
       }
 
@@ -154,9 +156,9 @@ module _ (f g : Forest) (at c i : ℕ) (r : Ref) (d : DiffersByLoad f g at c r) 
         child = λ k e l. absurd (d.bare k e l);
         named = λ k e l. absurd (d.bare k e l);
         bits = λ j e q got q_ind l. absurd (d.bare q.key e l);
-        top = λ _. d.settled.loose.copies c ∙ d.settled.loose.uncopied c;
+        top = λ top. absurd (d.under (sym d.root ∙ top));
         half = λ top. absurd (d.under (sym d.root ∙ top));
-        slope = rw (d.settled.loose.copies c, d.settled.loose.uncopied c, d.bits) (omega (arith, fewer, slope));
+        slope = rw (d.copies, d.bits) (omega (arith, fewer, slope));
       }
 
   pub keeps : (m : ℕ) → f.stands m ≡ true → (m ≡ at → ⊥) → Keeps f g m
@@ -227,8 +229,8 @@ module _ (f g : Forest) (at c i : ℕ) (r : Ref) (d : DiffersByLoad f g at c r) 
       | inr ne ↦ d.stands m ne st
     ];
     sets = λ m st. d.there m st;
-    writable = λ m st. d.settled.loose.writable m;
-    copies = λ m st. d.settled.loose.copies m;
+    writable = λ m st. d.settled.loose.writable m st (stays m st);
+    copies = λ m st. d.settled.loose.copies m st (stays m st);
     spare = d.spare;
     room = d.room;
   }

@@ -18,6 +18,8 @@ pub record DiffersByMake (f g : Forest) (at c : ℕ) (set : RefSet) (s : Split) 
   pub root : g.root c ≡ f.root at
   pub low : g.low c ≡ s.key
   pub bits : g.bits c ≡ s.keybits
+  pub new_writable : g.writable c ≡ true
+  pub new_copies : g.copies c ≡ f.copies at
   pub moved : g.set c ≡ s.moved
   pub now : g.set at ≡ record { refs = put ref (with_rest s.rest set.refs); capacity = set.capacity }
   pub there : (m : ℕ) → f.stands m ≡ true → (m ≡ at → ⊥) → g.set m ≡ f.set m

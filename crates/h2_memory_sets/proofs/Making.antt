@@ -258,7 +258,7 @@ module _ (f : Forest) (at : ℕ) (set : RefSet) (s : Split) (ref leaf : Ref) (so
               above = rw (p.low, d.low) parts.range_low;
               within = rw (p.low, d.low, p.bits, d.bits) parts.range_high;
               fewer = rw (p.bits, d.bits) parts.fewer;
-              copies = (let s = d.settled.loose in rw (s.copies c, s.copies at, s.writable c, s.uncopied c, s.uncopied at, s.all_writable c) refl);
+              copies = (let s = d.settled.loose in let a = d.new_copies in rw (d.new_writable, s.copies at stands (stays at stands)) (omega (arith, a)));
               belongs = λ t j. d.settled.loose.none_belong c t j ∙ sym (d.settled.loose.none_belong at t j);
             }
 
@@ -364,7 +364,7 @@ module _ (f : Forest) (at : ℕ) (set : RefSet) (s : Split) (ref leaf : Ref) (so
           above = rw (d.low, p.low, low_is) was.lo;
           within = rw (d.low, d.bits, p.low, p.bits, low_is) end';
           fewer = rw (d.bits, p.bits, bits_is) (parts.shorter m.all_place n.ref m.all_read m.lies_there);
-          copies = (let s = d.settled.loose in rw (s.copies c, s.copies e, s.writable e, s.uncopied c, s.uncopied e, s.all_writable e) refl);
+          copies = (let s = d.settled.loose in rw (s.copies e kid.stands (stays e kid.stands), s.writable e kid.stands (stays e kid.stands), d.new_copies) kid.copies);
           belongs = λ t j. d.settled.loose.none_belong e t j ∙ sym (d.settled.loose.none_belong c t j);
         }
 
@@ -399,9 +399,9 @@ module _ (f : Forest) (at : ℕ) (set : RefSet) (s : Split) (ref leaf : Ref) (so
           child = new_child;
           named = λ k e l. rw refs_new (new_named k e l);
           bits = λ i e q read ind l. new_bits i e q (rw refs_new at read) ind l;
-          top = λ _. d.settled.loose.copies c ∙ d.settled.loose.uncopied c;
+          top = λ top. absurd (d.under (sym d.root ∙ top));
           half = λ top. absurd (d.under (sym d.root ∙ top));
-          slope = rw (d.settled.loose.copies c, d.settled.loose.uncopied c, d.bits) (omega (arith, fewer, slope));
+          slope = rw (d.new_copies, d.bits) (omega (arith, fewer, slope));
         }
 
     new_top : (g.stands (g.root c) ≡ true) × (g.root (g.root c) ≡ g.root c)
@@ -452,7 +452,7 @@ module _ (f : Forest) (at : ℕ) (set : RefSet) (s : Split) (ref leaf : Ref) (so
       fresh = d.fresh;
       child = child;
       moved = d.moved;
-      new_writable = d.settled.loose.writable c ∙ d.settled.loose.all_writable c;
+      new_writable = d.new_writable;
       ref = ref;
       indirect = is_ind;
       key = key_is;
@@ -461,7 +461,7 @@ module _ (f : Forest) (at : ℕ) (set : RefSet) (s : Split) (ref leaf : Ref) (so
       place = place at stands;
       below_moved = below;
       below_kept = kept;
-      copies = d.settled.loose.copies at;
+      copies = d.settled.loose.copies at stands (stays at stands);
       others = λ m st off. same_all f g d.settled.loose m st (stays m st) (d.there m st off) (λ k. d.link m k st off);
       none_new = λ m st. elim (same_or_not m c) as (λ _. (m ≡ c) ⊎ (f.stands m ≡ true)) [
         | inl e ↦ inl e

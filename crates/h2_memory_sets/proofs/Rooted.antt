@@ -8,7 +8,7 @@ use Rattle.h2_set.specs.RefSet.{RefSet}
 use Rattle.h2_set.specs.ChangeLaws.{same_or_not}
 use Rattle.h2_memory_sets.specs.declared.node.KeyClass.{KeyClass}
 use Rattle.h2_memory_sets.specs.declared.node.Node.{Node}
-use Rattle.h2_memory_sets.specs.View.{stands_of, root_of, is_up, is_bare, is_top, AllRooted, IsLoadable, brought, with_set, moved, moved_up, parted, top_node, unloaded, unloaded_all}
+use Rattle.h2_memory_sets.specs.View.{stands_of, root_of, copies_of, is_up, is_bare, is_top, AllRooted, IsLoadable, brought, with_set, moved, moved_up, parted, top_node, unloaded, unloaded_all}
 use Rattle.h2_memory_sets.proofs.Nodes.{get_set, get_set_other, field_stays}
 use Rattle.h2_memory_sets.proofs.Parting.{at_new, at_here, at_other, past, item_at, get_append, get_last, get_none}
 use Rattle.h2_memory_sets.proofs.Bringing.{away_parts, brought_is}
@@ -45,7 +45,7 @@ rooted_store xs at x s rooted read =
 
 module _ (xs : List Node) (at c : ℕ) (r : Ref) (rooted : AllRooted xs) (stands : stands_of (slice_get xs at) ≡ true) (l : IsLoadable xs at r c) where
   abbrev new : Node
-  new = brought (root_of (slice_get xs at)) r.keybits l.node
+  new = brought (root_of (slice_get xs at)) (copies_of (slice_get xs at)) r.keybits l.node
 
   fresh : stands_of (slice_get xs c) ≡ false
   fresh = ap stands_of l.read ∙ (away_parts l.node.loaded (is_up at l.node.up) (nat_eq l.node.low r.key) l.away).0
@@ -53,7 +53,7 @@ module _ (xs : List Node) (at c : ℕ) (r : Ref) (rooted : AllRooted xs) (stands
   not_fresh : (m : ℕ) → stands_of (slice_get xs m) ≡ true → m ≡ c → ⊥
   not_fresh m st e = let clash : true ≡ false = sym st ∙ ap (λ z. stands_of (slice_get xs z)) e ∙ fresh in cc
 
-  rooted_load : AllRooted (slice_set xs c (brought (root_of (slice_get xs at)) r.keybits l.node))
+  rooted_load : AllRooted (slice_set xs c (brought (root_of (slice_get xs at)) (copies_of (slice_get xs at)) r.keybits l.node))
   rooted_load = rooted_by xs (slice_set xs c new) rooted from tops
     where
       from : (i : ℕ) → stands_of (slice_get (slice_set xs c new) i) ≡ true → HasRootOf xs (slice_set xs c new) i
@@ -65,7 +65,7 @@ module _ (xs : List Node) (at c : ℕ) (r : Ref) (rooted : AllRooted xs) (stands
       tops : (t : ℕ) → is_top (slice_get xs t) ≡ true → is_top (slice_get (slice_set xs c new) t) ≡ true
       tops t top = ap is_top (get_set_other xs c t new (not_fresh t (top_stands _ top))) ∙ top
 
-pub rooted_bring : (xs : List Node) (at c : ℕ) (q : Ref) (x y z : Node) → AllRooted xs → stands_of (slice_get xs at) ≡ true → IsLoadable xs at q c → slice_get xs at ≡ Some x → slice_get xs c ≡ Some y → z ≡ brought x.root q.keybits y → AllRooted (slice_set xs c z)
+pub rooted_bring : (xs : List Node) (at c : ℕ) (q : Ref) (x y z : Node) → AllRooted xs → stands_of (slice_get xs at) ≡ true → IsLoadable xs at q c → slice_get xs at ≡ Some x → slice_get xs c ≡ Some y → z ≡ brought x.root x.copies q.keybits y → AllRooted (slice_set xs c z)
 rooted_bring xs at c q x y z rooted stands l at_x at_y z_is = subst AllRooted (brought_is xs at c q x y z l at_x at_y z_is) (rooted_load xs at c q rooted stands l)
 
 module _ (xs : List Node) (at : ℕ) (x : Node) (kept part : RefSet) (r : Ref) (rooted : AllRooted xs) (stands : stands_of (slice_get xs at) ≡ true) (read : slice_get xs at ≡ Some x) where

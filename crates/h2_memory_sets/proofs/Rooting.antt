@@ -1,5 +1,5 @@
 -- A root that is added.
-use Rattle.std.proofs.Common.{◌≡◌, ℕ, ◌+◌, ◌%◌, ◌≤◌, ◌^◌, true, false, arith, refl, sym, ◌∙◌, ap, List, [], ◌∷◌, ◌++◌, length, Some, subst, inl, inr, slice_get}
+use Rattle.std.proofs.Common.{◌≡◌, ℕ, ◌+◌, ◌%◌, ◌≤◌, ◌^◌, true, false, arith, refl, cond, sym, ◌∙◌, ap, List, [], ◌∷◌, ◌++◌, length, Some, subst, inl, inr, slice_get}
 use Rattle.std.proofs.lemmas.Option.{none-some, slice_get_past}
 use Rattle.h2_ref.specs.declared.reference.Ref.{Ref}
 use Rattle.h2_set.specs.RefSet.{RefSet}
@@ -8,12 +8,18 @@ use Rattle.h2_set.specs.ChangeLaws.{same_or_not}
 use Rattle.h2_memory_sets.specs.declared.node.KeyClass.{KeyClass}
 use Rattle.h2_memory_sets.specs.declared.node.KeyClass.TheVariants.{Low, High}
 use Rattle.h2_memory_sets.specs.declared.node.Node.{Node}
-use Rattle.h2_memory_sets.specs.View.{stands_of, set_of, root_of, low_of, bits_of, leaf_bits_of, is_child, is_top, link_of, forest_with, first_key, top_node, AllRooted}
+use Rattle.h2_memory_sets.specs.View.{stands_of, set_of, root_of, low_of, bits_of, writable_of, copies_of, leaf_bits_of, is_child, is_top, link_of, forest_with, first_key, top_node, AllRooted}
 use Rattle.h2_memory_sets.specs.Roots.{AddsRoot}
 use Rattle.h2_memory_sets.proofs.Parting.{first_push, get_last}
 use Rattle.h2_memory_sets.proofs.Rooted.{get_push}
 
 -- what two forests say of a node, but for what is below it
+pub record Places (f g : Forest) (m : ℕ) : Type 0 where
+  pub root : g.root m ≡ f.root m
+  pub low : g.low m ≡ f.low m
+  pub bits : g.bits m ≡ f.bits m
+  pub set : g.set m ≡ f.set m
+
 pub record Agrees (f g : Forest) (m : ℕ) : Type 0 where
   pub root : g.root m ≡ f.root m
   pub low : g.low m ≡ f.low m
@@ -22,9 +28,9 @@ pub record Agrees (f g : Forest) (m : ℕ) : Type 0 where
   pub writable : g.writable m ≡ f.writable m
   pub copies : g.copies m ≡ f.copies m
 
--- a node stays sound where no more is loaded below it
-pub still_sound : (f g : Forest) (m : ℕ) → ((n : ℕ) → f.stands n ≡ true → g.stands n ≡ true → Agrees f g n) → f.stands m ≡ true → g.stands m ≡ true → ((k c : ℕ) → g.link m k ≡ loaded c → (f.link m k ≡ loaded c) × (g.stands c ≡ true)) → g.leaf_bits (f.root m) ≡ f.leaf_bits (f.root m) → ((r : Ref) → g.allows (f.root m) r ≡ true) → ((n t j : ℕ) → g.belongs n t j ≡ false) → IsSoundNode f m → IsSoundNode g m
-still_sound f g m agrees old st links leaf allows none node =
+-- a node stays sound where no more is loaded below it, and what is copied is counted
+pub still_counted : (f g : Forest) (m : ℕ) → ((n : ℕ) → f.stands n ≡ true → g.stands n ≡ true → Places f g n) → f.stands m ≡ true → g.stands m ≡ true → ((k c : ℕ) → g.link m k ≡ loaded c → (f.link m k ≡ loaded c) × (g.stands c ≡ true)) → g.leaf_bits (f.root m) ≡ f.leaf_bits (f.root m) → ((r : Ref) → g.allows (f.root m) r ≡ true) → ((n t j : ℕ) → g.belongs n t j ≡ false) → ((k c : ℕ) → g.link m k ≡ loaded c → g.copies c ≡ g.copies m + cond (g.writable c) 0 1) → (g.root m ≡ m → g.copies m ≡ 0) → g.copies m + g.bits m ≤ 63 → IsSoundNode f m → IsSoundNode g m
+still_counted f g m agrees old st links leaf allows none kids top slope node =
     let p = agrees m old st in
     let refs_is : refs g m ≡ refs f m = ap (λ (t : RefSet). t.refs) p.set in
     let grain : g.leaf_bits (g.root m) ≡ f.leaf_bits (f.root m) = ap g.leaf_bits p.root ∙ leaf in
@@ -57,7 +63,7 @@ still_sound f g m agrees old st links leaf allows none node =
             above = rw (p.low, q.low) h.above;
             within = rw (p.low, q.low, p.bits, q.bits) h.within;
             fewer = rw (p.bits, q.bits) h.fewer;
-            copies = rw (q.copies, p.copies, q.writable) h.copies;
+            copies = kids k c at_k;
             belongs = λ t j. none c t j ∙ sym (none m t j);
           };
       named = λ k c at_k. rw refs_is (node.named k c (links k c at_k).0);
@@ -65,10 +71,22 @@ still_sound f g m agrees old st links leaf allows none node =
           let l = links r.key c at_k in
           let h = node.child r.key c l.0 in
           (agrees c h.stands l.1).bits ∙ node.bits i c r (rw refs_is at read) ind l.0;
-      top = λ top. p.copies ∙ node.top (sym p.root ∙ top);
+      top = top;
       half = λ top. p.bits ∙ node.half (sym p.root ∙ top);
-      slope = rw (p.copies, p.bits) node.slope;
+      slope = slope;
     }
+
+-- a node stays sound where no more is loaded below it
+pub still_sound : (f g : Forest) (m : ℕ) → ((n : ℕ) → f.stands n ≡ true → g.stands n ≡ true → Agrees f g n) → f.stands m ≡ true → g.stands m ≡ true → ((k c : ℕ) → g.link m k ≡ loaded c → (f.link m k ≡ loaded c) × (g.stands c ≡ true)) → g.leaf_bits (f.root m) ≡ f.leaf_bits (f.root m) → ((r : Ref) → g.allows (f.root m) r ≡ true) → ((n t j : ℕ) → g.belongs n t j ≡ false) → IsSoundNode f m → IsSoundNode g m
+still_sound f g m agrees old st links leaf allows none node =
+    let p = agrees m old st in
+    still_counted f g m (λ n was now. let q = agrees n was now in record { root = q.root; low = q.low; bits = q.bits; set = q.set }) old st links leaf allows none
+    (λ k c at_k.
+    let l = links k c at_k in
+    let h = node.child k c l.0 in
+    let q = agrees c h.stands l.1 in
+    rw (q.copies, p.copies, q.writable) h.copies)
+    (λ top. p.copies ∙ node.top (sym p.root ∙ top)) (rw (p.copies, p.bits) node.slope) node
 
 -- the range of a tree
 keys_aligned : (keys : KeyClass) → first_key keys % 2 ^ 63 ≡ 0
@@ -117,11 +135,11 @@ module _ (xs : List Node) (keys : KeyClass) (leaf_bits spare epoch room failed b
   same m st =
       let off = get_push xs new m (not_fresh m st) in
       record {
-        place = record { stands = ap stands_of off ∙ st; root = ap root_of off; low = ap low_of off; bits = ap bits_of off; belongs = λ t k. refl; writable = λ e. refl };
+        place = record { stands = ap stands_of off ∙ st; root = ap root_of off; low = ap low_of off; bits = ap bits_of off; belongs = λ t k. refl; writable = λ e. ap writable_of off ∙ e };
         set = ap set_of off;
         link = λ k. link_other m k (not_fresh m st);
-        writable = refl;
-        copies = refl;
+        writable = ap writable_of off;
+        copies = ap copies_of off;
       }
 
   none_loaded : (k c : ℕ) → link_of ys (length xs) k ≡ loaded c → ⊥
@@ -143,9 +161,9 @@ module _ (xs : List Node) (keys : KeyClass) (leaf_bits spare epoch room failed b
         child = λ k c e. absurd (none_loaded k c e);
         named = λ k c e. absurd (none_loaded k c e);
         bits = λ i c r read ind e. absurd (none_loaded r.key c e);
-        top = λ e. refl;
+        top = λ e. ap copies_of here;
         half = λ top. bits;
-        slope = rw bits (omega arith);
+        slope = rw (ap copies_of here, bits) (omega arith);
       }
 
   old_node : AllRooted xs → IsSound f → (m : ℕ) → stands_of (slice_get xs m) ≡ true → IsSoundNode g m
@@ -154,7 +172,7 @@ module _ (xs : List Node) (keys : KeyClass) (leaf_bits spare epoch room failed b
       let s = same m st in
       let root_there : root_of (slice_get xs m) ≡ length xs → ⊥ = λ e. (let clash : true ≡ false = sym (rooted m st) ∙ ap (λ z. is_top (slice_get xs z)) e ∙ ap is_top (slice_get_past xs (length xs) (omega arith)) in cc) in
       still_sound f g m
-      (λ n old now. let q = same n old in record { root = q.place.root; low = q.place.low; bits = q.place.bits; set = q.set; writable = refl; copies = refl })
+      (λ n old now. let q = same n old in record { root = q.place.root; low = q.place.low; bits = q.place.bits; set = q.set; writable = q.writable; copies = q.copies })
       st s.place.stands
       (λ k c e. let was = sym (s.link k) ∙ e in (was, (same c (node.child k c was).stands).place.stands))
       (ap leaf_bits_of (get_push xs new (root_of (slice_get xs m)) root_there))
@@ -207,7 +225,7 @@ module _ (xs : List Node) (keys : KeyClass) (leaf_bits spare epoch room failed b
     };
     fresh = fresh;
     set = set_here;
-    writable = refl;
+    writable = ap writable_of here;
     link = link_here;
     allows = λ r. refl;
     held = refl;

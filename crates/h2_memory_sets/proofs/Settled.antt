@@ -8,14 +8,12 @@ use Rattle.h2_set.specs.StayLaws.{Alike-refl, Fixed-refl}
 use Rattle.h2_set.specs.ChangeLaws.{Keeps-refl}
 use Rattle.h2_set.specs.RenewLaws.{Keeps-Renews}
 
--- every node that stands in both forests stays in its place, and none is copied
+-- every node that stands in both forests stays in its place, as writable as it was
 pub record Loose (f g : Forest) : Type 0 where
   pub fixed : Fixed f g
   pub place : (m : ℕ) → f.stands m ≡ true → g.stands m ≡ true → InPlace f g m
-  pub copies : (m : ℕ) → g.copies m ≡ f.copies m
-  pub writable : (m : ℕ) → g.writable m ≡ f.writable m
-  pub uncopied : (m : ℕ) → f.copies m ≡ 0
-  pub all_writable : (m : ℕ) → f.writable m ≡ true
+  pub copies : (m : ℕ) → f.stands m ≡ true → g.stands m ≡ true → g.copies m ≡ f.copies m
+  pub writable : (m : ℕ) → f.stands m ≡ true → g.stands m ≡ true → g.writable m ≡ f.writable m
   pub all_allowed : (m : ℕ) (r : Ref) → f.allows m r ≡ true
   pub none_held : (m : ℕ) → f.held m ≡ false
   pub none_belonged : (m top k : ℕ) → f.belongs m top k ≡ false
@@ -64,7 +62,7 @@ module _ (f g : Forest) (s : Loose f g) where
         above = rw (p.low, q.low) h.above;
         within = rw (p.low, q.low, p.bits, q.bits) h.within;
         fewer = rw (p.bits, q.bits) h.fewer;
-        copies = rw (s.copies c, s.copies m, s.writable c) h.copies;
+        copies = rw (s.copies c h.stands kid, s.copies m st now, s.writable c h.stands kid) h.copies;
         belongs = λ t k'. s.none_belong c t k' ∙ sym (s.none_belong m t k');
       }
 
@@ -84,9 +82,9 @@ module _ (f g : Forest) (s : Loose f g) where
         child = h.child;
         named = h.named;
         bits = h.bits;
-        top = λ top. s.copies m ∙ s.uncopied m;
+        top = λ top. s.copies m st now ∙ node.top (sym p.root ∙ top);
         half = λ top. p.bits ∙ node.half (sym p.root ∙ top);
-        slope = rw (s.copies m, p.bits) node.slope;
+        slope = rw (s.copies m st now, p.bits) node.slope;
       }
 
   -- a node of which nothing has changed is sound still, where what is right below it stands
@@ -113,8 +111,8 @@ module _ (f g : Forest) (s : Loose f g) where
     place = s.place m st now;
     set = set;
     link = link;
-    writable = s.writable m;
-    copies = s.copies m;
+    writable = s.writable m st now;
+    copies = s.copies m st now;
   }
 
   -- the root of a node stays, where it stands
@@ -135,28 +133,6 @@ module _ (f g : Forest) (s : Loose f g) where
     owner = λ m t k st b. let clash : true ≡ false = sym b ∙ s.none_belong m t k in absurd (cc);
     epoch = rw s.fixed.epoch sound.epoch;
   }
-
--- where all is writable, nothing has to be done
-pub alters_nothing : (f : Forest) (at : ℕ) → IsSound f → f.stands at ≡ true → ((m : ℕ) → f.writable m ≡ true) → ((m : ℕ) → f.copies m ≡ 0) → Alters f f at
-alters_nothing f at sound stands writable copies = record {
-  sound = sound;
-  fixed = Fixed-refl f;
-  writable = writable at;
-  top = writable (f.root at);
-  made = λ m st above. writable m;
-  copies = copies at;
-  exact = λ m i r st read off. read;
-  kept = λ m i c r st read link w. read;
-  others = λ m st off. refl;
-  room = omega (arith, copies at);
-  tree = λ m st root. Keeps-refl f m st;
-  above = λ m st root. Keeps-Renews f f m (Keeps-refl f m st);
-  capacity = λ m st. refl;
-  none_new = λ m st. st;
-  spare = refl;
-  failed = refl;
-  bad = refl;
-}
 
 module _ (f g : Forest) (s : Settled f g) where
   pub same_keeps : (m : ℕ) → f.stands m ≡ true → g.set m ≡ f.set m → ((k : ℕ) → g.link m k ≡ f.link m k) → Keeps f g m

@@ -281,7 +281,7 @@ module _ (f g : Forest) (at : ℕ) (s : RefSet) (d : DiffersByStore f g at s) (s
     fixed = d.loose.fixed;
     set = d.here;
     place = d.loose.place at stands at_now;
-    copies = d.loose.copies at;
+    copies = d.loose.copies at stands at_now;
     link = kept;
     others = λ m st ne below with'.
         let stay = not_goes m st below in

@@ -10,7 +10,7 @@ use Rattle.std.proofs.lemmas.List.Quantifiers.{position-Some}
 use Rattle.std.proofs.lemmas.Option.{none-some, slice_get-get_or}
 use Rattle.h2_set.specs.Forest.{Forest, loaded, untold, IsSound, InPlace, HasParent}
 use Rattle.h2_memory_sets.specs.declared.node.Node.{Node}
-use Rattle.h2_memory_sets.specs.View.{stands_of, set_of, root_of, low_of, bits_of, leaf_bits_of, is_up, is_bare, is_top, is_child, link_to, link_of, forest_with, Block, block, stays_loaded, unloaded, unloaded_all, AllRooted}
+use Rattle.h2_memory_sets.specs.View.{stands_of, set_of, root_of, low_of, bits_of, writable_of, copies_of, leaf_bits_of, is_up, is_bare, is_top, is_child, link_to, link_of, forest_with, Block, block, stays_loaded, unloaded, unloaded_all, AllRooted}
 use Rattle.h2_memory_sets.specs.Roots.{Unloads}
 use Rattle.h2_memory_sets.proofs.Bringing.{cond_same}
 use Rattle.h2_memory_sets.proofs.Nodes.{position_same, is_there}
@@ -82,7 +82,7 @@ found p (y ∷ ys) c e =
     let it = position-Some p (y ∷ ys) c y e in
     record { item = _; read = slice_get-get_or (y ∷ ys) c y it.0; passes = it.1 }
 
-map_item : {X : Type 0} (f : X → X) (zs : List X) (i : ℕ) (b : X) → slice_get (map f zs) i ≡ Some b → (y : X) × (b ≡ f y)
+pub map_item : {X : Type 0} (f : X → X) (zs : List X) (i : ℕ) (b : X) → slice_get (map f zs) i ≡ Some b → (y : X) × (b ≡ f y)
 map_item f [] i b rb = absurd (none-some b rb)
 map_item f (z ∷ zs) zero b rb = (z, sym (one_of _ b rb))
 map_item f (z ∷ zs) (suc i) b rb = map_item f zs i b rb
@@ -143,7 +143,7 @@ module _ (xs : List Node) (from spare epoch room failed bad : ℕ) where
       ap stands_of (get_map (unloaded from) xs c x it.read) ∙ gone x.loaded (is_up m x.up && nat_eq x.low k) (stays_loaded from x) it.passes (child_from x.loaded x.up m x.low k from le)
 
   place : (m : ℕ) → stands_of (slice_get ys m) ≡ true → InPlace f g m
-  place m st = record { stands = st; root = field root_of (λ x. refl) m; low = field low_of (λ x. refl) m; bits = field bits_of (λ x. refl) m; belongs = λ t k. refl; writable = λ e. refl }
+  place m st = record { stands = st; root = field root_of (λ x. refl) m; low = field low_of (λ x. refl) m; bits = field bits_of (λ x. refl) m; belongs = λ t k. refl; writable = λ e. field writable_of (λ x. refl) m ∙ e }
 
   -- a node that stays isn't below one that goes
   kept_parent : AllRooted xs → IsSound f → (m : ℕ) → stands_of (slice_get xs m) ≡ true → stands_of (slice_get ys m) ≡ true → (f.root m ≡ m → ⊥) → HasParent g m
@@ -164,7 +164,7 @@ module _ (xs : List Node) (from spare epoch room failed bad : ℕ) where
           let old = stood from xs m st in
           let node = sound.node m old in
           still_sound f g m
-          (λ n was now. let q = place n now in record { root = q.root; low = q.low; bits = q.bits; set = field set_of (λ x. refl) n; writable = refl; copies = refl })
+          (λ n was now. let q = place n now in record { root = q.root; low = q.low; bits = q.bits; set = field set_of (λ x. refl) n; writable = field writable_of (λ x. refl) n; copies = field copies_of (λ x. refl) n })
           old st
           (λ k c e. elim (cases_lt k from) as (λ _. (link_of xs m k ≡ loaded c) × (stands_of (slice_get ys c) ≡ true)) [
             | inl lt ↦
@@ -191,8 +191,8 @@ module _ (xs : List Node) (from spare epoch room failed bad : ℕ) where
     goes = goes;
     none_new = stood from xs;
     set = field set_of (λ x. refl);
-    writable = λ m. refl;
-    copies = λ m. refl;
+    writable = field writable_of (λ x. refl);
+    copies = field copies_of (λ x. refl);
     link_before = link_before;
     link_from = link_from;
     spare = refl;

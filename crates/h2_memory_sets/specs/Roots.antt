@@ -1,5 +1,5 @@
 -- What adding a root, giving room and unloading do to a forest.
-use Rattle.std.specs.Prelude.{◌≡◌, ℕ, ◌≤◌, ◌<◌, ◌⊎◌, true, false, []}
+use Rattle.std.specs.Prelude.{◌≡◌, ℕ, ◌+◌, ◌≤◌, ◌<◌, ◌⊎◌, true, false, []}
 use Rattle.h2_ref.specs.declared.reference.Ref.{Ref}
 use Rattle.h2_set.specs.Forest.{Forest, loaded, untold, IsSound, Fixed, InPlace, Same}
 use Rattle.h2_memory_sets.specs.declared.node.KeyClass.{KeyClass}
@@ -30,6 +30,27 @@ pub record AddsRoot (f g : Forest) (c : ℕ) (keys : KeyClass) (leaf_bits : ℕ)
   pub none_new : (m : ℕ) → (m ≡ c → ⊥) → g.stands m ≡ f.stands m
   pub name : (r : Ref) → g.name r ≡ f.name r
   pub epoch : g.epoch ≡ f.epoch
+  pub spare : g.spare ≡ f.spare
+  pub room : g.room ≡ f.room
+  pub failed : g.failed ≡ f.failed
+  pub bad : g.bad ≡ f.bad
+
+-- the next epoch has begun, in which no node is writable, and nothing else has changed
+pub record BeginsEpoch (f g : Forest) : Type 0 where
+  pub sound : IsSound g
+  pub epoch : g.epoch ≡ f.epoch + 1
+  pub clean : (m : ℕ) → g.writable m ≡ false
+  pub stands : (m : ℕ) → g.stands m ≡ f.stands m
+  pub root : (m : ℕ) → g.root m ≡ f.root m
+  pub low : (m : ℕ) → g.low m ≡ f.low m
+  pub bits : (m : ℕ) → g.bits m ≡ f.bits m
+  pub set : (m : ℕ) → g.set m ≡ f.set m
+  pub link : (m k : ℕ) → g.link m k ≡ f.link m k
+  pub belongs : (m t k : ℕ) → g.belongs m t k ≡ f.belongs m t k
+  pub leaf_bits : (m : ℕ) → g.leaf_bits m ≡ f.leaf_bits m
+  pub allows : (m : ℕ) (r : Ref) → g.allows m r ≡ f.allows m r
+  pub held : (m : ℕ) → g.held m ≡ f.held m
+  pub name : (r : Ref) → g.name r ≡ f.name r
   pub spare : g.spare ≡ f.spare
   pub room : g.room ≡ f.room
   pub failed : g.failed ≡ f.failed

@@ -1,5 +1,5 @@
 -- The forest that a vector of nodes is.
-use Rattle.std.specs.Prelude.{◌≡◌, ℕ, ◌≤◌, ◌<◌, ◌⊎◌, not, Bool, true, false, ◌&&◌, ◌==◌, if◌then◌else◌, List, [], ◌∷◌, ◌++◌, length, Option, Some, None, slice_get, slice_set, map, nat_lt, ◌||◌, ◌^◌}
+use Rattle.std.specs.Prelude.{◌≡◌, ℕ, ◌≤◌, ◌<◌, ◌⊎◌, not, Bool, true, false, ◌&&◌, ◌==◌, if◌then◌else◌, List, [], ◌∷◌, ◌++◌, length, Option, Some, None, slice_get, slice_set, map, count_by, nat_lt, nat_le, ◌||◌, ◌^◌, ◌+◌}
 use Rattle.std.specs.List.{position}
 use Rattle.h2_ref.specs.declared.reference.Ref.{Ref}
 use Rattle.h2_set.specs.Ranges.{limit, holds, is_indirect, IsAligned}
@@ -7,6 +7,7 @@ use Rattle.h2_set.specs.RefSet.{RefSet, IsRefSet}
 use Rattle.h2_set.specs.SetBytes.{IsHeld}
 use Rattle.h2_set.specs.Forest.{Link, loaded, untold, Forest}
 use Rattle.h2_memory_sets.specs.declared.node.Node.{Node}
+use Rattle.h2_memory_sets.specs.declared.node.Place.{Place}
 use Rattle.h2_memory_sets.specs.declared.node.KeyClass.{KeyClass}
 use Rattle.h2_memory_sets.specs.declared.node.KeyClass.TheVariants.{Low, High}
 
@@ -30,6 +31,14 @@ low_of (Some x) = x.low
 abbrev pub bits_of : Option Node → ℕ
 bits_of None = 0
 bits_of (Some x) = x.bits
+
+abbrev pub writable_of : Option Node → Bool
+writable_of None = false
+writable_of (Some x) = x.dirty
+
+abbrev pub copies_of : Option Node → ℕ
+copies_of None = 0
+copies_of (Some x) = x.copies
 
 abbrev pub leaf_bits_of : Option Node → ℕ
 leaf_bits_of None = 0
@@ -78,8 +87,8 @@ forest_with xs spare epoch room failed bad = record {
   allows = λ m r. true;
   belongs = λ m top k. false;
   held = λ m. false;
-  copies = λ m. 0;
-  writable = λ m. true;
+  copies = λ m. copies_of (slice_get xs m);
+  writable = λ m. writable_of (slice_get xs m);
   name = λ r. None;
   epoch = epoch;
   spare = spare;
@@ -95,18 +104,18 @@ moved_up at c r low (Some u) = if u == c then None else (if u == at then (if hol
 
 -- a node, once node c has what lay in the range of r below node at
 abbrev pub moved : ℕ → ℕ → Ref → Node → Node
-moved at c r x = record { set = x.set; loaded = x.loaded; up = moved_up at c r x.low x.up; root = x.root; low = x.low; bits = x.bits; leaf_bits = x.leaf_bits }
+moved at c r x = record { set = x.set; loaded = x.loaded; up = moved_up at c r x.low x.up; root = x.root; low = x.low; bits = x.bits; dirty = x.dirty; copies = x.copies; leaf_bits = x.leaf_bits }
 
 abbrev pub moved_all : ℕ → ℕ → Ref → List Node → List Node
 moved_all at c r xs = map (moved at c r) xs
 
 -- a node with another set
 abbrev pub with_set : Node → RefSet → Node
-with_set x s = record { set = s; loaded = x.loaded; up = x.up; root = x.root; low = x.low; bits = x.bits; leaf_bits = x.leaf_bits }
+with_set x s = record { set = s; loaded = x.loaded; up = x.up; root = x.root; low = x.low; bits = x.bits; dirty = x.dirty; copies = x.copies; leaf_bits = x.leaf_bits }
 
 -- a new node right below node at, to which r leads
 abbrev pub new_node : ℕ → Node → RefSet → Ref → Node
-new_node at x part r = record { set = part; loaded = true; up = Some at; root = x.root; low = r.key; bits = r.keybits; leaf_bits = 0 }
+new_node at x part r = record { set = part; loaded = true; up = Some at; root = x.root; low = r.key; bits = r.keybits; dirty = true; copies = x.copies; leaf_bits = 0 }
 
 -- nodes of which x, at place at, has the set kept, and a new one the set part with what lay in the range of r
 abbrev pub parted : List Node → ℕ → Node → RefSet → RefSet → Ref → List Node
@@ -140,9 +149,9 @@ pub record IsLoadable (xs : List Node) (at : ℕ) (r : Ref) (c : ℕ) : Type 0 w
   pub fits : AllFitBelow r (leaf_bits_of (slice_get xs (root_of (slice_get xs at)))) node.set
   pub bare : position (is_below c) xs ≡ None
 
--- a node that was loaded, below one with this root and by a reference with these keybits
-abbrev pub brought : ℕ → ℕ → Node → Node
-brought root bits x = record { set = x.set; loaded = true; up = x.up; root = root; low = x.low; bits = bits; leaf_bits = x.leaf_bits }
+-- a node that was loaded, below one with this root and so many copies, and by a reference with these keybits
+abbrev pub brought : ℕ → ℕ → ℕ → Node → Node
+brought root copies bits x = record { set = x.set; loaded = true; up = x.up; root = root; low = x.low; bits = bits; dirty = false; copies = copies + 1; leaf_bits = x.leaf_bits }
 
 -- the first key of a tree's range, which is one half of all keys
 abbrev pub first_key : KeyClass → ℕ
@@ -151,7 +160,7 @@ first_key High = 2 ^ 63
 
 -- the root of a tree, at this place of the vector
 abbrev pub top_node : ℕ → KeyClass → ℕ → Node
-top_node n keys leaf_bits = record { set = record { refs = []; capacity = 4 }; loaded = true; up = None; root = n; low = first_key keys; bits = 63; leaf_bits = leaf_bits }
+top_node n keys leaf_bits = record { set = record { refs = []; capacity = 4 }; loaded = true; up = None; root = n; low = first_key keys; bits = 63; dirty = true; copies = 0; leaf_bits = leaf_bits }
 
 -- whether nothing is above
 abbrev pub is_bare : Option ℕ → Bool
@@ -172,10 +181,44 @@ abbrev pub stays_loaded : ℕ → Node → Bool
 stays_loaded from x = x.loaded && (is_bare x.up || nat_lt x.low from)
 
 abbrev pub unloaded : ℕ → Node → Node
-unloaded from x = record { set = x.set; loaded = stays_loaded from x; up = x.up; root = x.root; low = x.low; bits = x.bits; leaf_bits = x.leaf_bits }
+unloaded from x = record { set = x.set; loaded = stays_loaded from x; up = x.up; root = x.root; low = x.low; bits = x.bits; dirty = x.dirty; copies = x.copies; leaf_bits = x.leaf_bits }
 
 abbrev pub unloaded_all : ℕ → List Node → List Node
 unloaded_all from xs = map (unloaded from) xs
+
+-- whether x is the node at a place, or above it in its tree
+abbrev pub is_above : Place → Node → Bool
+is_above at x = x.root == at.root && (nat_le at.bits x.bits && (nat_le x.low at.low && nat_lt at.low (x.low + 2 ^ x.bits)))
+
+abbrev pub place_of : Node → Place
+place_of x = record { root = x.root; low = x.low; bits = x.bits }
+
+-- a node that is writable or not
+abbrev pub with_dirty : Bool → Node → Node
+with_dirty dirty x = record { set = x.set; loaded = x.loaded; up = x.up; root = x.root; low = x.low; bits = x.bits; dirty = dirty; copies = x.copies; leaf_bits = x.leaf_bits }
+
+abbrev pub with_copies : ℕ → Node → Node
+with_copies n x = record { set = x.set; loaded = x.loaded; up = x.up; root = x.root; low = x.low; bits = x.bits; dirty = x.dirty; copies = n; leaf_bits = x.leaf_bits }
+
+-- nodes of which the one at a place is writable, and all above it
+abbrev pub marked_all : Place → List Node → List Node
+marked_all at xs = map (λ x. with_dirty (x.dirty || is_above at x) x) xs
+
+-- nodes of which none is writable
+abbrev pub cleaned_all : List Node → List Node
+cleaned_all xs = map (with_dirty false) xs
+
+-- whether x is a node that isn't writable, and is the one at a place or above it, but no root
+abbrev pub is_copied : Place → Node → Bool
+is_copied at x = x.loaded && (not x.dirty && (nat_lt x.bits 63 && is_above at x))
+
+-- how many there are
+abbrev pub count_copied : Place → List Node → ℕ
+count_copied at xs = count_by (is_copied at) xs
+
+-- nodes for each of which it is counted anew
+abbrev pub recounted_all : List Node → List Node
+recounted_all xs = map (λ x. with_copies (count_copied (place_of x) xs) x) xs
 
 -- whether one of the references passes
 abbrev pub any_of : (Ref → Bool) → List Ref → Bool
@@ -200,7 +243,7 @@ goes root bits old new x = x.root == root && (nat_lt x.bits bits && loses old ne
 
 -- a node that stands no longer, nor can be loaded again
 abbrev pub lost : Node → Node
-lost x = record { set = x.set; loaded = false; up = None; root = x.root; low = x.low; bits = x.bits; leaf_bits = x.leaf_bits }
+lost x = record { set = x.set; loaded = false; up = None; root = x.root; low = x.low; bits = x.bits; dirty = x.dirty; copies = x.copies; leaf_bits = x.leaf_bits }
 
 abbrev pub dropped : ℕ → ℕ → List Ref → List Ref → Node → Node
 dropped root bits old new x = if goes root bits old new x then lost x else x

@@ -76,7 +76,7 @@ pub(crate) fn with_left(set: Set, rest: Option<Ref>) -> Set
     }
 }
 
-/// Gives node `at` the set `kept`, and makes a node of the set `part`, to which `r` leads, with what lay in the
+/// Gives node `at` the set `kept`, and makes a writable node of the set `part`, to which `r` leads, with what lay in the
 /// range of `r` below node `at`.
 pub(crate) fn add_node(nodes: &mut Vec<Node>, at: u32, kept: Set, part: Set, r: &Ref)
     requires there { at < length nodes.old.items }
@@ -87,7 +87,8 @@ pub(crate) fn add_node(nodes: &mut Vec<Node>, at: u32, kept: Set, part: Set, r: 
     ensures len { vec_len nodes.new ≡ vec_len nodes.old + 1 }
 {
     let c = nodes.len() as u32;
-    let root = nodes[at as usize].root;
+    let x = &nodes[at as usize];
+    let (root, copies) = (x.root, x.copies);
     nodes[at as usize].set = kept;
     move_below(nodes, at, c, r);
     let node = Node {
@@ -97,6 +98,8 @@ pub(crate) fn add_node(nodes: &mut Vec<Node>, at: u32, kept: Set, part: Set, r: 
         root,
         low: r.key,
         bits: r.keybits,
+        dirty: true,
+        copies,
         leaf_bits: 0,
     };
     match nodes.push(node) {

@@ -190,11 +190,15 @@ pub(crate) fn find_unspoiled(nodes: &[Node], at: u32, r: &Ref, spoiled: &mut u64
     find_loadable(nodes, at, r)
 }
 
-/// Loads a node, below one with this root and by a reference with these keybits.
-pub(crate) fn bring_in(x: &mut Node, root: u32, bits: u8)
-    ensures { x.new ≡ brought root bits x.old }
+/// Loads a node, below one with this root and so many copies, and by a reference with these keybits. It isn't
+/// writable.
+pub(crate) fn bring_in(x: &mut Node, root: u32, copies: u64, bits: u8)
+    requires { copies < 64 }
+    ensures { x.new ≡ brought root copies bits x.old }
 {
     x.loaded = true;
     x.root = root;
     x.bits = bits;
+    x.dirty = false;
+    x.copies = copies + 1;
 }

@@ -4,6 +4,7 @@ ghost use Rattle.std.specs.Vec.{vec_len, vec_capacity};
 ghost use Rattle.h2_memory_sets.specs.View.{AllRooted};
 
 use crate::adding::{add_node, new_reference, with_left, with_one};
+use crate::altering::{clean_all, mark_all, place_of, recount_all};
 use crate::dropping::drop_all;
 use crate::judging::{bring_in, find_unspoiled, is_due};
 use crate::node::{KeyClass, Node};
@@ -42,7 +43,7 @@ impl MemorySets {
     ghost use Rattle.std.specs.Prelude.{OnErr, ℕ, false};
     ghost use Rattle.h2_set.specs.Forest.{IsSound};
     ghost use Rattle.h2_memory_sets.specs.Seen.{forest_of, blocks_of, failing_load, spoiled_load, refused_spare};
-    ghost use Rattle.h2_memory_sets.specs.Roots.{AddsRoot, Unloads};
+    ghost use Rattle.h2_memory_sets.specs.Roots.{AddsRoot, BeginsEpoch, Unloads};
 
     /// A forest with no node, in which this number of blocks can be taken. The epoch is the number of a checkpoint.
     pub fn new(alloc: Global, epoch: u64, room: u64) -> MemorySets
@@ -120,6 +121,17 @@ impl MemorySets {
         }
     }
 
+    /// Begins the next epoch, in which no node is writable yet.
+    pub fn begin_epoch(&mut self)
+        requires sound { IsSound (forest_of self.old) }
+        requires epoch { let f = forest_of self.old in f.epoch < 2 ^ 62 }
+        ensures { BeginsEpoch (forest_of self.old) (forest_of self.new) }
+    {
+        self.epoch += 1;
+        clean_all(&mut self.nodes);
+        recount_all(&mut self.nodes);
+    }
+
     /// Unloads the nodes below roots whose range starts at this key or after. `child` loads them again.
     pub fn unload(&mut self, from: u64)
         requires sound { IsSound (forest_of self.old) }
@@ -194,8 +206,9 @@ impl Sets for MemorySets {
                 why: Why::Shape,
             });
         };
-        let root = self.nodes[at.0 as usize].root;
-        bring_in(&mut self.nodes[c], root, r.keybits);
+        let x = &self.nodes[at.0 as usize];
+        let (root, copies) = (x.root, x.copies);
+        bring_in(&mut self.nodes[c], root, copies, r.keybits);
         Ok(NodeId(c as u32))
     }
 
@@ -220,7 +233,11 @@ impl Sets for MemorySets {
     }
 
     fn alter(&mut self, at: NodeId) {
-        let _ = at;
+        let x = &self.nodes[at.0 as usize];
+        let (place, copies) = (place_of(x), x.copies);
+        mark_all(&mut self.nodes, place);
+        recount_all(&mut self.nodes);
+        self.room -= copies;
     }
 
     fn store(&mut self, at: NodeId, set: Set) {

@@ -21,6 +21,18 @@ pub(crate) struct Node {
     /// Its range: the first key, and the base-2 logarithm of its length.
     pub low: u64,
     pub bits: u8,
+    /// Whether it is writable in this epoch.
+    pub dirty: bool,
+    /// How many nodes from this one up to below the root aren't writable.
+    pub copies: u64,
     /// Of a root, the keybits of its tree's leaves.
     pub leaf_bits: u8,
+}
+
+/// A node's tree and its range.
+#[derive(Clone, Copy)]
+pub(crate) struct Place {
+    pub root: u32,
+    pub low: u64,
+    pub bits: u8,
 }

@@ -22,7 +22,7 @@ fn first_key(keys: KeyClass) -> u64
     }
 }
 
-/// Appends the root of a tree with leaves of these keybits.
+/// Appends the writable root of a tree with leaves of these keybits.
 pub(crate) fn add_top(nodes: &mut Vec<Node>, keys: KeyClass, leaf_bits: u8) -> u32
     requires small { length nodes.old.items < 2 ^ 32 }
     requires space { vec_len nodes.old < vec_capacity nodes.old }
@@ -39,6 +39,8 @@ pub(crate) fn add_top(nodes: &mut Vec<Node>, keys: KeyClass, leaf_bits: u8) -> u
         root: c,
         low: first_key(keys),
         bits: ROOT_BITS,
+        dirty: true,
+        copies: 0,
         leaf_bits,
     };
     match nodes.push(node) {

@@ -1,6 +1,33 @@
-use Rattle.std.proofs.Common.{refl}
-use Rattle.h2_memory_sets.proofs.Settled.{alters_nothing}
+use Rattle.std.proofs.Common.{◌≡◌, ◌+◌, ◌-◌, ◌≤◌, ℕ, List, false, refl, sym, ap, ◌∙◌, subst, arith, slice_get, ◌||◌}
+use Rattle.std.proofs.lemmas.Option.{slice_get_read}
+use Rattle.h2_set.specs.Forest.{Alters}
+use Rattle.h2_memory_sets.specs.declared.node.Node.{Node}
+use Rattle.h2_memory_sets.specs.declared.node.Place.{Place}
+use Rattle.h2_memory_sets.specs.Roots.{BeginsEpoch}
+use Rattle.h2_memory_sets.specs.View.{AllRooted, forest_with, copies_of, is_above, place_of, marked_all, cleaned_all, recounted_all}
+use Rattle.h2_memory_sets.proofs.Altered.{alters, begins, written}
+use Rattle.h2_memory_sets.proofs.Nodes.{is_there}
+use Rattle.h2_memory_sets.proofs.Recounting.{rooted_still}
 use Rattle.h2_memory_sets.proofs.memory.MemorySetsSets.alter.Goals as goal
 
 pub returns-clause-alters : goal.returns-clause-alters
-returns-clause-alters c = alters_nothing _ _ c.requires.sound c.requires.stands (λ m. refl) (λ m. refl)
+returns-clause-alters c =
+    let p = c.args.self.now in
+    let xs = p.nodes.items in
+    let x = c.index-x.result.now in
+    let read = slice_get_read xs _ c.args.at.0 x refl (is_there xs c.args.at.0 c.requires.stands) c.index-x.ensures in
+    let one = written (marked_all c.place_of-place.result) xs c.deref_mut.result.now c.mark_all.new.nodes p.nodes.len (sym (c.mark_all.auto.nodes ∙ c.deref_mut.ensures.len)) c.deref_mut.ensures.value c.mark_all.ensures in
+    let items = written recounted_all _ c.deref_mut-2.result.now c.recount_all.new.nodes p.nodes.len (sym (c.recount_all.auto.nodes ∙ c.deref_mut-2.ensures.len)) c.deref_mut-2.ensures.value c.recount_all.ensures ∙ ap recounted_all (one ∙ ap (λ (at : Place). marked_all at xs) c.place_of-place.ensures) in
+    let copies : copies_of (slice_get xs c.args.at.0) ≡ x.copies = ap copies_of read in
+    let enough = c.requires.room in
+    subst (λ (ys : List Node). Alters (forest_with xs p.spare p.epoch p.room p.failed p.bad) (forest_with ys p.spare p.epoch (p.room - x.copies) p.failed p.bad) c.args.at.0) (sym items) (alters xs c.args.at.0 x read p.spare p.epoch p.room (p.room - x.copies) p.failed p.bad c.requires.sound c.requires.stands (omega (arith, copies, enough)))
+
+pub invariant_of-self-clause-rooted : goal.invariant_of-self-clause-rooted
+invariant_of-self-clause-rooted c =
+    let p = c.args.self.now in
+    let xs = p.nodes.items in
+    let x = c.index-x.result.now in
+    let read = slice_get_read xs _ c.args.at.0 x refl (is_there xs c.args.at.0 c.requires.stands) c.index-x.ensures in
+    let one = written (marked_all c.place_of-place.result) xs c.deref_mut.result.now c.mark_all.new.nodes p.nodes.len (sym (c.mark_all.auto.nodes ∙ c.deref_mut.ensures.len)) c.deref_mut.ensures.value c.mark_all.ensures in
+    let items = written recounted_all _ c.deref_mut-2.result.now c.recount_all.new.nodes p.nodes.len (sym (c.recount_all.auto.nodes ∙ c.deref_mut-2.ensures.len)) c.deref_mut-2.ensures.value c.recount_all.ensures ∙ ap recounted_all (one ∙ ap (λ (at : Place). marked_all at xs) c.place_of-place.ensures) in
+    subst AllRooted (sym items) (rooted_still xs (λ u. u.dirty || is_above (place_of x) u) p.spare p.epoch p.room p.failed p.bad c.requires.sound p.rooted)

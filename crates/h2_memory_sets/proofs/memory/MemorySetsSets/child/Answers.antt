@@ -59,8 +59,8 @@ returns-in_default-find_unspoiled-clause-unloaded c = λ r d read link.
     let none = subst (λ (q : Ref). position (is_child c.args.at.0 q.key) xs ≡ None) same (ap (position (is_child c.args.at.0 c.at.result.now.key)) (sym c.deref.ensures.value) ∙ sym c.find_child.ensures ∙ c.in_default.is) in
     not_loaded xs c.args.at.0 r.key d none link
 
-pub index-requires-2 : goal.index-requires-2
-index-requires-2 c = let lt = is_there c.args.self.now.nodes.items c.args.at.0 c.requires.stands in let len = c.args.self.now.nodes.ok.0 in omega (arith, lt, len)
+pub index-x-requires : goal.index-x-requires
+index-x-requires c = let lt = is_there c.args.self.now.nodes.items c.args.at.0 c.requires.stands in let len = c.args.self.now.nodes.ok.0 in omega (arith, lt, len)
 
 pub index_mut-requires : goal.index_mut-requires
 index_mut-requires c =
@@ -85,12 +85,12 @@ returns-clause-walks c =
     let q = c.at.result.now in
     let there = is_there xs at c.requires.stands in
     let node = slice_get_read xs _ at c.index.result.now refl there c.index.ensures in
-    let node' = slice_get_read xs _ at c.index-2.result.now refl there c.index-2.ensures in
+    let node' = slice_get_read xs _ at c.index-x.result.now refl there c.index-x.ensures in
     let l = loadable_in _ xs at k q c.deref-2.ensures.value c.in-Some-find_unspoiled.ensures.found in
     let y = slice_get_read xs _ k c.index_mut.result.now refl (loadable_within xs at k q l) c.index_mut.ensures.value in
     let none = ap (position (is_child at q.key)) (sym c.deref.ensures.value) ∙ sym c.find_child.ensures ∙ c.in_default.is in
     let read' = ref_there xs at c.args.i c.index.result.now q node c.at.ensures in
-    let b = brings xs p.spare p.epoch p.room p.failed p.bad at c.args.i k q c.index-2.result.now c.index_mut.result.now c.bring_in.new.x c.requires.sound c.requires.stands l none (root_not xs at k p.rooted c.requires.stands (loadable_away xs at k q l)) read' (c.requires.indirect.indirect q read') node' y c.bring_in.ensures in
+    let b = brings xs p.spare p.epoch p.room p.failed p.bad at c.args.i k q c.index-x.result.now c.index_mut.result.now c.bring_in.new.x c.requires.sound c.requires.stands l none (root_not xs at k p.rooted c.requires.stands (loadable_away xs at k q l)) read' (c.requires.indirect.indirect q read') node' y c.bring_in.ensures in
     b.walked
 
 pub returns-clause-ok : goal.returns-clause-ok
@@ -102,12 +102,12 @@ returns-clause-ok c = λ r read.
     let q = c.at.result.now in
     let there = is_there xs at c.requires.stands in
     let node = slice_get_read xs _ at c.index.result.now refl there c.index.ensures in
-    let node' = slice_get_read xs _ at c.index-2.result.now refl there c.index-2.ensures in
+    let node' = slice_get_read xs _ at c.index-x.result.now refl there c.index-x.ensures in
     let l = loadable_in _ xs at k q c.deref-2.ensures.value c.in-Some-find_unspoiled.ensures.found in
     let y = slice_get_read xs _ k c.index_mut.result.now refl (loadable_within xs at k q l) c.index_mut.ensures.value in
     let none = ap (position (is_child at q.key)) (sym c.deref.ensures.value) ∙ sym c.find_child.ensures ∙ c.in_default.is in
     let read' = ref_there xs at c.args.i c.index.result.now q node c.at.ensures in
-    let b = brings xs p.spare p.epoch p.room p.failed p.bad at c.args.i k q c.index-2.result.now c.index_mut.result.now c.bring_in.new.x c.requires.sound c.requires.stands l none (root_not xs at k p.rooted c.requires.stands (loadable_away xs at k q l)) read' (c.requires.indirect.indirect q read') node' y c.bring_in.ensures in
+    let b = brings xs p.spare p.epoch p.room p.failed p.bad at c.args.i k q c.index-x.result.now c.index_mut.result.now c.bring_in.new.x c.requires.sound c.requires.stands l none (root_not xs at k p.rooted c.requires.stands (loadable_away xs at k q l)) read' (c.requires.indirect.indirect q read') node' y c.bring_in.ensures in
     subst (λ (z : Ref). link_of (slice_set xs k c.bring_in.new.x) at z.key ≡ loaded k) (ref_same xs at c.args.i c.index.result.now q node c.at.ensures r read) b.link
 
 pub returns-clause-loads : goal.returns-clause-loads
@@ -119,12 +119,12 @@ returns-clause-loads c = λ r read.
     let q = c.at.result.now in
     let there = is_there xs at c.requires.stands in
     let node = slice_get_read xs _ at c.index.result.now refl there c.index.ensures in
-    let node' = slice_get_read xs _ at c.index-2.result.now refl there c.index-2.ensures in
+    let node' = slice_get_read xs _ at c.index-x.result.now refl there c.index-x.ensures in
     let l = loadable_in _ xs at k q c.deref-2.ensures.value c.in-Some-find_unspoiled.ensures.found in
     let y = slice_get_read xs _ k c.index_mut.result.now refl (loadable_within xs at k q l) c.index_mut.ensures.value in
     let none = ap (position (is_child at q.key)) (sym c.deref.ensures.value) ∙ sym c.find_child.ensures ∙ c.in_default.is in
     let read' = ref_there xs at c.args.i c.index.result.now q node c.at.ensures in
-    let b = brings xs p.spare p.epoch p.room p.failed p.bad at c.args.i k q c.index-2.result.now c.index_mut.result.now c.bring_in.new.x c.requires.sound c.requires.stands l none (root_not xs at k p.rooted c.requires.stands (loadable_away xs at k q l)) read' (c.requires.indirect.indirect q read') node' y c.bring_in.ensures in
+    let b = brings xs p.spare p.epoch p.room p.failed p.bad at c.args.i k q c.index-x.result.now c.index_mut.result.now c.bring_in.new.x c.requires.sound c.requires.stands l none (root_not xs at k p.rooted c.requires.stands (loadable_away xs at k q l)) read' (c.requires.indirect.indirect q read') node' y c.bring_in.ensures in
     subst (λ (z : Ref). Loads (forest_with xs p.spare p.epoch p.room p.failed p.bad) (forest_with (slice_set xs k c.bring_in.new.x) p.spare p.epoch p.room p.failed p.bad) at z.key) (ref_same xs at c.args.i c.index.result.now q node c.at.ensures r read) b.loaded_there
 
 pub invariant_of-self-2-clause-rooted : goal.invariant_of-self-2-clause-rooted
@@ -135,10 +135,10 @@ invariant_of-self-2-clause-rooted c =
     let k = c.in-Some-find_unspoiled.c in
     let q = c.at.result.now in
     let there = is_there xs at c.requires.stands in
-    let node' = slice_get_read xs _ at c.index-2.result.now refl there c.index-2.ensures in
+    let node' = slice_get_read xs _ at c.index-x.result.now refl there c.index-x.ensures in
     let l = loadable_in _ xs at k q c.deref-2.ensures.value c.in-Some-find_unspoiled.ensures.found in
     let y = slice_get_read xs _ k c.index_mut.result.now refl (loadable_within xs at k q l) c.index_mut.ensures.value in
-    rooted_bring xs at k q c.index-2.result.now c.index_mut.result.now c.bring_in.new.x p.rooted c.requires.stands l node' y c.bring_in.ensures
+    rooted_bring xs at k q c.index-x.result.now c.index_mut.result.now c.bring_in.new.x p.rooted c.requires.stands l node' y c.bring_in.ensures
 
 pub returns-then-is_due-clause-same : goal.returns-then-is_due-clause-same
 returns-then-is_due-clause-same c =

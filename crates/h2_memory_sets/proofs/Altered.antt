@@ -1,0 +1,202 @@
+-- Forests in memory in which a node was made writable with all above it, or the next epoch has begun.
+use Rattle.std.proofs.Common.{◌≡◌, ℕ, ◌+◌, ◌<◌, ◌≤◌, ◌^◌, Bool, true, false, ◌&&◌, ◌||◌, arith, refl, sym, ◌∙◌, ap, List, [], ◌∷◌, ◌++◌, take, drop, length, Option, Some, subst, inl, inr, slice_get, suc, zero}
+use Rattle.std.specs.Prelude.{map, not}
+use Rattle.std.proofs.Math.Seq.{take-append_seam}
+use Rattle.std.proofs.lemmas.Nat.{pow_pos}
+use Rattle.h2_ref.specs.declared.reference.Ref.{Ref}
+use Rattle.h2_set.specs.Ranges.{is_indirect, holds}
+use Rattle.h2_set.specs.RefSet.{RefSet}
+use Rattle.h2_set.specs.Forest.{Forest, refs, loaded, IsSound, Alike, Keeps, Alters, IsAbove, itself, by, OnWay, inside, across}
+use Rattle.h2_set.specs.ChangeLaws.{same_or_not}
+use Rattle.h2_set.specs.LeafLaws.{holds_inside, place_above}
+use Rattle.h2_set.specs.SplitLaws.{below_high}
+use Rattle.h2_set.specs.StayLaws.{Alike-refl}
+use Rattle.h2_set.specs.RenewLaws.{Keeps-Renews}
+use Rattle.h2_memory_sets.specs.declared.node.Node.{Node}
+use Rattle.h2_memory_sets.specs.View.{stands_of, set_of, root_of, low_of, bits_of, writable_of, copies_of, leaf_bits_of, link_of, forest_with, is_above, place_of, with_dirty, with_copies, is_copied, marked_all, cleaned_all, recounted_all}
+use Rattle.h2_memory_sets.specs.Roots.{BeginsEpoch}
+use Rattle.h2_memory_sets.proofs.Counting.{count_none}
+use Rattle.h2_memory_sets.proofs.Nesting.{in_holds, meet, one_range, leads_to}
+use Rattle.h2_memory_sets.proofs.Passing.{and_parts}
+use Rattle.h2_memory_sets.proofs.Recounting.{Above, field, link_same, node_at, above_is, is_above_of, is_writable, counted, root_above, still}
+use Rattle.h2_memory_sets.proofs.Rooted.{map_field}
+use Rattle.h2_memory_sets.proofs.Storing.{tested}
+use Rattle.h2_memory_sets.proofs.Unloads.{map_item}
+
+or_left : (a b : Bool) → a ≡ true → (a || b) ≡ true
+or_left true b e = refl
+or_left false b e = absurd (cc)
+
+or_right : (a b : Bool) → b ≡ true → (a || b) ≡ true
+or_right true b e = refl
+or_right false b e = e
+
+or_neither : (a b : Bool) → b ≡ false → (a || b) ≡ a
+or_neither true b e = refl
+or_neither false b e = e
+
+shut : (l n b a : Bool) → (l && (not (n || a) && (b && a))) ≡ false
+shut false n b a = refl
+shut true true b a = refl
+shut true false b true = refl
+shut true false true false = refl
+shut true false false false = refl
+
+module _ (xs : List Node) (at : ℕ) (x : Node) (read : slice_get xs at ≡ Some x) (spare epoch room room' failed bad : ℕ) (sound : IsSound (forest_with xs spare epoch room failed bad)) (stands : stands_of (slice_get xs at) ≡ true) (room_is : room' + copies_of (slice_get xs at) ≡ room) where
+  abbrev f : Forest
+  f = forest_with xs spare epoch room failed bad
+
+  abbrev new : Node → Bool
+  new = λ u. u.dirty || is_above (place_of x) u
+
+  abbrev ys : List Node
+  ys = recounted_all (marked_all (place_of x) xs)
+
+  abbrev g : Forest
+  g = forest_with ys spare epoch room' failed bad
+
+  same : {X : Type 0} (F : Option Node → X) → ((b : Bool) (u : Node) → F (Some (with_dirty b u)) ≡ F (Some u)) → ((n : ℕ) (u : Node) → F (Some (with_copies n u)) ≡ F (Some u)) → (m : ℕ) → F (slice_get ys m) ≡ F (slice_get xs m)
+  same F a b m = field xs new spare epoch room failed bad sound F a b m
+
+  stands_same : (m : ℕ) → stands_of (slice_get ys m) ≡ stands_of (slice_get xs m)
+  stands_same = same stands_of (λ b u. refl) (λ n u. refl)
+
+  set_same : (m : ℕ) → set_of (slice_get ys m) ≡ set_of (slice_get xs m)
+  set_same = same set_of (λ b u. refl) (λ n u. refl)
+
+  links : (m k : ℕ) → link_of ys m k ≡ link_of xs m k
+  links = link_same xs new spare epoch room failed bad sound
+
+  now_writable : (m : ℕ) (u : Node) → slice_get xs m ≡ Some u → writable_of (slice_get ys m) ≡ new u
+  now_writable = is_writable xs new spare epoch room failed bad sound
+
+  -- what is above is what leads there
+  above_of : (m : ℕ) → f.stands m ≡ true → IsAbove f m at → Above f m at
+  above_of m st (itself e) = let pos = pow_pos (f.bits at) in subst (λ z. Above f z at) (sym e) (record { root = refl; bits = omega arith; low = omega arith; high = omega (arith, pos) })
+  above_of m st (by i r got (inside root ind held bits)) =
+      let node = sound.node m st in
+      let it = holds_inside (f.low at) r held in
+      let from = place_above _ _ (refs f m) i r node.inside got in
+      let to = below_high _ _ (refs f m) i r node.inside got in
+      let falls = (node.fits i r got).falls ind in
+      record { root = root; bits = omega (arith, bits, falls); low = omega (arith, from, it.0); high = omega (arith, to, it.1) }
+  above_of m st (by i r got (across key ne held bel)) = absurd (cc)
+
+  leads_there : (m : ℕ) → f.stands m ≡ true → Above f m at → IsAbove f m at
+  leads_there m st a = elim (same_or_not m at) as (λ _. IsAbove f m at) [
+    | inl e ↦ itself e
+    | inr ne ↦ elim (same_or_not (f.bits m) (f.bits at)) as (λ _. IsAbove f m at) [
+      | inl e ↦
+          let low = a.low in
+          let high = a.high in
+          let pos = pow_pos (f.bits at) in
+          let it = meet f sound m at (f.low at) st stands (omega (arith, e)) low high (omega arith) (omega (arith, pos)) in
+          let l = it.low in
+          absurd (ne (one_range f sound m at st stands a.root (omega (arith, l, low)) e))
+      | inr off ↦
+          let bits = a.bits in
+          let pos = pow_pos (f.bits at) in
+          let it = leads_to f sound m at st stands (sym a.root) (omega (arith, off, bits)) a.low a.high in
+          let from = it.from in
+          let to = it.to in
+          by it.place it.ref it.read (inside a.root it.indirect (in_holds (f.low at) it.ref from (omega (arith, to, pos))) it.wide)
+    ]
+  ]
+
+  made : (m : ℕ) → f.stands m ≡ true → Above f m at → g.writable m ≡ true
+  made m st a =
+      let u = node_at xs new spare epoch room failed bad sound m st in
+      now_writable m u.0 u.1 ∙ or_right (u.0).dirty (is_above (place_of x) u.0) (is_above_of xs new spare epoch room failed bad sound m at u.0 x u.1 read a)
+
+  others : (m : ℕ) → f.stands m ≡ true → (IsAbove f m at → ⊥) → g.writable m ≡ f.writable m
+  others m st off =
+      let u = node_at xs new spare epoch room failed bad sound m st in
+      let miss : is_above (place_of x) u.0 ≡ false = elim (tested (is_above (place_of x) u.0)) as (λ _. is_above (place_of x) u.0 ≡ false) [
+        | inl e ↦ absurd (off (leads_there m st (above_is xs new spare epoch room failed bad sound m at u.0 x u.1 read e)))
+        | inr e ↦ e
+      ] in
+      now_writable m u.0 u.1 ∙ or_neither (u.0).dirty (is_above (place_of x) u.0) miss ∙ ap writable_of (sym u.1)
+
+  keeps : (m : ℕ) → f.stands m ≡ true → Keeps f g m
+  keeps m st =
+      let u = node_at xs new spare epoch room failed bad sound m st in
+      record {
+        place = record {
+          stands = stands_same m ∙ st;
+          root = same root_of (λ b u. refl) (λ n u. refl) m;
+          low = same low_of (λ b u. refl) (λ n u. refl) m;
+          bits = same bits_of (λ b u. refl) (λ n u. refl) m;
+          belongs = λ t k. refl;
+          writable = λ e. now_writable m u.0 u.1 ∙ or_left (u.0).dirty (is_above (place_of x) u.0) (sym (ap writable_of u.1) ∙ e);
+        };
+        alike = subst (λ (t : RefSet). Alike (refs f m) t.refs) (sym (set_same m)) (Alike-refl (refs f m));
+        link = links m;
+      }
+
+  self : Above f at at
+  self = let pos = pow_pos (f.bits at) in record { root = refl; bits = omega arith; low = omega arith; high = omega (arith, pos) }
+
+  pub alters : Alters f g at
+  alters = record {
+    sound = still xs new spare epoch room failed bad sound spare epoch room' sound.epoch;
+    fixed = record { leaf_bits = same leaf_bits_of (λ b u. refl) (λ n u. refl); allows = λ m r. refl; held = λ m. refl; name = λ r. refl; epoch = refl; failed = omega arith; bad = omega arith };
+    writable = made at stands self;
+    top = made (f.root at) (sound.top at stands).0 (root_above xs new spare epoch room failed bad sound at stands);
+    made = λ m st a. made m st (above_of m st a);
+    copies = counted xs new spare epoch room failed bad sound at x read ∙ count_none (is_copied (place_of x)) (marked_all (place_of x) xs) (λ i t got. let it = map_item (λ u. with_dirty (new u) u) xs i t got in ap (is_copied (place_of x)) it.1 ∙ shut (it.0).loaded (it.0).dirty _ (is_above (place_of x) it.0));
+    room = room_is;
+    exact = λ m i r st got off. ap (λ (t : RefSet). slice_get t.refs i) (set_same m) ∙ got;
+    kept = λ m i c r st got link w. ap (λ (t : RefSet). slice_get t.refs i) (set_same m) ∙ got;
+    others = others;
+    tree = λ m st root. keeps m st;
+    above = λ m st root. Keeps-Renews f g m (keeps m st);
+    capacity = λ m st. ap (λ (t : RefSet). t.capacity) (set_same m);
+    none_new = λ m now. sym (stands_same m) ∙ now;
+    spare = refl;
+    failed = refl;
+    bad = refl;
+  }
+
+module _ (xs : List Node) (spare epoch room failed bad : ℕ) (sound : IsSound (forest_with xs spare epoch room failed bad)) (less : epoch < 2 ^ 62) where
+  abbrev cs : List Node
+  cs = recounted_all (cleaned_all xs)
+
+  unchanged : {X : Type 0} (F : Option Node → X) → ((b : Bool) (u : Node) → F (Some (with_dirty b u)) ≡ F (Some u)) → ((n : ℕ) (u : Node) → F (Some (with_copies n u)) ≡ F (Some u)) → (m : ℕ) → F (slice_get cs m) ≡ F (slice_get xs m)
+  unchanged F a b m = field xs (λ u. false) spare epoch room failed bad sound F a b m
+
+  none_writable : (zs : List Node) (h : Node → Node) → ((u : Node) → (h u).dirty ≡ false) → (m : ℕ) → writable_of (slice_get (map h zs) m) ≡ false
+  none_writable zs h off m = go zs m
+    where
+      go : (l : List Node) (m : ℕ) → writable_of (slice_get (map h l) m) ≡ false
+      go [] m = refl
+      go (u ∷ l) zero = off u
+      go (u ∷ l) (suc m) = go l m
+
+  pub begins : BeginsEpoch (forest_with xs spare epoch room failed bad) (forest_with (recounted_all (cleaned_all xs)) spare (epoch + 1) room failed bad)
+  begins = record {
+    sound = still xs (λ u. false) spare epoch room failed bad sound spare (epoch + 1) room (omega arith, omega (arith, less));
+    epoch = refl;
+    clean = λ m. clean m;
+    stands = unchanged stands_of (λ b u. refl) (λ n u. refl);
+    root = unchanged root_of (λ b u. refl) (λ n u. refl);
+    low = unchanged low_of (λ b u. refl) (λ n u. refl);
+    bits = unchanged bits_of (λ b u. refl) (λ n u. refl);
+    set = unchanged set_of (λ b u. refl) (λ n u. refl);
+    link = link_same xs (λ u. false) spare epoch room failed bad sound;
+    belongs = λ m t k. refl;
+    leaf_bits = unchanged leaf_bits_of (λ b u. refl) (λ n u. refl);
+    allows = λ m r. refl;
+    held = λ m. refl;
+    name = λ r. refl;
+    spare = refl;
+    room = refl;
+    failed = refl;
+    bad = refl;
+  }
+    where
+      clean : (m : ℕ) → writable_of (slice_get (recounted_all (cleaned_all xs)) m) ≡ false
+      clean m = map_field writable_of _ (cleaned_all xs) (λ u. refl) m ∙ none_writable xs (with_dirty false) (λ u. refl) m
+
+-- all nodes of a vector were written anew
+pub written : (change : List Node → List Node) (xs zs ys : List Node) (n : ℕ) → n ≡ length ys → zs ≡ xs → ys ≡ change zs → take n (ys ++ drop (length ys) xs) ≡ change xs
+written change xs zs ys n len same is = ap (λ k. take k (ys ++ drop (length ys) xs)) len ∙ take-append_seam ys _ ∙ is ∙ ap change same

@@ -1,0 +1,111 @@
+//! Nodes that become writable, and how many above each aren't.
+ghost use Rattle.std.specs.Prelude.{◌≡◌, ◌&&◌, ◌||◌, ◌+◌, ◌^◌, nat_le, nat_lt, false};
+ghost use Rattle.h2_memory_sets.specs.View.{is_above, place_of, with_dirty, with_copies, marked_all, cleaned_all, is_copied, count_copied, recounted_all};
+
+use crate::node::{Node, Place};
+use h2_ref::{Check, Kind, Ref};
+use h2_set::holds;
+
+/// A node's tree and its range.
+pub(crate) fn place_of(x: &Node) -> Place
+    ensures { result ≡ place_of x.now }
+{
+    Place {
+        root: x.root,
+        low: x.low,
+        bits: x.bits,
+    }
+}
+
+// A reference with the range of a node.
+fn range_of(x: &Node) -> Ref
+    ensures key { result.key ≡ x.now.low }
+    ensures keybits { result.keybits ≡ x.now.bits }
+{
+    Ref {
+        kind: Kind::Indirect,
+        key: x.low,
+        keybits: x.bits,
+        place: 0,
+        radix: 0,
+        id: 0,
+        check: Check::Nothing,
+        dirent: None,
+    }
+}
+
+// Whether a node's range has the key.
+fn reaches(x: &Node, key: u64) -> bool
+    ensures { result ≡ (nat_le x.now.low key && nat_lt key (x.now.low + 2 ^ x.now.bits)) }
+{
+    holds(&range_of(x), key)
+}
+
+// Whether a node is the one at a place, or above it in its tree.
+fn is_above(x: &Node, at: Place) -> bool
+    ensures { result ≡ is_above at x.now }
+{
+    x.root == at.root && (at.bits <= x.bits && reaches(x, at.low))
+}
+
+// Makes a node writable, where it is the one at a place or above it.
+fn mark_one(x: &mut Node, at: Place)
+    ensures { x.new ≡ with_dirty (x.old.dirty || is_above at x.old) x.old }
+{
+    x.dirty = x.dirty || is_above(x, at);
+}
+
+/// Makes the node at a place writable, and all above it.
+pub(crate) fn mark_all(nodes: &mut [Node], at: Place)
+    ensures { nodes.new ≡ marked_all at nodes.old }
+{
+    for i in 0..nodes.len() {
+        mark_one(&mut nodes[i], at);
+    }
+}
+
+fn clean_one(x: &mut Node)
+    ensures { x.new ≡ with_dirty false x.old }
+{
+    x.dirty = false;
+}
+
+/// Lets no node be writable.
+pub(crate) fn clean_all(nodes: &mut [Node])
+    ensures { nodes.new ≡ cleaned_all nodes.old }
+{
+    for i in 0..nodes.len() {
+        clean_one(&mut nodes[i]);
+    }
+}
+
+// Whether a node isn't writable, and is the one at a place or above it, but no root.
+fn is_copied(x: &Node, at: Place) -> bool
+    ensures { result ≡ is_copied at x.now }
+{
+    x.loaded && (!x.dirty && (x.bits < 63 && is_above(x, at)))
+}
+
+// How many there are.
+fn count_copied(nodes: &[Node], at: Place) -> u64
+    ensures { result ≡ count_copied at nodes.now }
+{
+    nodes.iter().filter(|x| is_copied(x, at)).count() as u64
+}
+
+fn set_copies(x: &mut Node, n: u64)
+    ensures { x.new ≡ with_copies n x.old }
+{
+    x.copies = n;
+}
+
+/// Counts for each node anew how many from it up to below the root aren't writable.
+pub(crate) fn recount_all(nodes: &mut [Node])
+    ensures { nodes.new ≡ recounted_all nodes.old }
+{
+    for i in 0..nodes.len() {
+        let at = place_of(&nodes[i]);
+        let n = count_copied(nodes, at);
+        set_copies(&mut nodes[i], n);
+    }
+}
