@@ -1,6 +1,6 @@
 -- What holds of answers, and what is kept beside sets.
 use Rattle.std.proofs.Common.{arith, ◌≡◌, ℕ, ◌∙◌, sym, subst, refl, true, Result, Ok, Err}
-use Rattle.std.specs.Prelude.{IfOk, IfErr}
+use Rattle.std.specs.Prelude.{IfOk, IfErr, OnErr}
 use Rattle.std.specs.Result.{IsErrAnd}
 use Rattle.h2_ref.specs.declared.faults.Trouble.{Trouble}
 use Rattle.h2_ref.specs.declared.faults.Trouble.TheVariants.{Failed, Bad, NoMemory}
@@ -32,3 +32,8 @@ pub cause_after : (f h g : Forest) (t : Trouble) → Visits f h → HasCause h g
 cause_after f h g Failed visits cause = let failed = visits.failed in grind arith
 cause_after f h g (Bad place why) visits cause = let bad = visits.bad in grind arith
 cause_after f h g NoMemory visits cause = tt
+
+-- what holds whatever was answered
+pub always_err : {T E P : Type 0} (r : Result T E) → P → OnErr r P
+always_err (Ok v) p = tt
+always_err (Err e) p = p

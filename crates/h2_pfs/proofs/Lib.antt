@@ -9,3 +9,6 @@ pub mod Found
 pub mod Renewed
 pub mod Dropped
 pub mod Gone
+pub mod Planted
+pub mod Added
+pub mod Spaced

@@ -3,7 +3,7 @@ use Rattle.std.specs.Prelude.{◌≡◌, ◌⊎◌, ◌<◌, ◌≤◌, ◌-◌,
 use Rattle.h2_ref.specs.declared.faults.Trouble.{Trouble}
 use Rattle.h2_ref.specs.declared.faults.Trouble.TheVariants.{NoMemory}
 use Rattle.h2_set.specs.Forest.{Forest, HasCause}
-use Rattle.h2_tree.specs.Changes.{RangeUnloaded}
+use Rattle.h2_tree.specs.Changes.{RangeUnloaded, PathUnloaded}
 use Rattle.h2_inode.specs.Nodes.{Fields}
 use Rattle.h2_pfs.specs.declared.fault.PfsFault.{PfsFault}
 use Rattle.h2_pfs.specs.declared.fault.PfsFault.TheVariants.{NoPfs, Exists, Full, InUse, Trouble as Troubled}
@@ -35,6 +35,22 @@ IsRemoveFault f g holds top name handles Exists = ⊥
 IsRemoveFault f g holds top name handles Full = ⊥
 IsRemoveFault f g holds top name handles (InUse count) = ((id : ℕ) × HasId g holds top name (Some id)) × ((count ≡ handles) × (0 < handles))
 IsRemoveFault f g holds top name handles (Troubled t) = IsTrouble f g top t
+
+-- why no more PFS may have the name: one has it, and otherwise there are too many
+abbrev pub IsSpaceFault : Forest → Forest → (ℕ → Option Fields) → ℕ → List ℕ → PfsFault → Type 0
+IsSpaceFault f g holds top name NoPfs = ⊥
+IsSpaceFault f g holds top name Exists = (id : ℕ) × HasId g holds top name (Some id)
+IsSpaceFault f g holds top name Full = (h : HasId g holds top name None) × (64 ≤ length h.pfss)
+IsSpaceFault f g holds top name (InUse handles) = ⊥
+IsSpaceFault f g holds top name (Troubled t) = IsTrouble f g top t
+
+-- why a PFS isn't added: no more may have the name, or the path of its id wasn't loaded
+abbrev pub IsAddFault : Forest → Forest → (ℕ → Option Fields) → ℕ → List ℕ → ℕ → PfsFault → Type 0
+IsAddFault f g holds top name id NoPfs = ⊥
+IsAddFault f g holds top name id Exists = (other : ℕ) × HasId g holds top name (Some other)
+IsAddFault f g holds top name id Full = (h : HasId g holds top name None) × (64 ≤ length h.pfss)
+IsAddFault f g holds top name id (InUse handles) = ⊥
+IsAddFault f g holds top name id (Troubled t) = IsTrouble f g top t ⊎ (HasCause f g t × PathUnloaded f top id)
 
 -- what a refusal says of the list of PFSs that the tree stood for
 abbrev pub IsFaultIn : List ℕ → List ListedPfs → PfsFault → Type 0

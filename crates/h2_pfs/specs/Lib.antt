@@ -4,3 +4,4 @@ pub mod Mets
 pub mod Meets
 pub mod Faults
 pub mod Removal
+pub mod Addition

@@ -8,6 +8,7 @@
 //! (`specs/Faults`), and after it nothing but loads took place.
 #![tactic(auto)]
 
+mod adding;
 mod fault;
 mod finding;
 mod met;
@@ -15,6 +16,7 @@ mod naming;
 mod removing;
 mod scanning;
 
+pub use adding::pfs_add;
 pub use fault::PfsFault;
 pub use finding::pfs_find;
 pub use naming::pfs_names;

@@ -1,0 +1,51 @@
+use Rattle.std.proofs.Common.{inl, inr, arith, subst, None}
+use Rattle.h2_set.specs.StayLaws.{Readies-unchanged}
+use Rattle.h2_tree.specs.Changes.{Inserts}
+use Rattle.h2_inode.specs.Nodes.{Visits}
+use Rattle.h2_inode.specs.VisitLaws.{unchanged_visits}
+use Rattle.h2_pfs.proofs.Answering.{always_err, beside_on}
+use Rattle.h2_pfs.proofs.Planted.{ready_path, none_before, new_unloaded, founds}
+use Rattle.h2_pfs.proofs.adding.found.Goals as goal
+
+pub returns-in_err-ready-clause-visits : goal.returns-in_err-ready-clause-visits
+returns-in_err-ready-clause-visits g c = always_err c.from_residual.result (unchanged_visits _ _ (Readies-unchanged _ _ c.in_err-ready.ensures.same c.in_err-ready.ensures.err))
+
+pub returns-in-Err-clause-visits : goal.returns-in-Err-clause-visits
+returns-in-Err-clause-visits g c =
+    let ready = c.in_ok-ready.ensures in
+    let path = ready_path _ _ c.args.leaf.key c.args.root.0 None c.requires.sound c.requires.super_root.stands ready.same c.requires.path in
+    elim c.in-Err.ensures.unloaded as (λ _. Visits (g.N.Sets.forest c.args.n.now) (g.N.Sets.forest c.insert.new.n)) [
+      | inl none ↦ absurd (none None path)
+      | inr spent ↦ absurd (omega (arith, spent, ready.ok))
+    ]
+
+pub plant-requires-clause-unloaded : goal.plant-requires-clause-unloaded
+plant-requires-clause-unloaded g c =
+    let ready = c.in_ok-ready.ensures in
+    let h = g.N.Sets.forest c.ready.new.self in
+    let k = g.N.Sets.forest c.insert.new.n in
+    let top = c.args.root.0 in
+    let stands = (ready.same.same top c.requires.super_root.stands).place.stands in
+    let path = ready_path _ h c.args.leaf.key top None c.requires.sound c.requires.super_root.stands ready.same c.requires.path in
+    let none = none_before h k top c.args.leaf c.in-Ok.field-0 ready.same.sound stands path c.in-Ok.ensures.ok in
+    new_unloaded h k top c.args.leaf stands (subst (Inserts h k top c.args.leaf) none c.in-Ok.ensures.ok)
+
+pub returns-clause-founds : goal.returns-clause-founds
+returns-clause-founds g c =
+    let ready = c.in_ok-ready.ensures in
+    let h = g.N.Sets.forest c.ready.new.self in
+    let k = g.N.Sets.forest c.insert.new.n in
+    let top = c.args.root.0 in
+    let stands = (ready.same.same top c.requires.super_root.stands).place.stands in
+    let path = ready_path _ h c.args.leaf.key top None c.requires.sound c.requires.super_root.stands ready.same c.requires.path in
+    let none = none_before h k top c.args.leaf c.in-Ok.field-0 ready.same.sound stands path c.in-Ok.ensures.ok in
+    founds _ h k (g.N.Sets.forest c.plant.new.self) _ top c.plant.result.0 c.args.leaf c.args.inode ready.same (subst (Inserts h k top c.args.leaf) none c.in-Ok.ensures.ok) c.in-Ok.ensures.paths c.in-Ok.ensures.path c.plant.ensures.plants c.plant.ensures.inode
+
+pub returns-clause-beside : goal.returns-clause-beside
+returns-clause-beside g c =
+    let ready = c.in_ok-ready.ensures in
+    let first = beside_on _ _ _ _ _ _ (λ m st. (ready.same.same m st).place.stands) ready.beside c.in-Ok.ensures.beside in
+    beside_on _ _ _ _ _ _ (λ m st. (c.in-Ok.ensures.ok.still m (ready.same.same m st).place.stands).stands) first c.plant.ensures.beside
+
+pub returns-clause-later : goal.returns-clause-later
+returns-clause-later g c = g.met.N.Sets.later_later _ _ _ (g.met.N.Sets.later_later _ _ _ c.in_ok-ready.ensures.later c.in-Ok.ensures.later) c.plant.ensures.later
