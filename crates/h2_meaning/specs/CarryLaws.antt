@@ -1,6 +1,6 @@
 -- What the trees of tables and forests stand for in one reading, they stand for in each that follows it.
-use Rattle.std.specs.Prelude.{◌≡◌, ◌<◌, ℕ, ◌+◌, ◌%◌, ◌^◌, List, map, slice_index}
-use Rattle.std.proofs.Common.{ap, sym, ◌∙◌, inl, inr, subst}
+use Rattle.std.specs.Prelude.{◌≡◌, ℕ, List, map}
+use Rattle.std.proofs.Common.{sym, ◌∙◌, subst}
 use Rattle.h2_ref.specs.declared.reference.Ref.{Ref}
 use Rattle.h2_inode.specs.declared.kind.InodeKind.{InodeKind}
 use Rattle.h2_inode.specs.declared.kind.InodeKind.TheVariants.{Directory as Directory_kind, File as File_kind, Pfs as Pfs_kind}

@@ -1,29 +1,20 @@
 -- By a reading that gives one answer at most, a tree stands for one thing at most.
-use Rattle.std.specs.Prelude.{◌≡◌, ◌<◌, ◌≤◌, ℕ, ◌+◌, ◌-◌, ◌^◌, List, All, Option, Some, None, refl, slice_index}
-use Rattle.std.proofs.Common.{ap, sym, ◌∙◌, arith, inl, inr, subst}
-use Rattle.std.proofs.lemmas.List.{ext_get_or}
-use Rattle.std.proofs.lemmas.Option.{same_Some}
+use Rattle.std.specs.Prelude.{◌≡◌, ℕ, List}
+use Rattle.std.proofs.Common.{ap, sym, ◌∙◌, subst}
 use Rattle.std.specs.FinMap.{from_entries}
 use Rattle.h2_ref.specs.declared.reference.Ref.{Ref}
-use Rattle.h2_ref.specs.declared.reference.Dirent.{Dirent}
-use Rattle.h2_set.specs.Ranges.{find, limit}
-use Rattle.h2_set.specs.LeafLaws.{holds_inside}
 use Rattle.h2_inode.specs.declared.kind.InodeKind.{InodeKind}
 use Rattle.h2_inode.specs.declared.kind.InodeKind.TheVariants.{Directory as Directory_kind, File as File_kind, Pfs as Pfs_kind}
 use Rattle.h2_inode.specs.declared.inode.Body.{Body}
 use Rattle.h2_inode.specs.declared.inode.Body.TheVariants.{Refs, Bytes}
 use Rattle.h2_inode.specs.declared.inode.Inode.{Inode}
-use Rattle.h2_forest.specs.Node.{Entries}
 use Rattle.h2_forest.specs.declared.table.Node.{Node}
 use Rattle.h2_forest.specs.declared.table.Node.TheVariants.{File, Directory}
 use Rattle.h2_forest.specs.Table.{Table}
 use Rattle.h2_forest.specs.declared.pfs.Pfs.{Pfs}
 use Rattle.h2_forest.specs.Forest.{PlainForest}
-use Rattle.h2_inode.specs.Access.{Access, HasLeaves, OneByOne}
-use Rattle.h2_inode.specs.Contents.{IsContents}
-use Rattle.h2_inode.specs.Directory.{IsDirectory}
+use Rattle.h2_inode.specs.Access.{Access, OneByOne}
 use Rattle.h2_meaning.specs.Node.{IsNodeBy, IsNode, IsMember, HasMembers}
-use Rattle.h2_inode.specs.PfsList.{ListedPfs, IsPfs, IsPfsList}
 use Rattle.h2_meaning.specs.Forest.{InTable, listed_of, IsTable, IsWhole, IsForest}
 use Rattle.h2_inode.specs.Single.{IsSingle}
 use Rattle.h2_inode.specs.ListLaws.{one_list}
