@@ -1,5 +1,5 @@
 -- Nothing has changed, one call after the other.
-use Rattle.std.proofs.Common.{◌≡◌, ℕ, ◌∙◌, sym, arith, refl, ap, true, List, Some, subst, inl, inr}
+use Rattle.std.proofs.Common.{◌≡◌, ℕ, ◌∙◌, sym, refl, true, List, inl, inr}
 use Rattle.h2_ref.specs.declared.reference.Ref.{Ref}
 use Rattle.h2_set.specs.Forest.{Forest, IsSound, Same, Unchanged, Walks, KeepsBeside}
 use Rattle.h2_set.specs.StayLaws.{Fixed-refl, Fixed-trans, InPlace-refl, InPlace-trans}

@@ -1,5 +1,5 @@
 -- Names that lead from inode to inode, while more is loaded.
-use Rattle.std.specs.Prelude.{◌≡◌, ◌<◌, ◌≤◌, ◌⊎◌, ℕ, suc, ◌+◌, ◌^◌, true, false, List, [], ◌∷◌, length, drop, Option, Some, None, Result, Ok, Err, refl}
+use Rattle.std.specs.Prelude.{◌≡◌, ◌<◌, ◌≤◌, ℕ, suc, ◌+◌, ◌^◌, true, List, [], ◌∷◌, length, drop, Option, Some, Result, Ok, Err, refl}
 use Rattle.std.proofs.Common.{ap, sym, ◌∙◌, arith, inl, inr, subst, get_or, drop-cons, add-one}
 use Rattle.std.proofs.Math.ListN.{drop_of_length-le}
 use Rattle.h2_num.specs.Causes.{Rose}
@@ -15,12 +15,12 @@ use Rattle.h2_inode.specs.declared.inode.Body.{Body}
 use Rattle.h2_inode.specs.declared.inode.Body.TheVariants.{Refs, Bytes}
 use Rattle.h2_inode.specs.declared.kind.InodeKind.{InodeKind}
 use Rattle.h2_inode.specs.declared.kind.InodeKind.TheVariants.{Directory, Pfs}
-use Rattle.h2_inode.specs.Nodes.{Fields, held_by, HasInode, IsInodeLeaf, IsNamed, MayHave, Visits, leaf_keybits, leaf_kind}
+use Rattle.h2_inode.specs.Nodes.{Fields, held_by, IsInodeLeaf, MayHave, Visits, leaf_keybits, leaf_kind}
 use Rattle.h2_inode.specs.VisitLaws.{visits_path, visits_leaf, visits_name, visits_inode}
 use Rattle.h2_dir.specs.declared.fault.DirFault.{DirFault}
 use Rattle.h2_dir.specs.declared.fault.DirFault.TheVariants as fault
-use Rattle.h2_dir.specs.Finding.{IsFound, IsMissing, FindFails}
-use Rattle.h2_dir.specs.Walking.{IsPfsRoot, IsMember, Leads, arrived, onward, missing, in_file, in_nothing, WalkEnds, StepEnds}
+use Rattle.h2_dir.specs.Finding.{IsFound, FindFails}
+use Rattle.h2_dir.specs.Walking.{IsPfsRoot, IsMember, Leads, onward, missing, in_file, in_nothing, WalkEnds, StepEnds}
 use Rattle.h2_dir.proofs.Unchanging.{may_stays}
 use Rattle.h2_dir.proofs.Paths.{hangs}
 use Rattle.h2_dir.proofs.Spotting.{reached_leaf}

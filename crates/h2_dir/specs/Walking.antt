@@ -1,5 +1,5 @@
 -- Where names lead from inode to inode of a PFS.
-use Rattle.std.specs.Prelude.{◌≡◌, ◌⊎◌, ℕ, List, [], ◌∷◌, Option, Some, None, Result, Ok, Err}
+use Rattle.std.specs.Prelude.{◌≡◌, ◌⊎◌, ℕ, List, [], ◌∷◌, Option, None, Result, Ok, Err}
 use Rattle.h2_ref.specs.declared.reference.Dirent.{Dirent}
 use Rattle.h2_ref.specs.declared.reference.Ref.{Ref}
 use Rattle.h2_set.specs.Forest.{Forest, Reaches, HasCause}

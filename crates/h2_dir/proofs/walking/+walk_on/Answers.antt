@@ -1,4 +1,4 @@
-use Rattle.std.proofs.Common.{◌≡◌, ◌+◌, ℕ, List, [], ◌∷◌, sym, subst, Ok, Err, refl, ◌≤◌, length, arith, get_or}
+use Rattle.std.proofs.Common.{◌≡◌, ◌+◌, ℕ, List, ◌∷◌, sym, subst, Ok, Err, ◌≤◌, length, arith, get_or}
 use Rattle.std.specs.Prelude.{drop}
 use Rattle.h2_inode.specs.Nodes.{held_by}
 use Rattle.h2_inode.specs.VisitLaws.{visits_trans}

@@ -1,11 +1,11 @@
-use Rattle.std.proofs.Common.{◌≡◌, ℕ, None, Some, sym, subst, ap, ◌∙◌, Option, inl}
+use Rattle.std.proofs.Common.{Some, subst, Option, inl}
 use Rattle.h2_ref.specs.declared.reference.Ref.{Ref}
 use Rattle.h2_set.specs.Forest.{Reaches}
-use Rattle.h2_inode.specs.Nodes.{held_by, HasInode, IsInodeLeaf, IsNamed}
-use Rattle.h2_inode.specs.VisitLaws.{walks_visit, seeks_visit, unchanged_visits, visits_trans, visits_inode, visits_leaf}
-use Rattle.h2_dir.specs.Walking.{IsMember, StepEnds}
+use Rattle.h2_inode.specs.Nodes.{held_by, IsNamed}
+use Rattle.h2_inode.specs.VisitLaws.{walks_visit, seeks_visit, unchanged_visits, visits_trans, visits_leaf}
+use Rattle.h2_dir.specs.Walking.{IsMember}
 use Rattle.h2_dir.proofs.Unchanging.{beside_visits}
-use Rattle.h2_dir.proofs.Walked.{pfs_leaf, pfs_stays, step_found, step_fails, cause_earlier}
+use Rattle.h2_dir.proofs.Walked.{pfs_leaf, pfs_stays, step_found, step_fails}
 use Rattle.h2_dir.proofs.walking.step.Goals as goal
 
 pub lookup-requires-clause-stands : goal.lookup-requires-clause-stands

@@ -1,5 +1,4 @@
-use Rattle.std.proofs.Common.{◌≡◌, ℕ, List, subst}
-use Rattle.std.specs.Prelude.{drop}
+use Rattle.std.proofs.Common.{ℕ, List, subst}
 use Rattle.h2_inode.specs.Nodes.{held_by}
 use Rattle.h2_dir.specs.Walking.{WalkEnds}
 use Rattle.h2_dir.proofs.walking.walk.Goals as goal
