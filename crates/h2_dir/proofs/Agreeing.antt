@@ -1,5 +1,5 @@
 -- What a search among the leaves of a name found agrees with the entries of the directory.
-use Rattle.std.specs.Prelude.{◌≡◌, ◌<◌, ◌≤◌, ◌⊎◌, ℕ, ◌+◌, ◌*◌, ◌/◌, ◌^◌, Bool, true, List, [], ◌∷◌, length, take, Contains, Option, Some, None, slice_get, filter, refl, nat_le, ◌&&◌}
+use Rattle.std.specs.Prelude.{◌≡◌, ◌≤◌, ℕ, ◌/◌, ◌^◌, Bool, true, List, take, Contains, Option, Some, None, slice_get, filter, refl}
 use Rattle.std.proofs.Common.{ap, sym, ◌∙◌, arith, inl, inr, subst}
 use Rattle.std.proofs.lemmas.Option.{same_Some}
 use Rattle.std.specs.FinMap.{get}
@@ -9,8 +9,8 @@ use Rattle.h2_set.specs.Forest.{Forest, LeavesOf}
 use Rattle.h2_tree.specs.Changes.{is_between}
 use Rattle.h2_dirkey.specs.Key.{upper_bits, least_key, IsNameUnder}
 use Rattle.h2_inode.specs.Nodes.{Fields, Told}
-use Rattle.h2_inode.specs.Loaded.{Tree, at_root, loaded_nodes, no_content}
-use Rattle.h2_inode.specs.Directory.{Entries, IsEntry, IsDirectory}
+use Rattle.h2_inode.specs.Loaded.{at_root, loaded_nodes, no_content}
+use Rattle.h2_inode.specs.Directory.{Entries, IsEntry}
 use Rattle.h2_dir.specs.Names.{IsNamed, MayBeNamed, NoneNamed}
 use Rattle.h2_dir.specs.Finding.{HoldsEntries, last_key}
 use Rattle.h2_dir.proofs.Members.{at_place, has_place, kept, keeps}

@@ -1,6 +1,6 @@
 -- A name and the zeros behind it.
-use Rattle.std.specs.Prelude.{◌≡◌, ◌<◌, ◌≤◌, ℕ, ◌+◌, ◌-◌, List, ◌++◌, replicate, length, slice_index}
-use Rattle.std.proofs.Common.{ap, sym, ◌∙◌, arith, inl, inr, subst, length-append, get_or}
+use Rattle.std.specs.Prelude.{◌≡◌, ◌<◌, ◌≤◌, ℕ, ◌+◌, ◌-◌, List, ◌++◌, replicate, length}
+use Rattle.std.proofs.Common.{ap, sym, ◌∙◌, arith, inl, inr, length-append, get_or}
 use Rattle.std.proofs.lemmas.Bool.{cases_lt}
 use Rattle.std.proofs.lemmas.List.{ext_get_or, get_or_append_left, get_or-append_right, length-replicate}
 use Rattle.h2_num.specs.Places.{places, Lays}

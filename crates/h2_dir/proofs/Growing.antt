@@ -1,26 +1,22 @@
 -- A leaf that goes into a directory's tree, or out of it, and the inode then.
-use Rattle.std.specs.Prelude.{◌≡◌, ◌<◌, ◌≤◌, ◌⊎◌, ◌↔◌, ℕ, ◌+◌, ◌-◌, ◌^◌, Bool, true, false, List, [], ◌∷◌, length, Option, Some, None, slice_get, IfNone, IfSome, IsSome, refl}
-use Rattle.std.proofs.Common.{ap, sym, ◌∙◌, arith, inl, inr, subst}
+use Rattle.std.specs.Prelude.{◌≡◌, ◌≤◌, ◌↔◌, ℕ, ◌+◌, ◌^◌, true, List, [], ◌∷◌, length, Option, Some, None, slice_get, IfNone, IsSome, refl}
+use Rattle.std.proofs.Common.{ap, sym, ◌∙◌, arith, subst}
 use Rattle.std.proofs.lemmas.Option.{none-some, same_Some}
 use Rattle.std.proofs.lemmas.Nat.{pow_pos}
 use Rattle.h2_ref.specs.declared.reference.Ref.{Ref}
-use Rattle.h2_set.specs.Ranges.{holds, limit, put, without}
+use Rattle.h2_set.specs.Ranges.{holds, limit}
 use Rattle.h2_set.specs.LeafLaws.{holds_inside, place_above}
-use Rattle.h2_set.specs.RefSet.{RefSet}
 use Rattle.h2_set.specs.SplitLaws.{below_high}
-use Rattle.h2_set.specs.Forest.{Forest, loaded, refs, IsSound, InPlace, Fixed, LeavesOf, Walks, KeepsBeside, Reaches, nowhere, here, below}
+use Rattle.h2_set.specs.Forest.{Forest, refs, IsSound, InPlace, Fixed, Walks, KeepsBeside, Reaches, here, below}
 use Rattle.h2_set.specs.StayLaws.{stands_below, Reaches-walks}
 use Rattle.h2_set.specs.PathLaws.{in_holds, reaches_one, reaches_stay}
 use Rattle.h2_tree.specs.Changes.{Descends, arrived, onward, TakesIn, replaced, placed, parted, Inserts, Removes, LeadsOnly, itself, down, LacksLeaf, KeepsPaths, GoesAway, below_it, named}
 use Rattle.h2_tree.specs.Changes as change
 use Rattle.h2_inode.specs.declared.inode.Body.{Body}
-use Rattle.h2_inode.specs.declared.inode.Body.TheVariants.{Refs, Bytes}
+use Rattle.h2_inode.specs.declared.inode.Body.TheVariants.{Refs}
 use Rattle.h2_inode.specs.declared.inode.Inode.{Inode}
-use Rattle.h2_inode.specs.declared.kind.InodeKind.{InodeKind}
-use Rattle.h2_inode.specs.Nodes.{Fields, fields_of, bytes_of, set_of, held_by, MayHave, HasInode, Replaces, KeepsOthersBeside}
-use Rattle.h2_dir.specs.Changing.{HasRefs, with_entries, Adds, TakesAway}
-use Rattle.h2_dir.proofs.Paths.{hangs}
-use Rattle.h2_dir.proofs.Spotting.{reached_leaf}
+use Rattle.h2_inode.specs.Nodes.{Fields, bytes_of, held_by, MayHave, HasInode, KeepsOthersBeside}
+use Rattle.h2_dir.specs.Changing.{HasRefs, with_entries}
 
 descends_path : {f : Forest} {key at n : ℕ} {o : Option Ref} → Descends f key at n → Reaches f key n o → Reaches f key at o
 descends_path arrived path = path

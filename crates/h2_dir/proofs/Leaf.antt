@@ -1,7 +1,7 @@
 -- Leaves of a directory's tree are entries, and an entry may go in.
-use Rattle.std.specs.Prelude.{◌≡◌, ◌<◌, ◌≤◌, ◌⊎◌, ℕ, zero, suc, ◌+◌, ◌%◌, ◌^◌, Bool, true, false, List, length, Option, Some, None, refl}
-use Rattle.std.proofs.Common.{ap, sym, ◌∙◌, arith, inl, inr, subst}
-use Rattle.std.proofs.lemmas.Option.{none-some, same_Some}
+use Rattle.std.specs.Prelude.{◌≡◌, ◌<◌, ◌≤◌, ℕ, zero, suc, ◌+◌, ◌%◌, ◌^◌, true, List, length, Option, Some, None, refl}
+use Rattle.std.proofs.Common.{ap, sym, ◌∙◌, arith, inr, subst}
+use Rattle.std.proofs.lemmas.Option.{same_Some}
 use Rattle.h2_num.specs.declared.block.Block.{Block}
 use Rattle.h2_ref.specs.declared.reference.Kind.{Kind}
 use Rattle.h2_ref.specs.declared.reference.Kind.TheVariants as kinds
@@ -12,8 +12,7 @@ use Rattle.h2_ref.specs.declared.table.Span.{Span}
 use Rattle.h2_ref.specs.declared.table.Row.{Row}
 use Rattle.h2_ref.specs.Ref.{IsValid, FitsRow, EntryFits, method_number}
 use Rattle.h2_ref.specs.Table.{row_of}
-use Rattle.h2_set.specs.Ranges.{is_indirect, leads_on, limit}
-use Rattle.h2_set.specs.SetBytes.{IsHeld}
+use Rattle.h2_set.specs.Ranges.{leads_on}
 use Rattle.h2_set.specs.RefSet.{RefSet}
 use Rattle.h2_set.specs.Forest.{Forest, IsSound, Reaches}
 use Rattle.h2_set.specs.PathLaws.{reaches_one}
@@ -25,7 +24,7 @@ use Rattle.h2_inode.specs.declared.inode.Body.TheVariants.{Refs, Bytes}
 use Rattle.h2_inode.specs.declared.inode.Inode.{Inode}
 use Rattle.h2_inode.specs.Inode.{keys_from}
 use Rattle.h2_inode.specs.Nodes.{Fields, HasInode, MayHave, leaf_kind, leaf_keybits}
-use Rattle.h2_dir.specs.Changing.{HasRefs, HasRoom, entry_ref}
+use Rattle.h2_dir.specs.Changing.{HasRefs, entry_ref}
 use Rattle.h2_dir.proofs.Paths.{hangs}
 use Rattle.h2_dir.proofs.Spotting.{reached_leaf}
 

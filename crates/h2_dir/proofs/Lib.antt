@@ -10,3 +10,4 @@ pub mod Leaf
 pub mod Resized
 pub mod Growing
 pub mod Areas
+pub mod Walked

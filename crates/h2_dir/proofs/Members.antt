@@ -1,8 +1,7 @@
 -- Members of lists, and of what a test keeps of them.
-use Rattle.std.proofs.Common.{◌≡◌, ℕ, zero, suc, ◌∙◌, ◌<◌, sym, arith, refl, ap, Bool, true, false, cond, List, [], ◌∷◌, Some, subst, slice_get, get_or, length}
-use Rattle.std.specs.Prelude.{Contains, filter, slice_index_or, All}
+use Rattle.std.proofs.Common.{◌≡◌, ℕ, zero, suc, ◌∙◌, ◌<◌, sym, arith, refl, ap, Bool, true, false, cond, List, [], ◌∷◌, Some, subst, slice_get, length}
+use Rattle.std.specs.Prelude.{Contains, filter}
 use Rattle.std.proofs.lemmas.Option.{slice_get-get_or, slice_get_within, get_or_from_slice_get}
-use Rattle.std.proofs.lemmas.Bool.{cases_Bool}
 
 pub first : {X : Type 0} (x : X) (xs : List X) → Contains (x ∷ xs) x
 first x xs = (0, omega arith, refl)

@@ -1,12 +1,11 @@
 -- Loaded paths: where they lead, and that they stay where nothing changes.
-use Rattle.std.proofs.Common.{◌≡◌, ℕ, ◌∙◌, ◌<◌, sym, arith, refl, ap, true, List, Some, Option, subst, slice_get, get_or, length}
+use Rattle.std.proofs.Common.{◌≡◌, ℕ, ◌∙◌, sym, refl, ap, true, List, Some, Option, subst, slice_get, get_or}
 use Rattle.std.specs.Prelude.{All}
 use Rattle.std.proofs.lemmas.Option.{slice_get-get_or, same_Some}
 use Rattle.h2_ref.specs.declared.reference.Ref.{Ref}
 use Rattle.h2_ref.specs.Ref.{IsValid}
-use Rattle.h2_set.specs.Ranges.{is_indirect}
 use Rattle.h2_set.specs.RefSet.{RefSet}
-use Rattle.h2_set.specs.Forest.{Forest, refs, loaded, IsSound, Fits, Same, Unchanged, Reaches, nowhere, here, below}
+use Rattle.h2_set.specs.Forest.{Forest, loaded, IsSound, Fits, Unchanged, Reaches, nowhere, here, below}
 use Rattle.h2_set.specs.StayLaws.{stands_below, Reaches-walks, Unchanged-walks}
 use Rattle.h2_tree.specs.Changes.{Lists, RangeUnloaded, missing, deeper}
 

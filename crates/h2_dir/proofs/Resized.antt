@@ -1,12 +1,12 @@
 -- A root whose inode gets another size, with the same set: the tree is as before.
-use Rattle.std.specs.Prelude.{◌≡◌, ◌<◌, ◌≤◌, ◌⊎◌, ◌↔◌, ℕ, ◌+◌, ◌^◌, Bool, true, false, List, Option, Some, None, slice_get, refl}
-use Rattle.std.proofs.Common.{ap, sym, ◌∙◌, arith, inl, inr, subst}
+use Rattle.std.specs.Prelude.{◌≡◌, ◌<◌, ◌≤◌, ℕ, ◌+◌, ◌^◌, true, Option, Some, None, slice_get, refl}
+use Rattle.std.proofs.Common.{ap, sym, ◌∙◌, arith, subst}
 use Rattle.std.proofs.lemmas.Option.{none-some, same_Some}
 use Rattle.h2_ref.specs.declared.reference.Ref.{Ref}
 use Rattle.h2_set.specs.Ranges.{is_indirect, Rising}
 use Rattle.h2_set.specs.RefSet.{RefSet}
-use Rattle.h2_set.specs.Forest.{Forest, Link, loaded, refs, IsSound, IsSoundNode, Fits, Loses, Same, Stays, Alike, LeavesOf, KeepsLeaves, KeepsBeside, Reaches, nowhere, here, below}
-use Rattle.h2_set.specs.StayLaws.{Alike-refl, leaves_stay, stands_below, Same-Stays}
+use Rattle.h2_set.specs.Forest.{Forest, loaded, refs, IsSound, Fits, Loses, Same, Stays, Alike, KeepsLeaves, Reaches, nowhere, here, below}
+use Rattle.h2_set.specs.StayLaws.{Alike-refl, leaves_stay, Same-Stays}
 use Rattle.h2_set.specs.ChangeLaws.{leaves_move}
 use Rattle.h2_set.specs.PathLaws.{reaches_stay}
 use Rattle.h2_inode.specs.declared.kind.InodeKind.{InodeKind}
@@ -14,7 +14,7 @@ use Rattle.h2_inode.specs.declared.inode.Body.{Body}
 use Rattle.h2_inode.specs.declared.inode.Body.TheVariants.{Refs, Bytes}
 use Rattle.h2_inode.specs.declared.inode.Inode.{Inode}
 use Rattle.h2_inode.specs.Inode.{keys_from}
-use Rattle.h2_inode.specs.Nodes.{Fields, fields_of, bytes_of, set_of, MayHave, FitsIn, HasInode, Replaceable, Replaces, leaf_kind, leaf_keybits}
+use Rattle.h2_inode.specs.Nodes.{Fields, fields_of, bytes_of, set_of, MayHave, FitsIn, HasInode, Replaceable, Replaces, leaf_kind}
 use Rattle.h2_dir.specs.Changing.{HasRefs, with_size, with_entries}
 
 -- no reference is lost

@@ -1,14 +1,14 @@
 -- What a search among the leaves under a name's keys tells of the directory.
-use Rattle.std.specs.Prelude.{◌≡◌, ◌<◌, ◌≤◌, ◌⊎◌, ℕ, ◌+◌, ◌*◌, ◌/◌, ◌^◌, true, List, Option, Some, None, slice_get}
-use Rattle.std.proofs.Common.{ap, sym, ◌∙◌, arith, inl, inr, subst}
+use Rattle.std.specs.Prelude.{◌≡◌, ◌<◌, ◌≤◌, ◌⊎◌, ℕ, ◌+◌, ◌/◌, ◌^◌, true, List, Option, Some, None, slice_get}
+use Rattle.std.proofs.Common.{sym, arith, inl, inr, subst}
 use Rattle.std.proofs.lemmas.Bool.Decides.{nat_tests}
 use Rattle.h2_ref.specs.declared.reference.Dirent.{Dirent}
 use Rattle.h2_ref.specs.declared.reference.Ref.{Ref}
 use Rattle.h2_set.specs.Forest.{Forest, Reaches, Unchanged}
 use Rattle.h2_tree.specs.Changes.{is_between, LoadsTouched, Lists}
 use Rattle.h2_dirkey.specs.Name.{IsName}
-use Rattle.h2_dirkey.specs.Key.{upper_bits, least_key, IsNameUnder}
-use Rattle.h2_dir.specs.Names.{IsNamed, NoneNamed, IsPlaceOfName, Scanned}
+use Rattle.h2_dirkey.specs.Key.{upper_bits, least_key}
+use Rattle.h2_dir.specs.Names.{NoneNamed, IsPlaceOfName, Scanned}
 use Rattle.h2_dir.specs.Finding.{last_key, IsFound, IsMissing}
 use Rattle.h2_dir.proofs.Unchanging.{named_stays, may_stays}
 use Rattle.h2_dir.proofs.Agreeing.{key_between}

@@ -1,23 +1,22 @@
 -- A key of a name that no entry has.
-use Rattle.std.specs.Prelude.{◌≡◌, ◌<◌, ◌≤◌, ◌⊎◌, ℕ, zero, suc, ◌+◌, ◌*◌, ◌/◌, ◌%◌, ◌^◌, Bool, true, false, List, [], ◌∷◌, length, map, Contains, Option, Some, None, slice_get, IsSome, slice_index_or, refl}
+use Rattle.std.specs.Prelude.{◌≡◌, ◌<◌, ◌≤◌, ◌⊎◌, ℕ, zero, suc, ◌+◌, ◌^◌, Bool, true, false, List, [], ◌∷◌, map, Contains, Option, Some, None, slice_get, IsSome, refl}
 use Rattle.std.proofs.Common.{ap, sym, ◌∙◌, arith, inl, inr, subst}
 use Rattle.std.proofs.lemmas.Bool.{cases_Bool}
 use Rattle.std.proofs.lemmas.Bool.Decides.{nat_tests}
 use Rattle.std.proofs.lemmas.Option.{none-some, same_Some}
-use Rattle.h2_ref.specs.declared.reference.Dirent.{Dirent}
 use Rattle.h2_ref.specs.declared.reference.Ref.{Ref}
 use Rattle.h2_set.specs.Ranges.{holds, limit, is_indirect, NoneHolds}
 use Rattle.h2_set.specs.LeafLaws.{holds_inside}
 use Rattle.h2_set.specs.Forest.{Forest, Link, loaded, told, untold, refs, IsSound, Reaches, nowhere, here, below}
-use Rattle.h2_tree.specs.Changes.{is_between, touches, RangeUnloaded, missing, deeper, Lists}
+use Rattle.h2_tree.specs.Changes.{touches, RangeUnloaded, missing, deeper, Lists}
 use Rattle.h2_dirkey.specs.Name.{IsName}
-use Rattle.h2_dirkey.specs.Key.{upper_bits, least_key, IsNameUnder, IsPicked}
+use Rattle.h2_dirkey.specs.Key.{least_key, IsPicked}
 use Rattle.h2_dirkey.specs.KeyLaws.{picked_upper}
 use Rattle.h2_inode.specs.declared.kind.InodeKind.TheVariants.{Directory}
 use Rattle.h2_inode.specs.declared.inode.Inode.{Inode}
 use Rattle.h2_inode.specs.Nodes.{Fields, HasInode, leaf_keybits}
 use Rattle.h2_dir.specs.Names.{NoneNamed, IsPlaceOfName}
-use Rattle.h2_dir.specs.Finding.{last_key, IsMissing}
+use Rattle.h2_dir.specs.Finding.{last_key}
 use Rattle.h2_dir.specs.Placing.{IsSpot, IsTaken}
 use Rattle.h2_dir.proofs.Members.{first, behind, at_place, has_place}
 use Rattle.h2_dir.proofs.Agreeing.{between}

@@ -1,8 +1,11 @@
 -- Nothing has changed, one call after the other.
-use Rattle.std.proofs.Common.{◌≡◌, ℕ, ◌∙◌, sym, arith, refl, ap, true, List, Some, subst, inl, inr}
+use Rattle.std.proofs.Common.{◌≡◌, ℕ, ◌∙◌, sym, refl, true, List, inl, inr}
 use Rattle.h2_ref.specs.declared.reference.Ref.{Ref}
 use Rattle.h2_set.specs.Forest.{Forest, IsSound, Same, Unchanged, Walks, KeepsBeside}
 use Rattle.h2_set.specs.StayLaws.{Fixed-refl, Fixed-trans, InPlace-refl, InPlace-trans}
+use Rattle.h2_set.specs.StayLaws.{Walks-refl}
+use Rattle.h2_inode.specs.Nodes.{Visits}
+use Rattle.h2_inode.specs.VisitLaws.{walks_visit}
 use Rattle.h2_dir.specs.Names.{IsNamed, MayBeNamed}
 
 same_refl : (f : Forest) (m : ℕ) → f.stands m ≡ true → Same f f m
@@ -38,6 +41,11 @@ beside_unchanged f g h a b c same first second = record {
   same = λ m stands stands_too. let there = (same.same m stands).place.stands in second.same m there stands_too ∙ first.same m stands there;
 }
 
+pub beside_visits : {B : Type 0} (f g h : Forest) (a b c : ℕ → B) → Visits f g → KeepsBeside f g a b → KeepsBeside g h b c → KeepsBeside f h a c
+beside_visits f g h a b c same first second = record {
+  same = λ m stands stands_too. let there = (same.stays m stands).place.stands in second.same m there stands_too ∙ first.same m stands there;
+}
+
 pub beside_walks : {B : Type 0} (f g h : Forest) (a b c : ℕ → B) → Walks f g → KeepsBeside f g a b → KeepsBeside g h b c → KeepsBeside f h a c
 beside_walks f g h a b c same first second = record {
   same = λ m stands stands_too. let there = (same.stays m stands).place.stands in second.same m there stands_too ∙ first.same m stands there;
@@ -61,3 +69,6 @@ may_stays f g leaf name same h = record {
   short = h.short;
   long = λ told le e. h.long told le (sym (same leaf) ∙ e);
 }
+
+pub visits_refl : (f : Forest) → IsSound f → Visits f f
+visits_refl f sound = walks_visit f f (Walks-refl f sound)

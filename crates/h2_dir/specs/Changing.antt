@@ -1,5 +1,5 @@
 -- What adding an entry to a directory, or taking one out, changes.
-use Rattle.std.specs.Prelude.{◌≡◌, ◌≤◌, ◌<◌, ℕ, ◌+◌, ◌-◌, List, ◌++◌, replicate, length, Option, Some, None}
+use Rattle.std.specs.Prelude.{◌≡◌, ◌<◌, ℕ, ◌-◌, List, ◌++◌, replicate, length, Option, Some, None}
 use Rattle.h2_num.specs.declared.block.Block.{Block}
 use Rattle.h2_ref.specs.declared.reference.Kind.TheVariants as kinds
 use Rattle.h2_ref.specs.declared.reference.Check.{Check}

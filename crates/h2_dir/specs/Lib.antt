@@ -2,3 +2,4 @@ pub mod Names
 pub mod Finding
 pub mod Placing
 pub mod Changing
+pub mod Walking

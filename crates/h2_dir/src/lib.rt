@@ -10,9 +10,11 @@ mod placing;
 mod removing;
 mod resizing;
 mod searching;
+mod walking;
 
 pub use adding::add_at;
 pub use fault::DirFault;
 pub use finding::find;
 pub use placing::spot;
 pub use removing::remove_at;
+pub use walking::walk;

@@ -1,13 +1,12 @@
-use Rattle.std.proofs.Common.{◌≡◌, ◌≤◌, ◌<◌, ◌+◌, ℕ, None, Some, sym, subst, ap, ◌∙◌, arith, List, true, false, refl}
-use Rattle.std.specs.Prelude.{length, Option}
+use Rattle.std.proofs.Common.{◌≡◌, ◌+◌, None, Some, sym, subst, ap, ◌∙◌, false, refl}
+use Rattle.std.specs.Prelude.{Option}
 use Rattle.h2_num.specs.declared.block.Block.{Block}
 use Rattle.h2_ref.specs.declared.reference.Check.{Check}
 use Rattle.h2_ref.specs.declared.reference.Ref.{Ref}
 use Rattle.h2_ref.specs.Ref.{IsValid}
 use Rattle.h2_set.specs.Ranges.{put, holds}
-use Rattle.h2_set.specs.RefSet.{RefSet}
 use Rattle.h2_set.specs.Forest.{Reaches, LeavesOf}
-use Rattle.h2_tree.specs.Changes.{Takes, Inserts, KeepsPaths}
+use Rattle.h2_tree.specs.Changes.{Takes}
 use Rattle.h2_inode.specs.declared.inode.Inode.{Inode}
 use Rattle.h2_inode.specs.Nodes.{Fields, held_by, HasInode}
 use Rattle.h2_dir.specs.Changing.{entry_ref, with_entries, Adds}

@@ -1,4 +1,4 @@
-use Rattle.std.proofs.Common.{◌≡◌, ◌≤◌, None, inl, inr, arith}
+use Rattle.std.proofs.Common.{None, inl, inr, arith}
 use Rattle.h2_dir.proofs.Growing.{none_replaced}
 use Rattle.h2_dir.proofs.adding.put_in.Goals as goal
 

@@ -1,4 +1,3 @@
-use Rattle.std.proofs.Common.{◌≡◌}
 use Rattle.h2_dir.proofs.Areas.{area_is}
 use Rattle.h2_dir.proofs.entry.area_of.Goals as goal
 

@@ -1,4 +1,4 @@
-use Rattle.std.proofs.Common.{◌≡◌, ℕ, ◌<◌, ◌≤◌, length, arith}
+use Rattle.std.proofs.Common.{◌<◌, ◌≤◌, length, arith}
 use Rattle.std.proofs.lemmas.Option.{slice_get_within}
 use Rattle.h2_dir.proofs.Unchanging.{unchanged_trans, beside_unchanged}
 use Rattle.h2_dir.proofs.Scanning.{place_found, none_more}

@@ -1,4 +1,4 @@
-use Rattle.std.proofs.Common.{◌≡◌, List, take}
+use Rattle.std.proofs.Common.{◌≡◌, take}
 use Rattle.std.specs.Prelude.{map}
 use Rattle.h2_ref.specs.declared.reference.Ref.{Ref}
 use Rattle.h2_dir.proofs.placing.keys_of.Given as goal

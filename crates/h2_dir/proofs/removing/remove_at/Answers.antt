@@ -1,7 +1,6 @@
-use Rattle.std.proofs.Common.{◌≡◌, ◌-◌, ℕ, None, Some, sym, subst, ap, ◌∙◌, List, true, false, refl}
+use Rattle.std.proofs.Common.{◌≡◌, ◌-◌, None, sym, subst, ap, ◌∙◌, false, refl}
 use Rattle.h2_ref.specs.declared.reference.Ref.{Ref}
 use Rattle.h2_set.specs.Ranges.{without, holds}
-use Rattle.h2_set.specs.RefSet.{RefSet}
 use Rattle.h2_set.specs.Forest.{Reaches, LeavesOf}
 use Rattle.h2_set.specs.PathLaws.{reaches_one}
 use Rattle.std.proofs.lemmas.Option.{same_Some}

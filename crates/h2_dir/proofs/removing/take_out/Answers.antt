@@ -1,4 +1,4 @@
-use Rattle.std.proofs.Common.{◌≡◌, ℕ, None, Some, sym, subst, Option}
+use Rattle.std.proofs.Common.{◌≡◌, None, Some, sym, subst, Option}
 use Rattle.std.specs.Prelude.{IfSome}
 use Rattle.h2_ref.specs.declared.reference.Ref.{Ref}
 use Rattle.h2_set.specs.Forest.{Reaches}

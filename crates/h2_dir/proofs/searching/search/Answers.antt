@@ -1,4 +1,4 @@
-use Rattle.std.proofs.Common.{◌≡◌, ◌+◌, sym, subst, List}
+use Rattle.std.proofs.Common.{◌+◌, sym, subst, List}
 use Rattle.std.specs.Prelude.{All}
 use Rattle.h2_ref.specs.declared.reference.Ref.{Ref}
 use Rattle.h2_ref.specs.Ref.{IsValid}

@@ -1,0 +1,51 @@
+-- Where names lead from inode to inode of a PFS.
+use Rattle.std.specs.Prelude.{◌≡◌, ◌⊎◌, ℕ, List, [], ◌∷◌, Option, None, Result, Ok, Err}
+use Rattle.h2_ref.specs.declared.reference.Dirent.{Dirent}
+use Rattle.h2_ref.specs.declared.reference.Ref.{Ref}
+use Rattle.h2_set.specs.Forest.{Forest, Reaches, HasCause}
+use Rattle.h2_inode.specs.declared.inode.Inode.{Inode}
+use Rattle.h2_inode.specs.declared.kind.InodeKind.TheVariants.{Directory, Pfs}
+use Rattle.h2_inode.specs.Nodes.{Fields, HasInode, IsInodeLeaf, IsNamed}
+use Rattle.h2_dir.specs.declared.fault.DirFault.{DirFault}
+use Rattle.h2_dir.specs.declared.fault.DirFault.TheVariants as fault
+use Rattle.h2_dir.specs.Finding.{IsFound, IsMissing}
+
+-- the PFS has the inode with this number: this one, loaded with this root
+pub record IsMember (f : Forest) (holds : ℕ → Option Fields) (pfs number root : ℕ) (inode : Inode) : Type 0 where
+  pub leaf : Ref
+  pub is_leaf : IsInodeLeaf f pfs leaf
+  pub key_is : leaf.key ≡ number
+  pub named : IsNamed f pfs number root
+  pub has : HasInode f holds root inode
+
+-- Where the names lead from an inode on, from left to right: each name but the first is looked up in what the one
+-- before it names. A name is missing in a directory, or it is looked up in what is no directory: a file, or nothing.
+pub data Leads (f : Forest) (holds : ℕ → Option Fields) (pfs : ℕ) : ℕ → List (List ℕ) → Result ℕ DirFault → Type 0 where
+  arrived : {number : ℕ} → Leads f holds pfs number [] (Ok number)
+  onward : {number : ℕ} {name : List ℕ} {names : List (List ℕ)} {result : Result ℕ DirFault} → (root key : ℕ) (inode : Inode) (entry : Dirent) → IsMember f holds pfs number root inode → inode.kind ≡ Directory → IsFound f root name key entry
+      → Leads f holds pfs entry.number names result → Leads f holds pfs number (name ∷ names) result
+  missing : {number : ℕ} {name : List ℕ} {names : List (List ℕ)} → (root : ℕ) (inode : Inode) → IsMember f holds pfs number root inode → inode.kind ≡ Directory → IsMissing f root name → Leads f holds pfs number (name ∷ names) (Err fault.NoEntry)
+  in_file : {number : ℕ} {name : List ℕ} {names : List (List ℕ)} → (root : ℕ) (inode : Inode) → IsMember f holds pfs number root inode → (inode.kind ≡ Directory → ⊥) → Leads f holds pfs number (name ∷ names) (Err fault.NotDir)
+  in_nothing : {number : ℕ} {name : List ℕ} {names : List (List ℕ)} → Reaches f number pfs None → Leads f holds pfs number (name ∷ names) (Err fault.NotDir)
+
+-- what a walk from an inode came to
+abbrev pub WalkEnds : Forest → Forest → (ℕ → Option Fields) → ℕ → ℕ → List (List ℕ) → Result ℕ DirFault → Type 0
+WalkEnds f g holds pfs number names (Ok found) = Leads g holds pfs number names (Ok found)
+WalkEnds f g holds pfs number names (Err fault.NoEntry) = Leads g holds pfs number names (Err fault.NoEntry)
+WalkEnds f g holds pfs number names (Err fault.Exists) = ⊥
+WalkEnds f g holds pfs number names (Err fault.NotDir) = Leads g holds pfs number names (Err fault.NotDir)
+WalkEnds f g holds pfs number names (Err (fault.Trouble e)) = HasCause f g e
+
+-- the entry of a name in an inode, or why there is none
+abbrev pub StepEnds : Forest → Forest → (ℕ → Option Fields) → ℕ → ℕ → List ℕ → Result ℕ DirFault → Type 0
+StepEnds f g holds pfs number name (Ok found) = (root : ℕ) × (key : ℕ) × (inode : Inode) × (entry : Dirent) × IsMember g holds pfs number root inode × (inode.kind ≡ Directory) × IsFound g root name key entry × (entry.number ≡ found)
+StepEnds f g holds pfs number name (Err fault.NoEntry) = (root : ℕ) × (inode : Inode) × IsMember g holds pfs number root inode × (inode.kind ≡ Directory) × IsMissing g root name
+StepEnds f g holds pfs number name (Err fault.Exists) = ⊥
+StepEnds f g holds pfs number name (Err fault.NotDir) = Reaches g number pfs None ⊎ ((root : ℕ) × (inode : Inode) × IsMember g holds pfs number root inode × (inode.kind ≡ Directory → ⊥))
+StepEnds f g holds pfs number name (Err (fault.Trouble e)) = HasCause f g e
+
+-- root pfs is that of a PFS's inode
+pub record IsPfsRoot (f : Forest) (holds : ℕ → Option Fields) (pfs : ℕ) : Type 0 where
+  pub inode : Inode
+  pub has : HasInode f holds pfs inode
+  pub kind : inode.kind ≡ Pfs

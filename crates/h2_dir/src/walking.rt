@@ -1,0 +1,84 @@
+ghost use Rattle.std.specs.Prelude.{◌≡◌, ◌≤◌, ℕ, List, drop, length, OnErr};
+ghost use Rattle.h2_set.specs.Forest.{Forest, IsSound, KeepsBeside};
+ghost use Rattle.h2_inode.specs.declared.inode.Inode.{Inode};
+ghost use Rattle.h2_inode.specs.declared.kind.InodeKind.TheVariants.{Pfs};
+ghost use Rattle.h2_inode.specs.Nodes.{held_by, HasInode, Visits};
+ghost use Rattle.h2_dir.specs.Walking.{IsPfsRoot, WalkEnds, StepEnds};
+
+use crate::fault::DirFault;
+use crate::finding::find;
+use h2_inode::Nodes;
+use h2_num::{Name, Names};
+use h2_set::NodeId;
+use h2_tree::lookup;
+use std::alloc::Global;
+
+/// The number of the root directory of each PFS.
+const ROOT_DIRECTORY: u64 = 1;
+
+// The number of the inode that a name leads to in the inode with this number.
+fn step<N: Nodes>(
+    alloc: Global,
+    n: &mut N,
+    pfs: NodeId,
+    number: u64,
+    name: &[u8],
+) -> Result<u64, DirFault>
+    requires sound { IsSound (N.forest n.old) }
+    requires pfs { IsPfsRoot (N.forest n.old) (held_by N.fields (N.beside n.old)) pfs.0 }
+    ensures visits { Visits (N.forest n.old) (N.forest n.new) }
+    ensures ends { StepEnds (N.forest n.old) (N.forest n.new) (held_by N.fields (N.beside n.new)) pfs.0 number name.now result }
+    ensures beside { KeepsBeside (N.forest n.old) (N.forest n.new) (N.beside n.old) (N.beside n.new) }
+    ensures later { N.later n.old n.new }
+{
+    let found = lookup(alloc, n, pfs, number)?;
+    let Some(leaf) = found else {
+        return Err(DirFault::NotDir);
+    };
+    let dir = n.seek(alloc, pfs, &leaf)?;
+    match find(alloc, n, dir, name) {
+        Ok((_key, entry)) => Ok(entry.number),
+        Err(fault) => Err(fault),
+    }
+}
+
+// The number of the inode that the names from place `i` on lead to from the inode with this number.
+fn walk_on<N: Nodes>(
+    alloc: Global,
+    n: &mut N,
+    pfs: NodeId,
+    number: u64,
+    names: &[Name],
+    i: usize,
+) -> Result<u64, DirFault>
+    requires sound { IsSound (N.forest n.old) }
+    requires pfs { IsPfsRoot (N.forest n.old) (held_by N.fields (N.beside n.old)) pfs.0 }
+    ensures visits { Visits (N.forest n.old) (N.forest n.new) }
+    ensures ends { WalkEnds (N.forest n.old) (N.forest n.new) (held_by N.fields (N.beside n.new)) pfs.0 number (drop i names.now) result }
+    ensures beside { KeepsBeside (N.forest n.old) (N.forest n.new) (N.beside n.old) (N.beside n.new) }
+    ensures later { N.later n.old n.new }
+{
+    if i >= names.len() {
+        return Ok(number);
+    }
+    match step(alloc, n, pfs, number, names[i].as_slice()) {
+        Ok(next) => walk_on(alloc, n, pfs, next, names, i + 1),
+        Err(fault) => Err(fault),
+    }
+}
+
+/// The number of the inode that the names of a path lead to from inode 1 of a PFS, whose inode's root is given.
+///
+/// Names are looked up from left to right: NoEntry exactly where one is missing in its directory, NotDir exactly where
+/// one is looked up in what isn't a directory: in a file, or in a number that the PFS has no inode of, which no sound
+/// volume has. Never Exists. After a Trouble nothing but loads took place.
+pub fn walk<N: Nodes>(alloc: Global, n: &mut N, pfs: NodeId, names: &Names) -> Result<u64, DirFault>
+    requires sound { IsSound (N.forest n.old) }
+    requires pfs { IsPfsRoot (N.forest n.old) (held_by N.fields (N.beside n.old)) pfs.0 }
+    ensures visits { Visits (N.forest n.old) (N.forest n.new) }
+    ensures ends { WalkEnds (N.forest n.old) (N.forest n.new) (held_by N.fields (N.beside n.new)) pfs.0 1 names.now result }
+    ensures beside { KeepsBeside (N.forest n.old) (N.forest n.new) (N.beside n.old) (N.beside n.new) }
+    ensures later { N.later n.old n.new }
+{
+    walk_on(alloc, n, pfs, ROOT_DIRECTORY, names.items(), 0)
+}
