@@ -1,12 +1,10 @@
 -- Forests in memory in which a node was made writable with all above it, or the next epoch has begun.
-use Rattle.std.proofs.Common.{◌≡◌, ℕ, ◌+◌, ◌<◌, ◌≤◌, ◌^◌, Bool, true, false, ◌&&◌, ◌||◌, arith, refl, sym, ◌∙◌, ap, List, [], ◌∷◌, ◌++◌, take, drop, length, Option, Some, subst, inl, inr, slice_get, suc, zero}
+use Rattle.std.proofs.Common.{◌≡◌, ℕ, ◌+◌, ◌<◌, ◌^◌, Bool, true, false, ◌&&◌, ◌||◌, arith, refl, sym, ◌∙◌, ap, List, [], ◌∷◌, ◌++◌, take, drop, length, Option, Some, subst, inl, inr, slice_get, suc, zero}
 use Rattle.std.specs.Prelude.{map, not}
 use Rattle.std.proofs.Math.Seq.{take-append_seam}
 use Rattle.std.proofs.lemmas.Nat.{pow_pos}
-use Rattle.h2_ref.specs.declared.reference.Ref.{Ref}
-use Rattle.h2_set.specs.Ranges.{is_indirect, holds}
 use Rattle.h2_set.specs.RefSet.{RefSet}
-use Rattle.h2_set.specs.Forest.{Forest, refs, loaded, IsSound, Alike, Keeps, Alters, IsAbove, itself, by, OnWay, inside, across}
+use Rattle.h2_set.specs.Forest.{Forest, refs, IsSound, Alike, Keeps, Alters, IsAbove, itself, by, inside, across}
 use Rattle.h2_set.specs.ChangeLaws.{same_or_not}
 use Rattle.h2_set.specs.LeafLaws.{holds_inside, place_above}
 use Rattle.h2_set.specs.SplitLaws.{below_high}
@@ -17,7 +15,6 @@ use Rattle.h2_memory_sets.specs.View.{stands_of, set_of, root_of, low_of, bits_o
 use Rattle.h2_memory_sets.specs.Roots.{BeginsEpoch}
 use Rattle.h2_memory_sets.proofs.Counting.{count_none}
 use Rattle.h2_memory_sets.proofs.Nesting.{in_holds, meet, one_range, leads_to}
-use Rattle.h2_memory_sets.proofs.Passing.{and_parts}
 use Rattle.h2_memory_sets.proofs.Recounting.{Above, field, link_same, node_at, above_is, is_above_of, is_writable, counted, root_above, still}
 use Rattle.h2_memory_sets.proofs.Rooted.{map_field}
 use Rattle.h2_memory_sets.proofs.Storing.{tested}

@@ -1,17 +1,16 @@
 -- The nodes of a forest in memory once those below missing references are lost.
-use Rattle.std.proofs.Common.{◌≡◌, ℕ, ◌+◌, ◌<◌, ◌≤◌, Bool, true, false, ◌&&◌, arith, refl, cond, sym, ◌∙◌, ap, List, [], ◌∷◌, ◌++◌, take, drop, length, Option, Some, None, subst, inl, inr, slice_get, slice_set, suc, zero, nat_eq, nat_lt}
-use Rattle.std.specs.Prelude.{map}
-use Rattle.std.specs.List.{position, position_or_len}
+use Rattle.std.proofs.Common.{◌≡◌, ℕ, ◌<◌, Bool, true, false, ◌&&◌, arith, refl, cond, sym, ◌∙◌, ap, List, ◌++◌, take, drop, length, Option, Some, None, subst, inl, inr, slice_get, slice_set, nat_eq, nat_lt}
+use Rattle.std.specs.List.{position}
 use Rattle.std.proofs.Math.ListN.{length-set}
 use Rattle.std.proofs.Math.Seq.{take-append_seam}
 use Rattle.std.proofs.lemmas.Bool.{cases_lt}
 use Rattle.std.proofs.lemmas.Bool.Decides.{nat_tests}
 use Rattle.std.proofs.lemmas.List.{length-map}
-use Rattle.std.proofs.lemmas.Option.{none-some, slice_get_within, slice_get_past}
+use Rattle.std.proofs.lemmas.Option.{slice_get_within, slice_get_past}
 use Rattle.h2_ref.specs.declared.reference.Ref.{Ref}
 use Rattle.h2_set.specs.Ranges.{holds, is_indirect}
 use Rattle.h2_set.specs.RefSet.{RefSet}
-use Rattle.h2_set.specs.Forest.{Forest, refs, Link, loaded, untold, Loses, GoesBelow, IsSound, Storable, Stores}
+use Rattle.h2_set.specs.Forest.{Forest, loaded, untold, Loses, GoesBelow, IsSound, Storable, Stores}
 use Rattle.h2_set.specs.ChangeLaws.{same_or_not}
 use Rattle.h2_memory_sets.specs.declared.node.Node.{Node}
 use Rattle.h2_memory_sets.specs.View.{stands_of, set_of, root_of, low_of, bits_of, writable_of, copies_of, leaf_bits_of, is_up, is_child, is_top, is_bare, names, link_to, link_of, with_set, forest_with, any_of, names_same, lacks, loses, goes, lost, dropped, dropped_all, AllRooted}

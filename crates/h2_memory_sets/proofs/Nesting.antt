@@ -1,14 +1,14 @@
 -- Ranges of nodes of one tree: of two that have a key in common, the longer one leads to the other.
-use Rattle.std.proofs.Common.{◌≡◌, ℕ, ◌+◌, ◌<◌, ◌≤◌, ◌^◌, Bool, true, false, arith, refl, sym, ◌∙◌, ap, List, Some, subst, ◌⊎◌, inl, inr, slice_get, suc, zero}
+use Rattle.std.proofs.Common.{◌≡◌, ℕ, ◌+◌, ◌<◌, ◌≤◌, ◌^◌, true, arith, sym, ◌∙◌, ap, List, Some, subst, inl, inr, slice_get, suc, zero}
 use Rattle.std.proofs.lemmas.Bool.{cases_lt}
 use Rattle.std.proofs.lemmas.Bool.Decides.{nat_tests}
 use Rattle.std.proofs.lemmas.Nat.{pow_pos}
 use Rattle.h2_ref.specs.declared.reference.Ref.{Ref}
 use Rattle.h2_set.specs.Ranges.{Rising, limit, holds, is_indirect}
-use Rattle.h2_set.specs.Forest.{Forest, refs, loaded, IsSound, IsSoundNode, IsChild, NamesBelow, HasParent}
-use Rattle.h2_set.specs.LeafLaws.{holds_inside, place_above}
+use Rattle.h2_set.specs.Forest.{Forest, refs, loaded, IsSound, IsChild, NamesBelow, HasParent}
+use Rattle.h2_set.specs.LeafLaws.{holds_inside}
 use Rattle.h2_set.specs.ChangeLaws.{same_or_not, apart_places}
-use Rattle.h2_set.specs.SplitLaws.{nested, below_high}
+use Rattle.h2_set.specs.SplitLaws.{nested}
 
 -- a key in a range
 pub in_holds : (key : ℕ) (r : Ref) → r.key ≤ key → key < limit r → holds key r ≡ true

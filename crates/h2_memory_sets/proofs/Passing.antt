@@ -1,5 +1,5 @@
 -- References of a list that pass a test.
-use Rattle.std.proofs.Common.{◌≡◌, ℕ, Bool, true, false, ◌&&◌, arith, refl, cond, sym, ◌∙◌, List, [], ◌∷◌, Some, slice_get, suc, zero, nat_eq}
+use Rattle.std.proofs.Common.{◌≡◌, ℕ, Bool, true, false, ◌&&◌, arith, refl, cond, List, [], ◌∷◌, Some, slice_get, suc, zero, nat_eq}
 use Rattle.std.specs.Prelude.{not}
 use Rattle.std.proofs.lemmas.Bool.Decides.{nat_tests}
 use Rattle.std.proofs.lemmas.Option.{none-some}

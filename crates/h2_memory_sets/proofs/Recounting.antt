@@ -1,20 +1,17 @@
 -- A forest in memory in which other nodes are writable, and for each node it is counted anew how many above it aren't.
-use Rattle.std.proofs.Common.{◌≡◌, ℕ, ◌+◌, ◌<◌, ◌≤◌, ◌^◌, Bool, true, false, ◌&&◌, arith, refl, cond, sym, ◌∙◌, ap, List, [], ◌∷◌, length, Option, Some, None, subst, ◌⊎◌, inl, inr, slice_get, suc, zero, nat_eq, nat_lt, nat_le}
-use Rattle.std.specs.Prelude.{map, not, count_by}
+use Rattle.std.proofs.Common.{◌≡◌, ℕ, ◌+◌, ◌<◌, ◌≤◌, ◌^◌, Bool, true, false, ◌&&◌, arith, refl, cond, sym, ◌∙◌, ap, List, [], ◌∷◌, length, Option, Some, subst, inl, inr, slice_get, suc, zero, nat_eq, nat_lt, nat_le}
+use Rattle.std.specs.Prelude.{map, not}
 use Rattle.std.specs.List.{position}
 use Rattle.std.proofs.lemmas.Bool.{cases_lt}
 use Rattle.std.proofs.lemmas.Bool.Decides.{nat_tests}
 use Rattle.std.proofs.lemmas.List.{length-map}
 use Rattle.std.proofs.lemmas.Nat.{pow_pos}
-use Rattle.h2_ref.specs.declared.reference.Ref.{Ref}
-use Rattle.h2_set.specs.RefSet.{RefSet}
-use Rattle.h2_set.specs.Forest.{Forest, refs, loaded, IsSound, IsSoundNode, IsChild, HasParent}
+use Rattle.h2_set.specs.Forest.{Forest, loaded, IsSound, IsSoundNode, HasParent}
 use Rattle.h2_set.specs.ChangeLaws.{same_or_not}
 use Rattle.h2_memory_sets.specs.declared.node.Node.{Node}
-use Rattle.h2_memory_sets.specs.declared.node.Place.{Place}
 use Rattle.h2_memory_sets.specs.View.{stands_of, set_of, root_of, low_of, bits_of, writable_of, copies_of, leaf_bits_of, is_child, link_of, forest_with, is_above, place_of, with_dirty, with_copies, is_copied, count_copied, recounted_all, is_top, AllRooted}
 use Rattle.h2_memory_sets.proofs.Counting.{count_one, count_none}
-use Rattle.h2_memory_sets.proofs.Nesting.{LiesIn, LeadsTo, Link, meet, link_of as link_at, clash, few_bits, one_range, leads_to}
+use Rattle.h2_memory_sets.proofs.Nesting.{LiesIn, Link, meet, link_of as link_at, clash, few_bits, one_range, leads_to}
 use Rattle.h2_memory_sets.proofs.Nodes.{position_same, is_there}
 use Rattle.h2_memory_sets.proofs.Parting.{alike, one_of, item_at, get_map}
 use Rattle.h2_memory_sets.proofs.Passing.{and_parts}

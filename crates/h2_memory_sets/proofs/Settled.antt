@@ -1,12 +1,10 @@
 -- Nodes that stay where they are while something else of the forest changes.
-use Rattle.std.proofs.Common.{◌≡◌, ℕ, ◌+◌, ◌<◌, ◌≤◌, ◌^◌, true, false, arith, refl, sym, ◌∙◌, ap, length, Some, subst, slice_get}
+use Rattle.std.proofs.Common.{◌≡◌, ℕ, ◌+◌, ◌<◌, ◌≤◌, ◌^◌, true, false, sym, ◌∙◌, ap, length, Some, subst, slice_get}
 use Rattle.h2_ref.specs.declared.reference.Ref.{Ref}
 use Rattle.h2_set.specs.Ranges.{Rising, is_indirect}
 use Rattle.h2_set.specs.RefSet.{RefSet, IsRefSet}
-use Rattle.h2_set.specs.Forest.{Forest, refs, loaded, IsChild, IsSoundNode, IsSound, Fits, NamesBelow, HasParent, Fixed, InPlace, Keeps, Same, Alike, Alters, ReadiesOnly, Unchanged}
-use Rattle.h2_set.specs.StayLaws.{Alike-refl, Fixed-refl}
-use Rattle.h2_set.specs.ChangeLaws.{Keeps-refl}
-use Rattle.h2_set.specs.RenewLaws.{Keeps-Renews}
+use Rattle.h2_set.specs.Forest.{Forest, refs, loaded, IsChild, IsSoundNode, IsSound, Fits, NamesBelow, HasParent, Fixed, InPlace, Keeps, Same, Alike, ReadiesOnly, Unchanged}
+use Rattle.h2_set.specs.StayLaws.{Alike-refl}
 
 -- every node that stands in both forests stays in its place, as writable as it was
 pub record Loose (f g : Forest) : Type 0 where

@@ -1,8 +1,9 @@
 //! Forests of sets in memory: every node in one vector.
 //!
 //! This is an implementation of [`Sets`](h2_set::Sets) without a disk, for the tests of crates over it. The load
-//! that is to fail can be named, and a node that is loaded is judged first, so that trouble is met. What a value
-//! means is told by `specs/View`: what is below a node that isn't loaded is told by nobody.
+//! that is to fail can be named, and a node that is loaded is judged first, so that trouble is met. A loaded node isn't
+//! writable until it is altered, and none is once the next epoch begins, so that copies are met. What a value means is
+//! told by `specs/View`: what is below a node that isn't loaded is told by nobody.
 #![tactic(auto)]
 
 mod adding;

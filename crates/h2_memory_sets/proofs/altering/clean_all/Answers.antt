@@ -1,7 +1,7 @@
-use Rattle.std.proofs.Common.{◌||◌, false, slice_set, sym, ap, ◌∙◌}
+use Rattle.std.proofs.Common.{false, slice_set, sym, ap, ◌∙◌}
 use Rattle.std.proofs.lemmas.List.Edits.{map_over_more}
 use Rattle.h2_memory_sets.specs.declared.node.Node.{Node}
-use Rattle.h2_memory_sets.specs.View.{is_above, with_dirty}
+use Rattle.h2_memory_sets.specs.View.{with_dirty}
 use Rattle.h2_memory_sets.proofs.altering.clean_all.Goals as goal
 
 pub loop-i-preserved : goal.loop-i-preserved

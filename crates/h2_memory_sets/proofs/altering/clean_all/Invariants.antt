@@ -1,6 +1,5 @@
-use Rattle.std.proofs.Common.{◌≡◌, ◌||◌, false, map, take, drop, ◌++◌}
-use Rattle.h2_memory_sets.specs.declared.node.Node.{Node}
-use Rattle.h2_memory_sets.specs.View.{is_above, with_dirty}
+use Rattle.std.proofs.Common.{◌≡◌, false, map, take, drop, ◌++◌}
+use Rattle.h2_memory_sets.specs.View.{with_dirty}
 use Rattle.h2_memory_sets.proofs.altering.clean_all.Given as goal
 
 abbrev pub invariant-loop-i : goal.invariant-loop-i

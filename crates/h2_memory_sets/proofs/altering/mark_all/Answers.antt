@@ -1,4 +1,4 @@
-use Rattle.std.proofs.Common.{◌||◌, false, slice_set, sym, ap, ◌∙◌}
+use Rattle.std.proofs.Common.{◌||◌, slice_set, sym, ap, ◌∙◌}
 use Rattle.std.proofs.lemmas.List.Edits.{map_over_more}
 use Rattle.h2_memory_sets.specs.declared.node.Node.{Node}
 use Rattle.h2_memory_sets.specs.View.{is_above, with_dirty}

@@ -1,5 +1,4 @@
-use Rattle.std.proofs.Common.{◌≡◌, ◌||◌, false, map, take, drop, ◌++◌}
-use Rattle.h2_memory_sets.specs.declared.node.Node.{Node}
+use Rattle.std.proofs.Common.{◌≡◌, ◌||◌, map, take, drop, ◌++◌}
 use Rattle.h2_memory_sets.specs.View.{is_above, with_dirty}
 use Rattle.h2_memory_sets.proofs.altering.mark_all.Given as goal
 

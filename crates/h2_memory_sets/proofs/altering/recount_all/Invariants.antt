@@ -1,5 +1,4 @@
 use Rattle.std.proofs.Common.{◌≡◌, map, take, drop, ◌++◌}
-use Rattle.h2_memory_sets.specs.declared.node.Node.{Node}
 use Rattle.h2_memory_sets.specs.View.{with_copies, count_copied, place_of}
 use Rattle.h2_memory_sets.proofs.altering.recount_all.Given as goal
 

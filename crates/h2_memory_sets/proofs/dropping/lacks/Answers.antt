@@ -1,7 +1,6 @@
-use Rattle.std.proofs.Common.{◌≡◌, arith, true, false, sym, ap, ◌∙◌, refl}
+use Rattle.std.proofs.Common.{◌≡◌, arith, false, sym, ap, ◌∙◌}
 use Rattle.std.specs.Prelude.{not}
 use Rattle.std.proofs.lemmas.Option.{slice_get_within}
-use Rattle.h2_ref.specs.declared.reference.Ref.{Ref}
 use Rattle.h2_memory_sets.specs.View.{names_same}
 use Rattle.h2_memory_sets.proofs.Fitting.{one_more}
 use Rattle.h2_memory_sets.proofs.Passing.{any_some, any_none}

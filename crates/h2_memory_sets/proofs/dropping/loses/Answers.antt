@@ -1,6 +1,5 @@
-use Rattle.std.proofs.Common.{◌≡◌, arith, ◌&&◌, true, false, sym, ◌∙◌}
+use Rattle.std.proofs.Common.{arith, ◌&&◌, sym, ◌∙◌}
 use Rattle.std.proofs.lemmas.Option.{slice_get_within}
-use Rattle.h2_ref.specs.declared.reference.Ref.{Ref}
 use Rattle.h2_set.specs.Ranges.{holds}
 use Rattle.h2_set.specs.RefSet.{RefSet}
 use Rattle.h2_memory_sets.specs.View.{lacks}

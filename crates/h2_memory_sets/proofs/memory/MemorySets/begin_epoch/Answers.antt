@@ -1,12 +1,8 @@
-use Rattle.std.proofs.Common.{◌≡◌, ◌+◌, ◌-◌, ◌≤◌, ℕ, List, false, refl, sym, ap, ◌∙◌, subst, arith}
-use Rattle.std.proofs.lemmas.Option.{slice_get_read}
-use Rattle.h2_set.specs.Forest.{Alters}
+use Rattle.std.proofs.Common.{◌+◌, List, false, sym, ap, ◌∙◌, subst}
 use Rattle.h2_memory_sets.specs.declared.node.Node.{Node}
-use Rattle.h2_memory_sets.specs.declared.node.Place.{Place}
 use Rattle.h2_memory_sets.specs.Roots.{BeginsEpoch}
-use Rattle.h2_memory_sets.specs.View.{AllRooted, forest_with, copies_of, is_above, place_of, marked_all, cleaned_all, recounted_all}
-use Rattle.h2_memory_sets.proofs.Altered.{alters, begins, written}
-use Rattle.h2_memory_sets.proofs.Nodes.{is_there}
+use Rattle.h2_memory_sets.specs.View.{AllRooted, forest_with, cleaned_all, recounted_all}
+use Rattle.h2_memory_sets.proofs.Altered.{begins, written}
 use Rattle.h2_memory_sets.proofs.Recounting.{rooted_still}
 use Rattle.h2_memory_sets.proofs.memory.MemorySets.begin_epoch.Goals as goal
 
