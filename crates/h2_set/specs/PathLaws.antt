@@ -3,7 +3,7 @@ use Rattle.std.proofs.Common.{◌≡◌, ℕ, ◌<◌, ◌≤◌, Bool, true, fa
 use Rattle.std.proofs.lemmas.Bool.Decides.{nat_tests}
 use Rattle.std.proofs.lemmas.Option.{none-some}
 use Rattle.h2_ref.specs.declared.reference.Ref.{Ref}
-use Rattle.h2_set.specs.Ranges.{leads_on, Rising, limit, holds, NoneHolds, is_indirect}
+use Rattle.h2_set.specs.Ranges.{leads_on, Rising, limit, holds, is_indirect}
 use Rattle.h2_set.specs.Forest.{Forest, refs, loaded, IsSound, Stays, Renews, AllRenewed, IsRenewed, Alters, Reaches, nowhere, here, below}
 use Rattle.h2_set.specs.LeafLaws.{holds_inside}
 use Rattle.h2_set.specs.StayLaws.{stands_below}
@@ -54,23 +54,24 @@ reaches_one {f} {key} {p = p} sound stands (below {at = at} {c = c} {r = r} i re
     reaches_one sound (stands_below f sound at r.key c stands link) rest (subst (λ z. Reaches f key z p) dc rest')
 
 -- where each node on the way stays, so does the path
-module _ (f g : Forest) (P : ℕ → Type 0) (closed : (m k c : ℕ) → P m → f.link m k ≡ loaded c → P c) (stay : (m : ℕ) → P m → Stays f g m) where
-  pub miss_stays : (key : ℕ) {at : ℕ} → P at → NoneHolds key (refs f at) → NoneHolds key (refs g at)
-  miss_stays key {at} p miss i q read =
+module _ (f g : Forest) (key : ℕ) (P : ℕ → Type 0) (closed : (m i c : ℕ) (r : Ref) → P m → slice_get (refs f m) i ≡ Some r → holds key r ≡ true → f.link m r.key ≡ loaded c → P c) (stay : (m : ℕ) → P m → Stays f g m) where
+  pub reaches_along : {at : ℕ} {o : Option Ref} → P at → Reaches f key at o → Reaches g key at o
+  reaches_along p (nowhere {at = at} miss) = nowhere (λ i q read.
       let it = like_at (refs g at) (refs f at) (Alike-sym (refs f at) (refs g at) (stay at p).alike) i q read in
-      same_holds key it.ref q false (sym it.like.key) (sym it.like.keybits) (miss i it.ref it.read)
-
-  pub reaches_stay : {key at : ℕ} {o : Option Ref} → P at → Reaches f key at o → Reaches g key at o
-  reaches_stay {key} p (nowhere {at = at} miss) = nowhere (miss_stays key p miss)
-  reaches_stay {key} p (here {at = at} {r = r} i read in_r leaf) =
+      same_holds key it.ref q false (sym it.like.key) (sym it.like.keybits) (miss i it.ref it.read))
+  reaches_along p (here {at = at} {r = r} i read in_r leaf) =
       let it = like_at (refs f at) (refs g at) (stay at p).alike i r read in
       here {r = r} i (it.read ∙ ap Some (it.like.leaf leaf)) in_r leaf
-  reaches_stay {key} p (below {at = at} {c = c} {r = r} {o = o} i read in_r ind link rest) =
+  reaches_along p (below {at = at} {c = c} {r = r} {o = o} i read in_r ind link rest) =
       let it = like_at (refs f at) (refs g at) (stay at p).alike i r read in
       let q = it.ref in
       let link' : g.link at q.key ≡ loaded c = ap (g.link at) it.like.key ∙ (stay at p).near r.key c link in
-      let rest' : Reaches g key c o = reaches_stay (closed at r.key c p link) rest in
+      let rest' : Reaches g key c o = reaches_along (closed at i c r p read in_r link) rest in
       below {r = q} i it.read (same_holds key r q true it.like.key it.like.keybits in_r) (ap leads_on it.like.kind ∙ ind) link' rest'
+
+-- the same where all below stay
+pub reaches_stay : (f g : Forest) (P : ℕ → Type 0) → ((m k c : ℕ) → P m → f.link m k ≡ loaded c → P c) → ((m : ℕ) → P m → Stays f g m) → {key at : ℕ} {o : Option Ref} → P at → Reaches f key at o → Reaches g key at o
+reaches_stay f g P closed stay {key} p reached = reaches_along f g key P (λ m i c r q read in_r link. closed m r.key c q link) stay p reached
 
 -- the reference at a place, where the block of an inode or an indirect one may lie elsewhere
 pub record RenewedAt (qs : List Ref) (i : ℕ) (r : Ref) : Type 0 where

@@ -14,7 +14,7 @@ use Rattle.h2_set.specs.SplitLaws.{below_high}
 use Rattle.h2_tree.specs.Changes.{is_between, touches, RangeUnloaded, missing, deeper, Lists}
 use Rattle.h2_tree.specs.Listing.{Gathers, done, skipped, taken, entered, Adds}
 use Rattle.h2_set.specs.PathLaws.{in_holds}
-use Rattle.h2_tree.specs.ListLaws.{filter_from}
+use Rattle.h2_set.specs.EditPathLaws.{filter_from}
 use Rattle.h2_tree.specs.TreeLaws.{between_touches}
 use Rattle.h2_tree.specs.ListLaws.{In, has_right, has_left, has_either}
 

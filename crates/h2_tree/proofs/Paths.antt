@@ -1,40 +1,26 @@
 -- Paths that stay loaded when a leaf goes in.
-use Rattle.std.proofs.Common.{◌≡◌, ℕ, ◌+◌, ◌<◌, ◌≤◌, ◌^◌, ◌⊎◌, inl, inr, Bool, true, false, arith, refl, sym, ◌∙◌, ap, List, [], ◌∷◌, Option, Some, None, subst, slice_get, slice_set, suc, zero}
-use Rattle.std.specs.Prelude.{filter, not, IfOk, Result, Ok, Err}
+use Rattle.std.proofs.Common.{◌≡◌, ℕ, ◌+◌, ◌<◌, ◌≤◌, ◌^◌, ◌⊎◌, inl, inr, true, false, arith, refl, sym, ◌∙◌, ap, List, [], ◌∷◌, Option, Some, None, subst, slice_get, slice_set, suc, zero}
+use Rattle.std.specs.Prelude.{IfOk, Result, Ok, Err}
 use Rattle.std.proofs.lemmas.Nat.{pow_pos}
 use Rattle.std.proofs.lemmas.Option.{none-some}
 use Rattle.h2_ref.specs.declared.reference.Ref.{Ref}
 use Rattle.h2_ref.specs.declared.faults.Trouble.{Trouble}
 use Rattle.h2_set.specs.RefSet.{RefSet}
-use Rattle.h2_set.specs.Ranges.{leads_on, limit, holds, lies, put, Apart, IsApart, NoneHolds, is_indirect}
+use Rattle.h2_set.specs.Ranges.{leads_on, holds, put, NoneHolds, is_indirect}
 use Rattle.h2_set.specs.Forest.{Forest, refs, loaded, IsSound, Stays, Reaches, nowhere, here, below}
-use Rattle.h2_set.specs.LeafLaws.{holds_inside}
-use Rattle.h2_set.specs.EditLaws.{before_apart, behind_apart, apart_tail}
 use Rattle.h2_set.specs.PutLaws.{put_from, put_keeps}
-use Rattle.h2_set.specs.PartLaws.{lies_inside}
 use Rattle.h2_set.specs.ChangeLaws.{Keeps-Stays, same_or_not}
 use Rattle.h2_set.specs.RenewLaws.{like_at, Alike-sym}
 use Rattle.h2_tree.specs.Changes.{Prepares, ChangesOnly, Replaces, Places, Parts, TakesIn, replaced, placed, parted, Descends, arrived, onward, Inserts, KeepsPaths}
 use Rattle.h2_tree.proofs.Edit.{set_from}
 use Rattle.h2_set.specs.PathLaws.{in_holds}
 use Rattle.h2_set.specs.PathLaws.{same_holds, reaches_stay}
-use Rattle.h2_tree.specs.ListLaws.{filter_from, filter_has}
+use Rattle.h2_set.specs.EditPathLaws.{PartsRefs, parted_here, parted_below, parted_nowhere, put_has}
 
 -- a path stays while nodes are loaded and made ready
 pub reaches_prepared : {f g : Forest} {key at : ℕ} {o : Option Ref} → IsSound f → Prepares f g → f.stands at ≡ true → Reaches f key at o → Reaches g key at o
 reaches_prepared {f} {g} sound p stands reached =
     reaches_stay f g (λ m. f.stands m ≡ true) (λ m k c st link. ((sound.node m st).child k c link).stands) p.stays stands reached
-
--- what is put in stands there
-pub put_has : (leaf : Ref) (rs : List Ref) → IsApart leaf rs → (i : ℕ) × (slice_get (put leaf rs) i ≡ Some leaf)
-put_has leaf [] a = (0, refl)
-put_has leaf (x ∷ xs) a = elim (a 0 x refl) as (λ _. (i : ℕ) × (slice_get (put leaf (x ∷ xs)) i ≡ Some leaf)) [
-  | inl lower ↦ rw (before_apart leaf x lower) (0, refl)
-  | inr upper ↦
-      let e = behind_apart leaf x upper in
-      let it = put_has leaf xs (apart_tail leaf x xs a) in
-      rw (e.0, e.1) (suc it.0, it.1)
-]
 
 -- at other places nothing has changed
 pub set_other : (rs : List Ref) (i j : ℕ) (leaf r : Ref) → slice_get rs j ≡ Some r → (j ≡ i → ⊥) → slice_get (slice_set rs i leaf) j ≡ Some r
@@ -92,120 +78,37 @@ module _ (h g : Forest) (n : ℕ) (leaf : Ref) (sound : IsSound h) (stands_n : h
       let there = put_keeps leaf (refs h n) it.apart j r read in
       (there.0, subst (λ l. slice_get l there.0 ≡ Some r) (sym set_is) there.1)) it.link refl reached
 
-  module _ (it : Parts h g n leaf) where
-    abbrev pub all : List Ref
-    all = put leaf (refs h n)
+  -- the parts of a set that was split
+  parts_refs : (it : Parts h g n leaf) → PartsRefs h g n it.node it.key it.bits (put leaf (refs h n)) it.ref
+  parts_refs it = record {
+    moved = ap (λ (t : RefSet). t.refs) it.moved;
+    kept = ap (λ (t : RefSet). t.refs) it.set;
+    indirect = it.indirect;
+    ref_key = it.ref_key;
+    ref_bits = it.ref_bits;
+    link = it.link;
+    sides = it.sides;
+    below_moved = it.below_moved;
+    below_kept = it.below_kept;
+  }
 
-    moved_is : refs g it.node ≡ filter (lies it.key it.bits) all
-    moved_is = ap (λ (t : RefSet). t.refs) it.moved
+  all_miss : (it : Parts h g n leaf) (key : ℕ) → holds key leaf ≡ false → NoneHolds key (refs h n) → NoneHolds key (put leaf (refs h n))
+  all_miss it key out miss j r read = elim (put_from leaf (refs h n) it.apart j r read) as (λ _. holds key r ≡ false) [
+    | inl new ↦ subst (λ (x : Ref). holds key x ≡ false) (sym new) out
+    | inr old ↦ miss old.0 r old.1
+  ]
 
-    abbrev pub outer : List Ref
-    outer = filter (λ q. not (lies it.key it.bits q)) all
-
-    set_is : refs g n ≡ put it.ref outer
-    set_is = ap (λ (t : RefSet). t.refs) it.set
-
-    ref_limit : limit it.ref ≡ it.key + 2 ^ it.bits
-    ref_limit = rw (it.ref_key, it.ref_bits) refl
-
-    not_in : (q : Ref) → not (lies it.key it.bits q) ≡ true → lies it.key it.bits q ≡ false
-    not_in q e = by (lies it.key it.bits q) e
-      where
-        by : (b : Bool) → not b ≡ true → b ≡ false
-        by false e' = refl
-        by true e' = let clash : false ≡ true = e' in cc
-
-    ref_apart : IsApart it.ref outer
-    ref_apart i q read =
-        let there = filter_from (λ x. not (lies it.key it.bits x)) all i q read in
-        elim (it.sides there.1.0 q there.1.1) as (λ _. Apart it.ref q) [
-          | inl in_it ↦ let clash : true ≡ false = sym in_it ∙ not_in q there.0 in cc
-          | inr out ↦ elim out as (λ _. Apart it.ref q) [
-            | inl before ↦ inr (omega (arith, before, it.ref_key))
-            | inr behind ↦ inl (omega (arith, behind, ref_limit))
-          ]
-        ]
-
-    -- where the reference to the new node stands
-    ref_there : (i : ℕ) × (slice_get (refs g n) i ≡ Some it.ref)
-    ref_there = let there = put_has it.ref outer ref_apart in (there.0, subst (λ l. slice_get l there.0 ≡ Some it.ref) (sym set_is) there.1)
-
-    link_ref : g.link n it.ref.key ≡ loaded it.node
-    link_ref = ap (g.link n) it.ref_key ∙ it.link
-
-    ref_holds : (key : ℕ) (r : Ref) → lies it.key it.bits r ≡ true → holds key r ≡ true → holds key it.ref ≡ true
-    ref_holds key r in_it in_r =
-        let inside = lies_inside it.key it.bits r in_it in
-        let there = holds_inside key r in_r in
-        in_holds key it.ref (omega (arith, inside.0, there.0, it.ref_key)) (omega (arith, inside.1, there.1, ref_limit))
-
-    -- from the node by a reference of it or by the leaf
-    part_here : (key j : ℕ) (r : Ref) → slice_get all j ≡ Some r → holds key r ≡ true → is_indirect r ≡ false → Reaches g key n (Some r)
-    part_here key j r read in_r is_leaf = by (lies it.key it.bits r) refl
-      where
-        by : (b : Bool) → lies it.key it.bits r ≡ b → Reaches g key n (Some r)
-        by true e =
-            let there = filter_has (lies it.key it.bits) all j r read e in
-            let moved : slice_get (refs g it.node) there.0 ≡ Some r = subst (λ l. slice_get l there.0 ≡ Some r) (sym moved_is) there.1 in
-            below {r = it.ref} ref_there.0 ref_there.1 (ref_holds key r e in_r) it.indirect link_ref (here {r = r} there.0 moved in_r is_leaf)
-        by false e =
-            let there = filter_has (λ q. not (lies it.key it.bits q)) all j r read (ap not e) in
-            let kept = put_keeps it.ref outer ref_apart there.0 r there.1 in
-            here {r = r} kept.0 (subst (λ l. slice_get l kept.0 ≡ Some r) (sym set_is) kept.1) in_r is_leaf
-
-    part_below : (key j c : ℕ) (r : Ref) (o : Option Ref) → slice_get all j ≡ Some r → holds key r ≡ true → is_indirect r ≡ true → h.link n r.key ≡ loaded c → Reaches g key c o → Reaches g key n o
-    part_below key j c r o read in_r ind link rest = by (lies it.key it.bits r) refl
-      where
-        by : (b : Bool) → lies it.key it.bits r ≡ b → Reaches g key n o
-        by true e =
-            let there = filter_has (lies it.key it.bits) all j r read e in
-            let moved : slice_get (refs g it.node) there.0 ≡ Some r = subst (λ l. slice_get l there.0 ≡ Some r) (sym moved_is) there.1 in
-            let inside = lies_inside it.key it.bits r e in
-            let pos = pow_pos r.keybits in
-            let link' : g.link it.node r.key ≡ loaded c = it.below_moved r.key inside.0 (omega (arith, inside.1, pos)) ∙ link in
-            below {r = it.ref} ref_there.0 ref_there.1 (ref_holds key r e in_r) it.indirect link_ref (below {r = r} there.0 moved in_r ind link' rest)
-        by false e =
-            let there = filter_has (λ q. not (lies it.key it.bits q)) all j r read (ap not e) in
-            let kept = put_keeps it.ref outer ref_apart there.0 r there.1 in
-            let pos = pow_pos r.keybits in
-            let outside : (r.key < it.key) ⊎ (it.key + 2 ^ it.bits ≤ r.key) = elim (it.sides j r read) as (λ _. (r.key < it.key) ⊎ (it.key + 2 ^ it.bits ≤ r.key)) [
-              | inl in_it ↦ let clash : true ≡ false = sym in_it ∙ e in cc
-              | inr out ↦ elim out as (λ _. (r.key < it.key) ⊎ (it.key + 2 ^ it.bits ≤ r.key)) [
-                | inl before ↦ inl (omega (arith, before, pos))
-                | inr behind ↦ inr behind
-              ]
-            ] in
-            below {r = r} kept.0 (subst (λ l. slice_get l kept.0 ≡ Some r) (sym set_is) kept.1) in_r ind (it.below_kept r.key outside ∙ link) rest
-
-    all_miss : (key : ℕ) → holds key leaf ≡ false → NoneHolds key (refs h n) → NoneHolds key all
-    all_miss key out miss j r read = elim (put_from leaf (refs h n) it.apart j r read) as (λ _. holds key r ≡ false) [
-      | inl new ↦ subst (λ (x : Ref). holds key x ≡ false) (sym new) out
-      | inr old ↦ miss old.0 r old.1
-    ]
-
-    part_nowhere : (key : ℕ) → NoneHolds key all → Reaches g key n None
-    part_nowhere key miss = by (holds key it.ref) refl
-      where
-        by : (b : Bool) → holds key it.ref ≡ b → Reaches g key n None
-        by true e = below {r = it.ref} ref_there.0 ref_there.1 e it.indirect link_ref (nowhere (λ i r read.
-            let there = filter_from (lies it.key it.bits) all i r (subst (λ l. slice_get l i ≡ Some r) moved_is read) in
-            miss there.1.0 r there.1.1))
-        by false e = nowhere (λ i r read. elim (put_from it.ref outer ref_apart i r (subst (λ l. slice_get l i ≡ Some r) set_is read)) as (λ _. holds key r ≡ false) [
-          | inl new ↦ subst (λ (x : Ref). holds key x ≡ false) (sym new) e
-          | inr old ↦ let there = filter_from (λ q. not (lies it.key it.bits q)) all old.0 r old.1 in miss there.1.0 r there.1.1
-        ])
-
-    parted_node : {key : ℕ} {o : Option Ref} → holds key leaf ≡ false → {at : ℕ} → at ≡ n → Reaches h key at o → Reaches g key n o
-    parted_node {key} out same (nowhere {at = at} miss) = part_nowhere key (all_miss key out (λ i r read. miss i r (subst (λ z. slice_get (refs h z) i ≡ Some r) (sym same) read)))
-    parted_node {key} out same (here {at = at} {r = r} i read in_r is_leaf) =
-        let there = put_keeps leaf (refs h n) it.apart i r (subst (λ z. slice_get (refs h z) i ≡ Some r) same read) in
-        part_here key there.0 r there.1 in_r is_leaf
-    parted_node {key} {o} out same (below {at = at} {c = c} {r = r} i read in_r ind link rest) =
-        let there = put_keeps leaf (refs h n) it.apart i r (subst (λ z. slice_get (refs h z) i ≡ Some r) same read) in
-        let link_n : h.link n r.key ≡ loaded c = subst (λ z. h.link z r.key ≡ loaded c) same link in
-        let kid = (sound.node n stands_n).child r.key c link_n in
-        let rest' : Reaches g key c o = below_node kid.stands kid.root kid.fewer rest in
-        part_below key there.0 c r o there.1 in_r ind link_n rest'
+  parted_node : (it : Parts h g n leaf) → {key : ℕ} {o : Option Ref} → holds key leaf ≡ false → {at : ℕ} → at ≡ n → Reaches h key at o → Reaches g key n o
+  parted_node it {key} out same (nowhere {at = at} miss) = parted_nowhere h g n it.node it.key it.bits (put leaf (refs h n)) it.ref (parts_refs it) key (all_miss it key out (λ i r read. miss i r (subst (λ z. slice_get (refs h z) i ≡ Some r) (sym same) read)))
+  parted_node it {key} out same (here {at = at} {r = r} i read in_r is_leaf) =
+      let there = put_keeps leaf (refs h n) it.apart i r (subst (λ z. slice_get (refs h z) i ≡ Some r) same read) in
+      parted_here h g n it.node it.key it.bits (put leaf (refs h n)) it.ref (parts_refs it) key there.0 r there.1 in_r is_leaf
+  parted_node it {key} {o} out same (below {at = at} {c = c} {r = r} i read in_r ind link rest) =
+      let there = put_keeps leaf (refs h n) it.apart i r (subst (λ z. slice_get (refs h z) i ≡ Some r) same read) in
+      let link_n : h.link n r.key ≡ loaded c = subst (λ z. h.link z r.key ≡ loaded c) same link in
+      let kid = (sound.node n stands_n).child r.key c link_n in
+      let rest' : Reaches g key c o = below_node kid.stands kid.root kid.fewer rest in
+      parted_below h g n it.node it.key it.bits (put leaf (refs h n)) it.ref (parts_refs it) key there.0 c r o there.1 in_r ind link_n rest'
 
   -- however the leaf went in, paths of other keys stay, and its own leads to it
   node_paths : {blocks : ℕ} {old : Option Ref} → TakesIn h g n leaf blocks old → {key : ℕ} {o : Option Ref} → holds key leaf ≡ false → Reaches h key n o → Reaches g key n o
@@ -229,7 +132,7 @@ module _ (h g : Forest) (n : ℕ) (leaf : Ref) (sound : IsSound h) (stands_n : h
       let pos = pow_pos leaf.keybits in
       let own = in_holds leaf.key leaf (omega arith) (omega (arith, pos)) in
       let there = put_has leaf (refs h n) it.apart in
-      part_here it leaf.key there.0 leaf there.1 own is_leaf
+      parted_here h g n it.node it.key it.bits (put leaf (refs h n)) it.ref (parts_refs it) leaf.key there.0 leaf there.1 own is_leaf
 
   -- the same from any node of the tree
   tree_paths : {blocks : ℕ} {old : Option Ref} → TakesIn h g n leaf blocks old → {key at : ℕ} {o : Option Ref} → h.stands at ≡ true → h.root at ≡ h.root n → holds key leaf ≡ false → Reaches h key at o → Reaches g key at o

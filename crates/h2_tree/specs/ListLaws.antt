@@ -28,24 +28,6 @@ has_either (x ∷ a) b r (suc i) read = elim (has_either a b r i read) as (λ _.
   | inr it ↦ inr it
 ]
 
-pub filter_from : (p : Ref → Bool) (l : List Ref) (i : ℕ) (r : Ref) → slice_get (filter p l) i ≡ Some r → (p r ≡ true) × In l r
-filter_from p [] i r read = absurd (none-some r read)
-filter_from p (x ∷ xs) i r read = head (p x) refl i read (filter_from p xs)
-  where
-    head : (b : Bool) → p x ≡ b → (i : ℕ) → slice_get (cond b (x ∷ filter p xs) (filter p xs)) i ≡ Some r → ((i : ℕ) (q : Ref) → slice_get (filter p xs) i ≡ Some q → (p q ≡ true) × ((j : ℕ) × (slice_get xs j ≡ Some q))) → (p r ≡ true) × ((j : ℕ) × (slice_get (x ∷ xs) j ≡ Some r))
-    head true e zero read' more = let same : x ≡ r = (cc) in (ap p (sym same) ∙ e, (0, read'))
-    head true e (suc i) read' more = let it = more i r read' in (it.0, (suc it.1.0, it.1.1))
-    head false e i read' more = let it = more i r read' in (it.0, (suc it.1.0, it.1.1))
-
-pub filter_has : (p : Ref → Bool) (l : List Ref) (j : ℕ) (r : Ref) → slice_get l j ≡ Some r → p r ≡ true → In (filter p l) r
-filter_has p [] j r read e = absurd (none-some r read)
-filter_has p (x ∷ xs) zero r read e = let same : x ≡ r = (cc) in rw (same, e) (0, refl)
-filter_has p (x ∷ xs) (suc j) r read e = head (p x) (filter_has p xs j r read e)
-  where
-    head : (b : Bool) → (i : ℕ) × (slice_get (filter p xs) i ≡ Some r) → (i : ℕ) × (slice_get (cond b (x ∷ filter p xs) (filter p xs)) i ≡ Some r)
-    head true it = (suc it.0, it.1)
-    head false it = it
-
 -- what all pass stays whole
 pub filter_whole : (p : Ref → Bool) (l : List Ref) → ((i : ℕ) (r : Ref) → slice_get l i ≡ Some r → p r ≡ true) → filter p l ≡ l
 filter_whole p [] all = refl

@@ -13,7 +13,8 @@ use Rattle.h2_set.specs.PutLaws.{Rising-filter}
 use Rattle.h2_set.specs.StayLaws.{stands_below}
 use Rattle.h2_set.specs.PathLaws.{in_holds, reaches_one}
 use Rattle.h2_tree.specs.Changes.{Descends, arrived, onward, TakesIn, replaced, placed, parted, ChangesOnly, Inserts, is_between, touches, RangeUnloaded, missing, deeper, Lists}
-use Rattle.h2_tree.specs.ListLaws.{In, has_either, filter_from, filter_has, filter_whole, find_in, same_rising}
+use Rattle.h2_tree.specs.ListLaws.{In, has_either, filter_whole, find_in, same_rising}
+use Rattle.h2_set.specs.EditPathLaws.{filter_from, filter_has}
 
 -- a way down to a node none of whose ranges holds the key leads to none
 none_led : {h : Forest} {key at n : ℕ} → Descends h key at n → NoneHolds key (refs h n) → Reaches h key at None
