@@ -1,11 +1,12 @@
 -- How the trees of a forest of inodes are read: from its loaded nodes, and from what is told of blocks that aren't.
-use Rattle.std.specs.Prelude.{◌≡◌, ◌⊎◌, ℕ, List, Option, Some}
+use Rattle.std.specs.Prelude.{◌≡◌, ◌⊎◌, ℕ, true, false, List, Contains, Option, Some}
 use Rattle.h2_num.specs.Places.{Places}
 use Rattle.h2_ref.specs.declared.reference.Ref.{Ref}
-use Rattle.h2_set.specs.Forest.{Forest, LeavesOf}
+use Rattle.h2_set.specs.Forest.{Forest, LeavesOf, KeepsLeaves}
 use Rattle.h2_inode.specs.declared.inode.Inode.{Inode}
-use Rattle.h2_inode.specs.Nodes.{Fields, Told, HasInode, IsNamed, IsUnloaded}
+use Rattle.h2_inode.specs.Nodes.{Fields, held_by, Told, HasInode, IsNamed, IsUnloaded}
 use Rattle.h2_inode.specs.Access.{Access}
+use Rattle.h2_inode.specs.Following.{Passage}
 
 -- A tree: the one below a root that stands, or one that isn't loaded and whose leaves are told.
 pub data Tree : Type 0 where
@@ -45,3 +46,72 @@ loaded_nodes f holds tells Content = record {
 -- no block of content is read: enough for directories and lists of PFSs
 abbrev pub no_content : Ref → Places → Type 0
 no_content r block = ⊥
+
+-- each leaf names one root at most
+abbrev pub NamesOne : Forest → Type 0
+NamesOne f = (top key c d : ℕ) → IsNamed f top key c → IsNamed f top key d → d ≡ c
+
+-- What is seen of a forest of inodes, and what trees stand for while it is loaded
+
+-- what a reading is made of, but for contents
+pub record View : Type 0 where
+  pub forest : Forest
+  pub holds : ℕ → Option Fields
+  pub tells : Ref → Option Told
+
+-- the view of a value of Nodes, by its forest, by what it keeps beside the sets of roots, and by what it tells
+abbrev pub view_of : {B : Type 0} → (B → Option Fields) → Forest → (ℕ → B) → (Ref → Option Told) → View
+view_of fields f beside tells = record { forest = f; holds = held_by fields beside; tells = tells }
+
+abbrev pub reading : View → (Ref → Places → Type 0) → Access
+reading v Content = loaded_nodes v.forest v.holds v.tells Content
+
+-- what is held beside the sets of nodes that stand stays
+abbrev pub HoldsOn : View → View → Type 0
+HoldsOn u v = (m : ℕ) → u.forest.stands m ≡ true → v.forest.stands m ≡ true → v.holds m ≡ u.holds m
+
+-- so it does but for one root
+abbrev pub HoldsBut : ℕ → View → View → Type 0
+HoldsBut at u v = (m : ℕ) → (m ≡ at → ⊥) → u.forest.stands m ≡ true → v.forest.stands m ≡ true → v.holds m ≡ u.holds m
+
+-- what was told is told
+abbrev pub TellsOn : View → View → Type 0
+TellsOn u v = (r : Ref) (x : Told) → u.tells r ≡ Some x → v.tells r ≡ Some x
+
+-- the second view has the tree of the first: it stands below the same root, or the same leaves are told, or its root
+-- has come, with the leaves that were told
+abbrev pub IsSameTree : View → View → Tree → Tree → Type 0
+IsSameTree u v (at_root m) (at_root n) = (n ≡ m) × (u.forest.stands m ≡ true)
+IsSameTree u v (at_root m) (of_leaves l) = ⊥
+IsSameTree u v (of_leaves l) (at_root n) = (u.forest.stands n ≡ false) × (v.forest.stands n ≡ true) × LeavesOf v.forest n l
+IsSameTree u v (of_leaves l) (of_leaves m) = m ≡ l
+
+-- the leaf is one of the tree
+abbrev pub IsLeafOf : View → Tree → Ref → Type 0
+IsLeafOf v t r = (l : List Ref) × HasAsLeaves v.forest t l × Contains l r
+
+-- All roots that stood stand, with the leaves that are known, and each leaf names the same inode with the same tree.
+pub record Rereads (u v : View) : Type 0 where
+  pub stands : (m : ℕ) → u.forest.stands m ≡ true → v.forest.stands m ≡ true
+  pub leaves : (m : ℕ) → u.forest.stands m ≡ true → KeepsLeaves u.forest v.forest m
+  pub inode : (top : ℕ) (r : Ref) (i : Inode) (t : Tree) → u.forest.stands top ≡ true → IsLeafOf u (at_root top) r → NamesInode u.forest u.holds u.tells (at_root top) r i t
+      → (w : Tree) × NamesInode v.forest v.holds v.tells (at_root top) r i w × IsSameTree u v t w
+  -- below a root that came no inode is loaded
+  pub bare : (top key : ℕ) → u.forest.stands top ≡ false → v.forest.stands top ≡ true → IsUnloaded v.forest top key
+  pub told : (r : Ref) (x : Told) → u.tells r ≡ Some x → v.tells r ≡ Some x
+  pub name : (r : Ref) (name : List ℕ) → u.forest.name r ≡ Some name → v.forest.name r ≡ Some name
+
+-- By some loads one after the other, each of which keeps what is read, the first view became the second one. So each
+-- tree stands for what it stood for.
+pub data StandsAlike : View → View → Type 0 where
+  as_before : {u : View} → StandsAlike u u
+  by_load : {u v w : View} → Rereads u v → StandsAlike v w → StandsAlike u w
+
+-- one reading beside a later one
+abbrev pub over_loads : View → View → (Ref → Places → Type 0) → Passage
+over_loads u v Content = record {
+  from = reading u Content;
+  to = reading v Content;
+  Matches = IsSameTree u v;
+  Like = λ t w r s. (s ≡ r) × IsLeafOf u t r × IsSameTree u v t w;
+}

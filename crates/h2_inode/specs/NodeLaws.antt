@@ -12,7 +12,7 @@ use Rattle.h2_inode.specs.declared.inode.Body.TheVariants.{Refs, Bytes}
 use Rattle.h2_inode.specs.declared.inode.Inode.{Inode}
 use Rattle.h2_inode.specs.Inode.{keys_from}
 use Rattle.h2_inode.specs.Block.{refs_of_body}
-use Rattle.h2_inode.specs.Nodes.{Fields, set_of, IsTreeOf, HasInode, IsNamed, FitsIn, Replaceable, Brings, Replaces}
+use Rattle.h2_inode.specs.Nodes.{Fields, set_of, MayHave, IsTreeOf, HasInode, IsNamed, FitsIn, Replaceable, Brings, Replaces}
 
 -- which leaf names a root stays where both roots stay
 pub named_stays : (f g : Forest) (top key c : ℕ) → InPlace f g top → InPlace f g c → IsNamed f top key c → IsNamed g top key c
@@ -24,6 +24,16 @@ named_stays f g top key c above here h = record {
       (subst (λ x. (f.belongs c t k ≡ true) ↔ (((t ≡ top) × (k ≡ key)) ⊎ (x ≡ true))) (sym (above.belongs t k)) (h.belongs t k));
 }
 
+-- what a leaf names now it named before, where both roots stood
+pub named_back : (f g : Forest) (top key c : ℕ) → InPlace f g top → f.stands c ≡ true → InPlace f g c → IsNamed g top key c → IsNamed f top key c
+named_back f g top key c above stood here h = record {
+  stands = stood;
+  root = sym here.root ∙ h.root;
+  belongs = λ t k.
+      subst (λ x. (x ≡ true) ↔ (((t ≡ top) × (k ≡ key)) ⊎ (f.belongs top t k ≡ true))) (here.belongs t k)
+      (subst (λ x. (g.belongs c t k ≡ true) ↔ (((t ≡ top) × (k ≡ key)) ⊎ (x ≡ true))) (above.belongs t k) (h.belongs t k));
+}
+
 -- a node that is the same stays
 pub same_stays : (f g : Forest) (m : ℕ) → Same f g m → Stays f g m
 same_stays f g m h = record {
@@ -33,12 +43,28 @@ same_stays f g m h = record {
   far = λ k l e. inl (h.link k ∙ e);
 }
 
+-- the inode of a root, where the root and all that it holds stay
+pub inode_held : (f g : Forest) (old new : ℕ → Option Fields) (at : ℕ) (i : Inode) → InPlace f g at → g.leaf_bits at ≡ f.leaf_bits at → ((r : Ref) → g.allows at r ≡ f.allows at r) → g.set at ≡ f.set at → new at ≡ old at
+    → HasInode f old at i → HasInode g new at i
+inode_held f g old new at i place bits allows set same is = record {
+  stands = place.stands;
+  root = place.root ∙ is.root;
+  tree = record {
+    low = place.low ∙ is.tree.low;
+    bits = place.bits ∙ is.tree.bits;
+    leaf_bits = bits ∙ is.tree.leaf_bits;
+    allows = λ r. subst (λ x. (x ≡ true) ↔ MayHave i.kind i.body r) (sym (allows r)) (is.tree.allows r);
+  };
+  fields = same ∙ is.fields;
+  set = set ∙ is.set;
+}
+
 -- a call that brings one root keeps the leaves of all trees
 pub brings_leaves : (f g : Forest) (c : ℕ) → IsSound f → Brings f g c → (at : ℕ) → f.stands at ≡ true → KeepsLeaves f g at
 brings_leaves f g c sound h = leaves_stay_all f g sound (λ m stands. same_stays f g m (h.same m stands))
 
 -- where all nodes of another tree are the same, that tree keeps its leaves
-tree_leaves : (f g : Forest) (top : ℕ) → IsSound f → ((m : ℕ) → f.stands m ≡ true → f.root m ≡ top → Same f g m) → (m : ℕ) → f.stands m ≡ true → f.root m ≡ top → KeepsLeaves f g m
+pub tree_leaves : (f g : Forest) (top : ℕ) → IsSound f → ((m : ℕ) → f.stands m ≡ true → f.root m ≡ top → Same f g m) → (m : ℕ) → f.stands m ≡ true → f.root m ≡ top → KeepsLeaves f g m
 tree_leaves f g top sound same m stands root l leaves =
     leaves_stay f g IsOf closed stay (stands, root) leaves (refs g m) (stay m (stands, root)).alike
   where

@@ -154,6 +154,8 @@ pub record Brings (f g : Forest) (c : ℕ) : Type 0 where
 pub record Seeks (f g : Forest) (top key c : ℕ) : Type 0 where
   pub brings : Brings f g c
   pub named : IsNamed g top key c
+  -- a root that came is named by this leaf alone
+  pub only : f.stands c ≡ false → (t k : ℕ) → IsNamed g t k c → (t ≡ top) × (k ≡ key)
   pub loaded : (d : ℕ) → IsNamed f top key d → c ≡ d
   -- a root that is loaded isn't writable
   pub clean : f.stands c ≡ false → g.writable c ≡ false
@@ -184,6 +186,8 @@ pub record Plants (f g : Forest) (top key c : ℕ) : Type 0 where
   pub brings : Brings f g c
   pub fresh : f.stands c ≡ false
   pub named : IsNamed g top key c
+  -- it is named by this leaf alone
+  pub only : (t k : ℕ) → IsNamed g t k c → (t ≡ top) × (k ≡ key)
   -- what is told below an indirect reference elsewhere is told below it here
   pub told_alike : (m i j : ℕ) (r : Ref) (l : List Ref) → f.stands m ≡ true → slice_get (refs f m) i ≡ Some r → slice_get (refs g c) j ≡ Some r → is_indirect r ≡ true → f.link m r.key ≡ told l → g.link c r.key ≡ told l
   pub writable : g.writable c ≡ true

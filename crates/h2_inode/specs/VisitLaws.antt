@@ -1,13 +1,13 @@
 -- Loads, of indirect blocks and of inodes: they chain, and keep the leaves of all trees, loaded paths, names, and inodes.
-use Rattle.std.specs.Prelude.{◌≡◌, ◌↔◌, ℕ, true, slice_get, Option}
-use Rattle.std.proofs.Common.{ap, sym, ◌∙◌, arith, subst}
+use Rattle.std.specs.Prelude.{◌≡◌, ℕ, true, slice_get, Option}
+use Rattle.std.proofs.Common.{ap, sym, ◌∙◌, arith}
 use Rattle.h2_ref.specs.declared.reference.Ref.{Ref}
 use Rattle.h2_set.specs.RefSet.{RefSet}
 use Rattle.h2_set.specs.Forest.{Forest, KeepsLeaves, IsSound, Walks, Unchanged, KeepsBeside, Reaches, nowhere, here, below}
 use Rattle.h2_set.specs.StayLaws.{Stays-trans, leaves_stay_all, stands_below}
 use Rattle.h2_inode.specs.declared.inode.Inode.{Inode}
-use Rattle.h2_inode.specs.Nodes.{Fields, held_by, MayHave, HasInode, IsInodeLeaf, IsNamed, Seeks, Visits}
-use Rattle.h2_inode.specs.NodeLaws.{named_stays, same_stays}
+use Rattle.h2_inode.specs.Nodes.{Fields, held_by, HasInode, IsInodeLeaf, IsNamed, Seeks, Visits}
+use Rattle.h2_inode.specs.NodeLaws.{named_stays, same_stays, inode_held}
 
 -- What loads
 
@@ -118,19 +118,9 @@ visits_leaf f g top leaf sound h is = record {
 pub visits_name : (f g : Forest) (top key c : ℕ) → Visits f g → f.stands top ≡ true → IsNamed f top key c → IsNamed g top key c
 visits_name f g top key c h stands is = named_stays f g top key c (h.stays top stands).place (h.stays c is.stands).place is
 
--- the inode of a root
+-- the inode of a root, where what it holds beside its set stays
+pub visits_held : (f g : Forest) (old new : ℕ → Option Fields) (at : ℕ) (i : Inode) → Visits f g → new at ≡ old at → HasInode f old at i → HasInode g new at i
+visits_held f g old new at i h same is = inode_held f g old new at i (h.stays at is.stands).place (h.leaf_bits at is.stands) (λ r. h.allows at r is.stands) (h.sets at is.stands) same is
+
 pub visits_inode : {B : Type 0} (fields : B → Option Fields) (f g : Forest) (old new : ℕ → B) (at : ℕ) (i : Inode) → Visits f g → KeepsBeside f g old new → HasInode f (held_by fields old) at i → HasInode g (held_by fields new) at i
-visits_inode fields f g old new at i h beside is =
-    let place = (h.stays at is.stands).place in
-    record {
-      stands = place.stands;
-      root = place.root ∙ is.root;
-      tree = record {
-        low = place.low ∙ is.tree.low;
-        bits = place.bits ∙ is.tree.bits;
-        leaf_bits = h.leaf_bits at is.stands ∙ is.tree.leaf_bits;
-        allows = λ r. subst (λ x. (x ≡ true) ↔ MayHave i.kind i.body r) (sym (h.allows at r is.stands)) (is.tree.allows r);
-      };
-      fields = ap fields (beside.same at is.stands place.stands) ∙ is.fields;
-      set = h.sets at is.stands ∙ is.set;
-    }
+visits_inode fields f g old new at i h beside is = visits_held f g (held_by fields old) (held_by fields new) at i h (ap fields (beside.same at is.stands (h.stays at is.stands).place.stands)) is

@@ -8,9 +8,9 @@ ghost use Rattle.h2_inode.specs.declared.inode.Inode.{Inode};
 ghost use Rattle.h2_inode.specs.Inode.{IsInode, InodeBytes, NoInode};
 ghost use Rattle.h2_inode.specs.Fault.{IsFaultOf};
 ghost use Rattle.h2_set.specs.RefSet.{RefSet};
-ghost use Rattle.h2_set.specs.Forest.{Forest, HasLeaves, LeavesOf, KeepsLeaves, IsSound, InPlace, Stores, Walks};
+ghost use Rattle.h2_set.specs.Forest.{Forest, HasLeaves, LeavesOf, KeepsLeaves, IsSound, InPlace, Reaches, Stores, Walks};
 ghost use Rattle.h2_inode.specs.Block.{Passes, refs_of_body};
-ghost use Rattle.h2_inode.specs.Nodes.{Fields, HasInode, IsInodeLeaf, IsNamed, Brings, Seeks, Visits, Replaces};
+ghost use Rattle.h2_inode.specs.Nodes.{Fields, HasInode, IsInodeLeaf, IsNamed, IsUnloaded, Brings, Seeks, Visits, Plants, Replaces};
 ghost use Rattle.h2_inode.specs.NodeLaws.{NoneGoes};
 ghost use Rattle.h2_inode.specs.Cause.{IsCauseOf};
 
@@ -78,4 +78,25 @@ pub fn visits_law()
     ensures trees { (f g : Forest) (at : ℕ) → IsSound f → Visits f g → f.stands at ≡ true → KeepsLeaves f g at }
     ensures leaves { (f g : Forest) (top : ℕ) (leaf : Ref) → IsSound f → Visits f g → IsInodeLeaf f top leaf → IsInodeLeaf g top leaf }
     ensures names { (f g : Forest) (top key c : ℕ) → Visits f g → f.stands top ≡ true → IsNamed f top key c → IsNamed g top key c }
+{}
+
+/// A law of calls over inodes and of loaded paths. A root that comes leaves them, and which roots leaves name; after
+/// the load or the making of an inode its leaf names one root. Where an inode is replaced by one with the same set, as
+/// where only its size changes, no node goes, and all paths, sets and leaves stay.
+pub fn paths_law()
+    ensures brought { (f g : Forest) (c key at : ℕ) (o : Option Ref) → IsSound f → Brings f g c → f.stands at ≡ true
+        → Reaches f key at o → Reaches g key at o }
+    ensures sought { (f g : Forest) (top key c d : ℕ) → Seeks f g top key c → f.stands top ≡ true → IsNamed g top key d → d ≡ c }
+    ensures planted { (f g : Forest) (top key c d : ℕ) → Plants f g top key c → f.stands top ≡ true → IsUnloaded f top key
+        → IsNamed g top key d → d ≡ c }
+    ensures visited { (f g : Forest) (key at : ℕ) (o : Option Ref) → IsSound f → Visits f g → f.stands at ≡ true
+        → Reaches f key at o → Reaches g key at o }
+    ensures replaced { (f g : Forest) (at : ℕ) (s : RefSet) (top key m : ℕ) (o : Option Ref) → IsSound f → Replaces f g at s
+        → (top ≡ f.root at → ⊥) → NoneGoes f at s top → f.stands m ≡ true → f.root m ≡ top → Reaches f key m o → Reaches g key m o }
+    ensures places { (f g : Forest) (at m : ℕ) → IsSound f → Replaces f g at (f.set at) → f.stands m ≡ true → InPlace f g m }
+    ensures sets { (f g : Forest) (at m : ℕ) → IsSound f → Replaces f g at (f.set at) → f.stands m ≡ true → g.set m ≡ f.set m }
+    ensures paths { (f g : Forest) (at key m : ℕ) (o : Option Ref) → IsSound f → Replaces f g at (f.set at) → f.stands m ≡ true
+        → Reaches f key m o → Reaches g key m o }
+    ensures kept { (f g : Forest) (at m : ℕ) → IsSound f → Replaces f g at (f.set at) → f.stands at ≡ true → f.root at ≡ at
+        → f.stands m ≡ true → KeepsLeaves f g m }
 {}

@@ -27,6 +27,7 @@ mod kind;
 mod laws;
 mod layout;
 mod limits;
+mod loaded_laws;
 mod nodes;
 mod pfs_name;
 
@@ -38,8 +39,12 @@ pub use inode::{Body, Inode};
 pub use judging::judge;
 pub use kind::InodeKind;
 pub use laws::{
-    cause_law, inode_law, inode_or_refusal_law, nodes_law, passing_law, refusal_law, visits_law,
+    cause_law, inode_law, inode_or_refusal_law, nodes_law, passing_law, paths_law, refusal_law,
+    visits_law,
 };
 pub use layout::INODE_BYTES;
+pub use loaded_laws::{
+    leaves_law, loads_law, naming_law, one_reading_law, rereading_law, worked_law,
+};
 pub use nodes::Nodes;
 pub use pfs_name::PfsName;

@@ -10,7 +10,7 @@ use Rattle.h2_inode.specs.declared.inode.Body.TheVariants.{Refs}
 use Rattle.h2_inode.specs.declared.inode.Inode.{Inode}
 use Rattle.h2_inode.specs.Access.{Access}
 use Rattle.h2_inode.specs.PfsList.{ListedPfs}
-use Rattle.h2_meaning.specs.Following.{Passage, itself}
+use Rattle.h2_inode.specs.Following.{Passage, itself}
 
 -- A new volume: tree 0 is the super-root's, tree 1 that of its PFS, and tree 2 that of the empty root directory.
 

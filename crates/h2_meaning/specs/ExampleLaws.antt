@@ -29,10 +29,10 @@ use Rattle.h2_inode.specs.Directory.{IsDirectory}
 use Rattle.h2_meaning.specs.FileTree.{names_in, names_of, HasEntry, IsFileTree}
 use Rattle.h2_inode.specs.PfsList.{ListedPfs, IsPfs, IsPfsList}
 use Rattle.h2_meaning.specs.Forest.{IsTable, IsForest}
-use Rattle.h2_meaning.specs.Single.{IsSingle}
-use Rattle.h2_meaning.specs.Following.{Follows}
-use Rattle.h2_meaning.specs.Targets.{itself_follows}
-use Rattle.h2_meaning.specs.ListLaws.{all_none, all_cons, pairs_none, pairs_cons}
+use Rattle.h2_inode.specs.Single.{IsSingle}
+use Rattle.h2_inode.specs.Following.{Follows}
+use Rattle.h2_inode.specs.FollowLaws.{itself_follows}
+use Rattle.h2_inode.specs.ListLaws.{all_none, all_cons, pairs_none, pairs_cons}
 use Rattle.h2_meaning.specs.Example.{inode_leaf, pfs_inode, listed_root, root_inode, new_volume, unchanged, one_block, content_leaf, entry_leaf, IsSecond}
 
 -- The table with an empty root directory

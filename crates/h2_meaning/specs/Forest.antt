@@ -29,12 +29,12 @@ module _ (a : Access) where
 
   -- the leaf names the PFS, and the tree below it holds its table
   pub record IsWhole (t : a.Tree) (r : Ref) (p : Pfs) : Type 0 where
-    pub named : IsPfs t r (listed_of p)
+    pub named : IsPfs a t r (listed_of p)
     pub holds : IsTable named.tree p.next p.table
 
   -- The super-root's tree holds the list of the PFSs of a forest without handles, and each PFS's tree its table.
   pub record IsForest (t : a.Tree) (next : ℕ) (f : PlainForest) : Type 0 where
-    pub list : IsPfsList t next (map listed_of f.pfss)
+    pub list : IsPfsList a t next (map listed_of f.pfss)
     pub each : OneByOne (IsWhole t) list.leaves f.pfss
     pub next_is : f.next_pfs ≡ next
     pub no_handles : f.handles ≡ empty

@@ -6,7 +6,7 @@ use Rattle.h2_ref.specs.declared.reference.Ref.{Ref}
 use Rattle.h2_ref.specs.Ref.{IsValid, size_of}
 use Rattle.h2_inode.specs.Block.{IsInodeBlock, IsSetBlock, IsContentBlock, IsNameBlock, HoldsRefs, refs_of_body}
 use Rattle.h2_inode.specs.Access.{Access}
-use Rattle.h2_meaning.specs.Following.{Passage}
+use Rattle.h2_inode.specs.Following.{Passage}
 
 -- the bytes from the place of the reference's block on
 abbrev pub block : Places → Ref → Places

@@ -9,7 +9,7 @@ use Rattle.h2_inode.specs.InodeLaws.{inode_one}
 use Rattle.h2_set.specs.SetBytesLaws.{set_one}
 use Rattle.h2_dirkey.specs.BlockLaws.{name_one}
 use Rattle.h2_forest.specs.Forest.{PlainForest}
-use Rattle.h2_meaning.specs.Single.{IsSingle}
+use Rattle.h2_inode.specs.Single.{IsSingle}
 use Rattle.h2_meaning.specs.SingleLaws.{forest_one}
 use Rattle.h2_meaning.specs.Forest.{IsForest}
 use Rattle.h2_meaning.specs.Image.{block, LeavesIn, nothing_left, a_leaf, a_block, in_image}

@@ -13,7 +13,7 @@ use Rattle.h2_inode.specs.Directory.{IsEntry, IsDirectory}
 use Rattle.h2_meaning.specs.Node.{IsMember, HasMembers}
 use Rattle.h2_inode.specs.PfsList.{ListedPfs, IsPfsList}
 use Rattle.h2_meaning.specs.Forest.{InTable, IsTable, IsForest}
-use Rattle.h2_meaning.specs.Following.{Passage}
+use Rattle.h2_inode.specs.Following.{Passage}
 
 -- a tree stands for the bytes of one file of a size at most, for one directory, one table, one list of PFSs, and
 -- one forest

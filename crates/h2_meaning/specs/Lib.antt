@@ -2,9 +2,6 @@ pub mod Embedded
 pub mod Node
 pub mod FileTree
 pub mod Forest
-pub mod Single
-pub mod Following
-pub mod ListLaws
 pub mod SingleLaws
 pub mod CarryLaws
 pub mod OrderLaws

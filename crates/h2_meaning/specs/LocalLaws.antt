@@ -20,10 +20,10 @@ use Rattle.h2_set.specs.SetBytesLaws.{SetBytes-same}
 use Rattle.h2_inode.specs.Block.{HasCheck, IsInodeBlock, IsSetBlock, IsContentBlock, IsNameBlock, HoldsRefs, by_inode, by_set, refs_of_body}
 use Rattle.h2_forest.specs.Forest.{PlainForest}
 use Rattle.h2_inode.specs.Access.{OneByOne}
-use Rattle.h2_meaning.specs.Following.{Follows}
+use Rattle.h2_inode.specs.Following.{Follows}
 use Rattle.h2_meaning.specs.Forest.{IsForest}
-use Rattle.h2_meaning.specs.ListLaws.{all_head, all_tail, all_cons, all_none, all_append}
-use Rattle.h2_meaning.specs.Targets.{same_inode}
+use Rattle.h2_inode.specs.ListLaws.{all_head, all_tail, all_cons, all_none, all_append}
+use Rattle.h2_inode.specs.FollowLaws.{same_inode}
 use Rattle.h2_meaning.specs.CarryLaws.{forest_carried}
 use Rattle.h2_meaning.specs.Image.{block, LeavesIn, nothing_left, a_leaf, a_block, in_image, by_root, by_block, SameReached, IsKnown, between}
 

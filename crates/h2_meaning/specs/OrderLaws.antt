@@ -5,17 +5,12 @@ use Rattle.h2_forest.specs.declared.pfs.Pfs.{Pfs}
 use Rattle.h2_forest.specs.Forest.{PlainForest}
 use Rattle.h2_inode.specs.Access.{Access}
 use Rattle.h2_meaning.specs.Node.{IsMember, HasMembers}
-use Rattle.h2_inode.specs.PfsList.{ListedPfs, IsPfs, IsPfsList}
 use Rattle.h2_meaning.specs.Forest.{IsWhole, IsForest}
-use Rattle.h2_meaning.specs.ListLaws.{keys_ascend}
+use Rattle.h2_inode.specs.ListLaws.{keys_ascend}
 
 -- the numbers of members ascend
 pub numbers_ascend : (a : Access) (T : ℕ → ℕ → Type 0) (t : a.Tree) (members : List (ℕ × Node)) → HasMembers a T t members → AllPairs (λ (x y : ℕ × Node). x.0 < y.0) members
 numbers_ascend a T t members h = keys_ascend (λ (x : ℕ × Node). x.0) (IsMember a T t) (λ r x m. m.number_is) h.leaves members h.each 0 (2 ^ 64) h.has.ordered
-
--- the ids of listed PFSs ascend
-pub listed_ids_ascend : (a : Access) (t : a.Tree) (next : ℕ) (pfss : List ListedPfs) → IsPfsList a t next pfss → AllPairs (λ (p q : ListedPfs). p.id < q.id) pfss
-listed_ids_ascend a t next pfss h = keys_ascend (λ (p : ListedPfs). p.id) (IsPfs a t) (λ r p m. m.id_is) h.leaves pfss h.each 0 (2 ^ 64) h.has.ordered
 
 -- the ids of a forest's PFSs ascend
 pub ids_ascend : (a : Access) (t : a.Tree) (next : ℕ) (f : PlainForest) → IsForest a t next f → AllPairs (λ (p q : Pfs). p.id < q.id) f.pfss

@@ -6,7 +6,7 @@ use Rattle.h2_num.specs.Places.{Places}
 use Rattle.h2_ref.specs.declared.reference.Ref.{Ref}
 use Rattle.h2_set.specs.Ranges.{Rising, limit, lies}
 use Rattle.h2_set.specs.LeafLaws.{Rising-append, Rising-low}
-use Rattle.h2_meaning.specs.ListLaws.{all_head, all_tail}
+use Rattle.h2_inode.specs.ListLaws.{all_head, all_tail}
 use Rattle.h2_meaning.specs.Image.{LeavesIn, nothing_left, a_leaf, a_block}
 
 abbrev LiesIn : Ref → Ref → Type 0

@@ -6,8 +6,8 @@ ghost use Rattle.h2_inode.specs.Contents.{IsContents};
 ghost use Rattle.h2_inode.specs.Directory.{IsDirectory};
 ghost use Rattle.h2_inode.specs.PfsList.{IsPfsList};
 ghost use Rattle.h2_meaning.specs.Forest.{IsForest};
-ghost use Rattle.h2_meaning.specs.Single.{IsSingle};
-ghost use Rattle.h2_meaning.specs.Following.{Follows};
+ghost use Rattle.h2_inode.specs.Single.{IsSingle};
+ghost use Rattle.h2_inode.specs.Following.{Follows};
 ghost use Rattle.h2_meaning.specs.Example.{new_volume, listed_root, unchanged, one_block, content_leaf, entry_leaf, IsSecond};
 
 /// A law: the trees of a new volume, one PFS with an empty root directory, stand for the forest of a formatted

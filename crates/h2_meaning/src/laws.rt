@@ -6,8 +6,8 @@ ghost use Rattle.h2_set.specs.Ranges.{Rising};
 ghost use Rattle.h2_forest.specs.Forest.{PlainForest};
 ghost use Rattle.h2_meaning.specs.Forest.{IsForest};
 ghost use Rattle.h2_meaning.specs.Image.{in_image, LeavesIn, SameReached};
-ghost use Rattle.h2_meaning.specs.Single.{IsSingle};
-ghost use Rattle.h2_meaning.specs.Following.{Follows};
+ghost use Rattle.h2_inode.specs.Single.{IsSingle};
+ghost use Rattle.h2_inode.specs.Following.{Follows};
 ghost use Rattle.h2_meaning.specs.Laws.{OneContents, OneDirectory, OneTable, OnePfsList, OneForest, LeavesAreEntries, EntriesAreLeaves, LeavesAreNodes, NodesAreLeaves, NumbersAscend, ListedIdsAscend, IdsAscend, CarriesContents, CarriesDirectories, CarriesTables, CarriesPfsLists, CarriesForests};
 
 use crate::change::Change;

@@ -1,6 +1,10 @@
 pub mod Lists
+pub mod Nesting
 pub mod Settled
+pub mod Passing
 pub mod Storing
+pub mod Drops
+pub mod Held
 pub mod Nodes
 pub mod Made
 pub mod Making

@@ -3,14 +3,14 @@ use Rattle.std.proofs.Common.{◌≡◌, ℕ, ◌+◌, ◌≤◌, ◌^◌, true,
 use Rattle.h2_ref.specs.declared.reference.Ref.{Ref}
 use Rattle.h2_set.specs.Ranges.{Rising, limit, is_indirect}
 use Rattle.h2_set.specs.RefSet.{RefSet, IsRefSet}
-use Rattle.h2_set.specs.Forest.{Forest, refs, loaded, told, untold, IsSound, IsSoundNode, IsChild, NamesBelow, Fits, Stays, Keeps, Walks, Loads, Below, Alike}
+use Rattle.h2_set.specs.Forest.{Forest, refs, loaded, told, untold, IsSound, IsSoundNode, IsChild, NamesBelow, Fits, InPlace, Stays, Keeps, Walks, Loads, Below, Alike, HasParent}
 use Rattle.h2_set.specs.ChangeLaws.{same_or_not, Keeps-Stays}
 use Rattle.h2_set.specs.LeafLaws.{place_above}
 use Rattle.h2_set.specs.SplitLaws.{below_high}
 use Rattle.h2_set.specs.StayLaws.{Alike-refl}
 use Rattle.h2_memory_sets.specs.View.{AllFitBelow}
 use Rattle.h2_memory_sets.proofs.Lists.{same_key}
-use Rattle.h2_memory_sets.proofs.Settled.{Settled, fits_in, child_in, placed, same_node, same_keeps}
+use Rattle.h2_memory_sets.proofs.Settled.{Settled, fits_in, child_in, placed, same_node, same_keeps, same_top, sound_of}
 
 -- two forests of which the second has one node loaded that the first hasn't
 pub record DiffersByLoad (f g : Forest) (at c : ℕ) (r : Ref) : Type 0 where
@@ -54,6 +54,12 @@ module _ (f g : Forest) (at c i : ℕ) (r : Ref) (d : DiffersByLoad f g at c r) 
   ends : limit r ≤ f.low at + 2 ^ f.bits at
   ends = below_high _ _ (refs f at) i r node.inside read
 
+  stays : (m : ℕ) → f.stands m ≡ true → g.stands m ≡ true
+  stays = d.settled.stands
+
+  place : (m : ℕ) → f.stands m ≡ true → InPlace f g m
+  place m st = d.settled.loose.place m st (stays m st)
+
   refs_same : (m : ℕ) → f.stands m ≡ true → refs g m ≡ refs f m
   refs_same m st = ap (λ (t : RefSet). t.refs) (d.there m st)
 
@@ -62,7 +68,7 @@ module _ (f g : Forest) (at c i : ℕ) (r : Ref) (d : DiffersByLoad f g at c r) 
 
   fresh_child : IsChild g at r.key c
   fresh_child =
-      let p = d.settled.place at stands in
+      let p = place at stands in
       record {
         stands = d.new;
         root = d.root ∙ sym p.root;
@@ -70,13 +76,13 @@ module _ (f g : Forest) (at c i : ℕ) (r : Ref) (d : DiffersByLoad f g at c r) 
         above = rw (p.low, d.low) starts;
         within = rw (p.low, d.low, p.bits, d.bits) ends;
         fewer = rw (p.bits, d.bits) (fits.falls ind);
-        copies = rw (d.settled.copies c, d.settled.copies at, d.settled.writable c, d.settled.uncopied c, d.settled.uncopied at, d.settled.all_writable c) refl;
-        belongs = λ t k. d.settled.none_belong c t k ∙ sym (d.settled.none_belong at t k);
+        copies = (let s = d.settled.loose in rw (s.copies c, s.copies at, s.writable c, s.uncopied c, s.uncopied at, s.all_writable c) refl);
+        belongs = λ t k. d.settled.loose.none_belong c t k ∙ sym (d.settled.loose.none_belong at t k);
       }
 
   here_child : (k e : ℕ) → g.link at k ≡ loaded e → IsChild g at k e
   here_child k e l = elim (same_or_not k r.key) as (λ _. IsChild g at k e) [
-    | inr ne ↦ child_in f g d.settled at k e stands (node.child k e (sym (d.link at k stands (λ _ q. ne q)) ∙ l))
+    | inr ne ↦ let kid = node.child k e (sym (d.link at k stands (λ _ q. ne q)) ∙ l) in child_in f g d.settled.loose at k e stands (stays at stands) (stays e kid.stands) kid
     | inl same ↦
         let it : c ≡ e = at_start e (ap (g.link at) (sym same) ∙ l) in
         subst (λ z. IsChild g at z e) (sym same) (subst (IsChild g at r.key) it fresh_child)
@@ -93,7 +99,7 @@ module _ (f g : Forest) (at c i : ℕ) (r : Ref) (d : DiffersByLoad f g at c r) 
     | inr ne ↦
         let l' : f.link at q.key ≡ loaded e = sym (d.link at q.key stands (λ _ k. ne k)) ∙ l in
         let kid = node.child q.key e l' in
-        (d.settled.place e kid.stands).bits ∙ node.bits j e q got q_ind l'
+        (place e kid.stands).bits ∙ node.bits j e q got q_ind l'
     | inl same ↦
         let it : c ≡ e = at_start e (ap (g.link at) (sym same) ∙ l) in
         let one : q ≡ r = same_key _ _ (refs f at) j i q r node.inside got read same in
@@ -102,12 +108,13 @@ module _ (f g : Forest) (at c i : ℕ) (r : Ref) (d : DiffersByLoad f g at c r) 
 
   here_node : IsSoundNode g at
   here_node =
-      let p = d.settled.place at stands in
+      let p = place at stands in
       let same = refs_same at stands in
-      placed f g d.settled at stands node (record {
+      placed f g d.settled.loose at stands (stays at stands) node (record {
         set = rw (d.there at stands) node.set;
+        capacity = ap (λ (t : RefSet). t.capacity) (d.there at stands);
         inside = rw (same, p.low, p.bits) node.inside;
-        fits = λ j q got. fits_in f g d.settled at q stands (node.fits j q (rw same at got));
+        fits = λ j q got. fits_in f g d.settled.loose at q stands (stays at stands) (node.fits j q (rw same at got));
         some = λ top. rw same (node.some (λ e. top (p.root ∙ e)));
         child = here_child;
         named = λ k e l. rw same (here_named k e l);
@@ -117,12 +124,13 @@ module _ (f g : Forest) (at c i : ℕ) (r : Ref) (d : DiffersByLoad f g at c r) 
   new_fits : (j : ℕ) (q : Ref) → slice_get (refs g c) j ≡ Some q → Fits g c q
   new_fits j q got =
       let h = d.fits.each j q got in
-      let grain : g.leaf_bits (g.root c) ≡ f.leaf_bits (f.root at) = ap g.leaf_bits d.root ∙ d.settled.fixed.leaf_bits (f.root at) in
+      let grain : g.leaf_bits (g.root c) ≡ f.leaf_bits (f.root at) = ap g.leaf_bits d.root ∙ d.settled.loose.fixed.leaf_bits (f.root at) in
       record {
+        held = h.held;
         aligned = h.aligned;
         class = h.class;
         leaf = λ k. h.leaf k ∙ sym grain;
-        allowed = λ k. d.settled.fixed.allows (g.root c) q ∙ d.settled.all_allowed (g.root c) q;
+        allowed = λ k. d.settled.loose.fixed.allows (g.root c) q ∙ d.settled.loose.all_allowed (g.root c) q;
         wide = λ k. rw grain (h.wide k);
         some_bits = h.some_bits;
         falls = λ k. rw d.bits h.fewer;
@@ -136,6 +144,8 @@ module _ (f g : Forest) (at c i : ℕ) (r : Ref) (d : DiffersByLoad f g at c r) 
       let stop = ends in
       record {
         set = d.set;
+        root_capacity = λ top. absurd (d.under (sym d.root ∙ top));
+        block_capacity = λ _. d.fits.capacity;
         inside = rw (d.low, d.bits) (Rising-between 0 r.key (2 ^ 64) (limit r) (refs g c) d.set.rising (λ j q got. (d.fits.each j q got).low) (λ j q got. (d.fits.each j q got).high) (omega arith));
         aligned = rw (d.low, d.bits) fits.aligned;
         ends = rw (d.low, d.bits) (omega (arith, top, stop));
@@ -144,9 +154,9 @@ module _ (f g : Forest) (at c i : ℕ) (r : Ref) (d : DiffersByLoad f g at c r) 
         child = λ k e l. absurd (d.bare k e l);
         named = λ k e l. absurd (d.bare k e l);
         bits = λ j e q got q_ind l. absurd (d.bare q.key e l);
-        top = λ _. d.settled.copies c ∙ d.settled.uncopied c;
+        top = λ _. d.settled.loose.copies c ∙ d.settled.loose.uncopied c;
         half = λ top. absurd (d.under (sym d.root ∙ top));
-        slope = rw (d.settled.copies c, d.settled.uncopied c, d.bits) (omega (arith, fewer, slope));
+        slope = rw (d.settled.loose.copies c, d.settled.loose.uncopied c, d.bits) (omega (arith, fewer, slope));
       }
 
   pub keeps : (m : ℕ) → f.stands m ≡ true → (m ≡ at → ⊥) → Keeps f g m
@@ -154,7 +164,7 @@ module _ (f g : Forest) (at c i : ℕ) (r : Ref) (d : DiffersByLoad f g at c r) 
 
   here_stays : Stays f g at
   here_stays = record {
-    place = d.settled.place at stands;
+    place = place at stands;
     alike = subst (λ (t : RefSet). Alike (refs f at) t.refs) (sym (d.there at stands)) (Alike-refl (refs f at));
     near = λ k e l. elim (same_or_not k r.key) as (λ _. g.link at k ≡ loaded e) [
       | inr ne ↦ d.link at k stands (λ _ q. ne q) ∙ l
@@ -176,26 +186,49 @@ module _ (f g : Forest) (at c i : ℕ) (r : Ref) (d : DiffersByLoad f g at c r) 
     ];
   }
 
+  new_top : (g.stands (g.root c) ≡ true) × (g.root (g.root c) ≡ g.root c)
+  new_top =
+      let t = sound.top at stands in
+      let q = place (f.root at) t.0 in
+      (ap g.stands d.root ∙ q.stands, ap g.root d.root ∙ q.root ∙ t.1 ∙ sym d.root)
+
+  old_parent : (m : ℕ) → f.stands m ≡ true → (g.root m ≡ m → ⊥) → HasParent g m
+  old_parent m old ne =
+      let p = place m old in
+      let h = sound.parent m old (λ e. ne (p.root ∙ e)) in
+      let off : h.parent ≡ at → f.low m ≡ r.key → ⊥ = λ e q. (let clash : untold ≡ loaded m = sym d.was ∙ ap (f.link at) (sym q) ∙ ap (λ z. f.link z (f.low m)) (sym e) ∙ h.link in cc) in
+      record { parent = h.parent; stands = stays h.parent h.stands; link = ap (g.link h.parent) p.low ∙ d.link h.parent (f.low m) h.stands off ∙ h.link }
+
   pub walks : Walks f g
   walks = record {
-    sound = record {
-      node = λ m st. elim (same_or_not m c) as (λ _. IsSoundNode g m) [
-        | inl e ↦ subst (IsSoundNode g) (sym e) new_node
-        | inr ne ↦ elim (same_or_not m at) as (λ _. IsSoundNode g m) [
-          | inl e ↦ subst (IsSoundNode g) (sym e) here_node
-          | inr off ↦ let old = d.stands m ne st in same_node f g d.settled m old (sound.node m old) (d.there m old) (λ k. d.link m k old (λ e _. off e))
-        ]
-      ];
-      held = λ m held. let miss : g.held m ≡ false = d.settled.fixed.held m ∙ d.settled.none_held m in let clash : true ≡ false = sym held ∙ miss in absurd (cc);
-    };
-    fixed = d.settled.fixed;
+    sound = sound_of f g d.settled.loose sound
+        (λ m st. elim (same_or_not m c) as (λ _. IsSoundNode g m) [
+          | inl e ↦ subst (IsSoundNode g) (sym e) new_node
+          | inr ne ↦ elim (same_or_not m at) as (λ _. IsSoundNode g m) [
+            | inl e ↦ subst (IsSoundNode g) (sym e) here_node
+            | inr off ↦ let old = d.stands m ne st in same_node f g d.settled.loose m old st (sound.node m old) (d.there m old) (λ k. d.link m k old (λ e _. off e)) (λ k e l. stays e ((sound.node m old).child k e l).stands)
+          ]
+        ])
+        (λ m st. elim (same_or_not m c) as (λ _. (g.stands (g.root m) ≡ true) × (g.root (g.root m) ≡ g.root m)) [
+          | inl e ↦ subst (λ z. (g.stands (g.root z) ≡ true) × (g.root (g.root z) ≡ g.root z)) (sym e) new_top
+          | inr ne ↦ let old = d.stands m ne st in same_top f g d.settled.loose m sound old st (stays (f.root m) (sound.top m old).0)
+        ])
+        (λ m st ne. elim (same_or_not m c) as (λ _. HasParent g m) [
+          | inl e ↦ subst (HasParent g) (sym e) (record { parent = at; stands = stays at stands; link = ap (g.link at) d.low ∙ d.child })
+          | inr off ↦ old_parent m (d.stands m off st) ne
+        ]);
+    fixed = d.settled.loose.fixed;
     stays = λ m st. elim (same_or_not m at) as (λ _. Stays f g m) [
       | inl e ↦ subst (Stays f g) (sym e) here_stays
       | inr off ↦ Keeps-Stays f g m (keeps m st off)
     ];
+    roots = λ m st own. elim (same_or_not m c) as (λ _. f.stands m ≡ true) [
+      | inl e ↦ absurd (d.under (sym d.root ∙ subst (λ z. g.root z ≡ z) e own))
+      | inr ne ↦ d.stands m ne st
+    ];
     sets = λ m st. d.there m st;
-    writable = λ m st. d.settled.writable m;
-    copies = λ m st. d.settled.copies m;
+    writable = λ m st. d.settled.loose.writable m;
+    copies = λ m st. d.settled.loose.copies m;
     spare = d.spare;
     room = d.room;
   }

@@ -7,7 +7,8 @@ use Rattle.h2_ref.specs.declared.reference.Ref.{Ref}
 use Rattle.h2_set.specs.declared.set.Split.{Split}
 use Rattle.h2_set.specs.Ranges.{Rising, limit, put, lies, is_indirect, IsApart, Apart}
 use Rattle.h2_set.specs.RefSet.{RefSet, IsRefSet, with_rest}
-use Rattle.h2_set.specs.Forest.{Forest, refs, loaded, untold, IsSound, IsSoundNode, IsChild, NamesBelow, Fits, MadeFrom, Makes}
+use Rattle.h2_set.specs.SetBytes.{IsHeld}
+use Rattle.h2_set.specs.Forest.{Forest, refs, loaded, untold, IsSound, IsSoundNode, IsChild, NamesBelow, Fits, MadeFrom, Makes, HasParent, InPlace}
 use Rattle.h2_set.specs.ChangeLaws.{same_or_not}
 use Rattle.h2_set.specs.LeafLaws.{Rising-low}
 use Rattle.h2_set.specs.EditLaws.{Rising-put, length-put}
@@ -16,7 +17,7 @@ use Rattle.h2_set.specs.SplitLaws.{lies_in}
 use Rattle.h2_set.specs.MadeLaws.{put_rising, put_fits, PartsNode, parts_node}
 use Rattle.h2_memory_sets.specs.View.{names}
 use Rattle.h2_memory_sets.proofs.Lists.{names_below, below_names, filter_from, filter_keeps, put_there, Rising-within}
-use Rattle.h2_memory_sets.proofs.Settled.{fits_in, child_in, placed, same_node, same_all}
+use Rattle.h2_memory_sets.proofs.Settled.{fits_in, child_in, placed, same_node, same_all, same_top, sound_of}
 use Rattle.h2_memory_sets.proofs.Made.{DiffersByMake}
 use Rattle.h2_memory_sets.proofs.Sides.{at_start, in_range, outside, same_bool, where_lies, count_not, not_false, off_range, on_range, off_key, off_lies, Rising-wide}
 
@@ -199,7 +200,13 @@ module _ (f : Forest) (at : ℕ) (set : RefSet) (s : Split) (ref leaf : Ref) (so
   pub whole_length : length (put ref (with_rest s.rest set.refs)) ≤ set.capacity
   whole_length = whole_set.fits
 
-  module _ (g : Forest) (c : ℕ) (d : DiffersByMake f g at c set s ref) where
+  module _ (g : Forest) (c : ℕ) (d : DiffersByMake f g at c set s ref) (ref_held : IsHeld ref) where
+    stays : (m : ℕ) → f.stands m ≡ true → g.stands m ≡ true
+    stays = d.settled.stands
+
+    place : (m : ℕ) → f.stands m ≡ true → InPlace f g m
+    place m st = d.settled.loose.place m st (stays m st)
+
     refs_here : refs g at ≡ put ref (filter (λ q. not (lies s.key s.keybits q)) (put leaf (refs f at)))
     refs_here = ap (λ (t : RefSet). t.refs) d.now ∙ ap (put ref) made.kept
 
@@ -223,7 +230,8 @@ module _ (f : Forest) (at : ℕ) (set : RefSet) (s : Split) (ref leaf : Ref) (so
 
     -- the reference to the new node fits
     ref_fits : Fits g at ref
-    ref_fits = fits_in f g d.settled at ref stands (record {
+    ref_fits = fits_in f g d.settled.loose at ref stands (stays at stands) (record {
+      held = ref_held;
       aligned = rw (key_is, bits_is) made.split.half.aligned;
       class = rw key_is parts.class;
       leaf = λ miss. let clash : true ≡ false = sym is_ind ∙ miss in absurd (cc);
@@ -236,13 +244,13 @@ module _ (f : Forest) (at : ℕ) (set : RefSet) (s : Split) (ref leaf : Ref) (so
     here_child : (k e : ℕ) → g.link at k ≡ loaded e → IsChild g at k e
     here_child k e l = elim (where_lies s.key s.keybits k) as (λ _. IsChild g at k e) [
       | in_range ne lo hi ↦ absurd (d.only k e ne lo hi l)
-      | outside out ↦ child_in f g d.settled at k e stands (node.child k e (sym (kept k out) ∙ l))
+      | outside out ↦ let kid = node.child k e (sym (kept k out) ∙ l) in child_in f g d.settled.loose at k e stands (stays at stands) (stays e kid.stands) kid
       | at_start start ↦ let same : loaded c ≡ loaded e = sym child ∙ ap (g.link at) (sym start) ∙ l in let it : c ≡ e = (cc) in subst (IsChild g at k) it (fresh_child k start)
     ]
       where
         fresh_child : (k : ℕ) → k ≡ s.key → IsChild g at k c
         fresh_child k start =
-            let p = d.settled.place at stands in
+            let p = place at stands in
             record {
               stands = d.new;
               root = d.root ∙ sym p.root;
@@ -250,8 +258,8 @@ module _ (f : Forest) (at : ℕ) (set : RefSet) (s : Split) (ref leaf : Ref) (so
               above = rw (p.low, d.low) parts.range_low;
               within = rw (p.low, d.low, p.bits, d.bits) parts.range_high;
               fewer = rw (p.bits, d.bits) parts.fewer;
-              copies = rw (d.settled.copies c, d.settled.copies at, d.settled.writable c, d.settled.uncopied c, d.settled.uncopied at, d.settled.all_writable c) refl;
-              belongs = λ t j. d.settled.none_belong c t j ∙ sym (d.settled.none_belong at t j);
+              copies = (let s = d.settled.loose in rw (s.copies c, s.copies at, s.writable c, s.uncopied c, s.uncopied at, s.all_writable c) refl);
+              belongs = λ t j. d.settled.loose.none_belong c t j ∙ sym (d.settled.loose.none_belong at t j);
             }
 
     here_named : (k e : ℕ) → g.link at k ≡ loaded e → NamesBelow (put ref (filter (λ q. not (lies s.key s.keybits q)) (put leaf (refs f at)))) k
@@ -279,20 +287,21 @@ module _ (f : Forest) (at : ℕ) (set : RefSet) (s : Split) (ref leaf : Ref) (so
           let was = stood st.place q st.read ind in
           let l' : f.link at q.key ≡ loaded e = sym (kept q.key (off_key s.key s.keybits q st.off)) ∙ l in
           let kid = node.child q.key e l' in
-          (d.settled.place e kid.stands).bits ∙ node.bits was.place e q was.read ind l'
+          (place e kid.stands).bits ∙ node.bits was.place e q was.read ind l'
     ]
 
     here_fits : (i : ℕ) (q : Ref) → slice_get (put ref (filter (λ q. not (lies s.key s.keybits q)) (put leaf (refs f at)))) i ≡ Some q → Fits g at q
     here_fits i q read = elim (put_from ref (filter (λ q. not (lies s.key s.keybits q)) (put leaf (refs f at))) ref_apart i q read) as (λ _. Fits g at q) [
       | inl same ↦ subst (Fits g at) (sym same) ref_fits
-      | inr old ↦ let st = stayed old.0 q old.1 in fits_in f g d.settled at q stands (all_fits st.place q st.read)
+      | inr old ↦ let st = stayed old.0 q old.1 in fits_in f g d.settled.loose at q stands (stays at stands) (all_fits st.place q st.read)
     ]
 
     pub here_node : IsSoundNode g at
     here_node =
-        let p = d.settled.place at stands in
-        placed f g d.settled at stands node (record {
+        let p = place at stands in
+        placed f g d.settled.loose at stands (stays at stands) node (record {
           set = rw (d.now, made.kept) here_set;
+          capacity = ap (λ (t : RefSet). t.capacity) d.now ∙ made.capacity;
           inside = rw (refs_here, p.low, p.bits) here_rising;
           fits = λ i q read. here_fits i q (rw refs_here at read);
           some = λ top. rw (refs_here, here_length) (omega arith);
@@ -305,12 +314,13 @@ module _ (f : Forest) (at : ℕ) (set : RefSet) (s : Split) (ref leaf : Ref) (so
     new_fits i q read =
         let it = came i q read in
         let h = all_fits it.1 q it.2 in
-        let grain : g.leaf_bits (g.root c) ≡ f.leaf_bits (f.root at) = ap g.leaf_bits d.root ∙ d.settled.fixed.leaf_bits (f.root at) in
+        let grain : g.leaf_bits (g.root c) ≡ f.leaf_bits (f.root at) = ap g.leaf_bits d.root ∙ d.settled.loose.fixed.leaf_bits (f.root at) in
         record {
+          held = h.held;
           aligned = h.aligned;
           class = h.class;
           leaf = λ k. h.leaf k ∙ sym grain;
-          allowed = λ k. d.settled.fixed.allows (g.root c) q ∙ d.settled.all_allowed (g.root c) q;
+          allowed = λ k. d.settled.loose.fixed.allows (g.root c) q ∙ d.settled.loose.all_allowed (g.root c) q;
           wide = λ k. rw grain (h.wide k);
           some_bits = h.some_bits;
           falls = λ k. rw d.bits (parts.shorter it.1 q it.2 it.0);
@@ -337,7 +347,7 @@ module _ (f : Forest) (at : ℕ) (set : RefSet) (s : Split) (ref leaf : Ref) (so
     new_child k e l =
         let was = was_below k e l in
         let kid = node.child k e was.link in
-        let p = d.settled.place e kid.stands in
+        let p = place e kid.stands in
         let n = was.named in
         let m = moved_there k was.lo was.hi n in
         let bits_is : f.bits e ≡ n.ref.keybits = node.bits n.place e n.ref n.read n.indirect (rw n.key was.link) in
@@ -354,8 +364,8 @@ module _ (f : Forest) (at : ℕ) (set : RefSet) (s : Split) (ref leaf : Ref) (so
           above = rw (d.low, p.low, low_is) was.lo;
           within = rw (d.low, d.bits, p.low, p.bits, low_is) end';
           fewer = rw (d.bits, p.bits, bits_is) (parts.shorter m.all_place n.ref m.all_read m.lies_there);
-          copies = rw (d.settled.copies c, d.settled.copies e, d.settled.writable e, d.settled.uncopied c, d.settled.uncopied e, d.settled.all_writable e) refl;
-          belongs = λ t j. d.settled.none_belong e t j ∙ sym (d.settled.none_belong c t j);
+          copies = (let s = d.settled.loose in rw (s.copies c, s.copies e, s.writable e, s.uncopied c, s.uncopied e, s.all_writable e) refl);
+          belongs = λ t j. d.settled.loose.none_belong e t j ∙ sym (d.settled.loose.none_belong c t j);
         }
 
     new_named : (k e : ℕ) → g.link c k ≡ loaded e → NamesBelow (filter (lies s.key s.keybits) (put leaf (refs f at))) k
@@ -370,7 +380,7 @@ module _ (f : Forest) (at : ℕ) (set : RefSet) (s : Split) (ref leaf : Ref) (so
         let st = stood it.1 q it.2 ind in
         let was = was_below q.key e l in
         let kid = node.child q.key e was.link in
-        (d.settled.place e kid.stands).bits ∙ node.bits st.place e q st.read ind was.link
+        (place e kid.stands).bits ∙ node.bits st.place e q st.read ind was.link
 
     new_node : IsSoundNode g c
     new_node =
@@ -379,6 +389,8 @@ module _ (f : Forest) (at : ℕ) (set : RefSet) (s : Split) (ref leaf : Ref) (so
         let slope = node.slope in
         record {
           set = rw (d.moved, made.moved) new_set;
+          root_capacity = λ top. absurd (d.under (sym d.root ∙ top));
+          block_capacity = λ _. ap (λ (t : RefSet). t.capacity) (d.moved ∙ made.moved);
           inside = rw (refs_new, d.low, d.bits) inner_rising;
           aligned = rw (d.low, d.bits) made.split.half.aligned;
           ends = rw (d.low, d.bits) (let e = node.ends in omega (arith, high, e));
@@ -387,38 +399,70 @@ module _ (f : Forest) (at : ℕ) (set : RefSet) (s : Split) (ref leaf : Ref) (so
           child = new_child;
           named = λ k e l. rw refs_new (new_named k e l);
           bits = λ i e q read ind l. new_bits i e q (rw refs_new at read) ind l;
-          top = λ _. d.settled.copies c ∙ d.settled.uncopied c;
+          top = λ _. d.settled.loose.copies c ∙ d.settled.loose.uncopied c;
           half = λ top. absurd (d.under (sym d.root ∙ top));
-          slope = rw (d.settled.copies c, d.settled.uncopied c, d.bits) (omega (arith, fewer, slope));
+          slope = rw (d.settled.loose.copies c, d.settled.loose.uncopied c, d.bits) (omega (arith, fewer, slope));
         }
+
+    new_top : (g.stands (g.root c) ≡ true) × (g.root (g.root c) ≡ g.root c)
+    new_top =
+        let t = sound.top at stands in
+        let q = place (f.root at) t.0 in
+        (ap g.stands d.root ∙ q.stands, ap g.root d.root ∙ q.root ∙ t.1 ∙ sym d.root)
+
+    -- a node that was below the old one is below it or the new one
+    moved_parent : (m : ℕ) → f.stands m ≡ true → f.link at (f.low m) ≡ loaded m → HasParent g m
+    moved_parent m old link = elim (where_lies s.key s.keybits (f.low m)) as (λ _. HasParent g m) [
+      | outside out ↦ record { parent = at; stands = stays at stands; link = ap (g.link at) (place m old).low ∙ kept (f.low m) out ∙ link }
+      | at_start start ↦ let pos = pow_pos s.keybits in under (omega (arith, start)) (omega (arith, start, pos))
+      | in_range ne lo hi ↦ under lo hi
+    ]
+      where
+        under : s.key ≤ f.low m → f.low m < s.key + 2 ^ s.keybits → HasParent g m
+        under lo hi = record { parent = c; stands = d.new; link = ap (g.link c) (place m old).low ∙ below (f.low m) lo hi ∙ link }
+
+    old_parent : (m : ℕ) → f.stands m ≡ true → (g.root m ≡ m → ⊥) → HasParent g m
+    old_parent m old ne =
+        let p = place m old in
+        let h = sound.parent m old (λ e. ne (p.root ∙ e)) in
+        elim (same_or_not h.parent at) as (λ _. HasParent g m) [
+          | inl e ↦ moved_parent m old (ap (λ z. f.link z (f.low m)) (sym e) ∙ h.link)
+          | inr off ↦ record { parent = h.parent; stands = stays h.parent h.stands; link = ap (g.link h.parent) p.low ∙ d.link h.parent (f.low m) h.stands off ∙ h.link }
+        ]
 
     pub makes : Makes f g at c set s
     makes = record {
-      sound = record {
-        node = λ m st. elim (same_or_not m c) as (λ _. IsSoundNode g m) [
-          | inl e ↦ subst (IsSoundNode g) (sym e) new_node
-          | inr ne ↦ elim (same_or_not m at) as (λ _. IsSoundNode g m) [
-            | inl e ↦ subst (IsSoundNode g) (sym e) here_node
-            | inr off ↦ let old = d.stands m ne st in same_node f g d.settled m old (sound.node m old) (d.there m old off) (λ k. d.link m k old off)
-          ]
-        ];
-        held = λ m held. let miss : g.held m ≡ false = d.settled.fixed.held m ∙ d.settled.none_held m in let clash : true ≡ false = sym held ∙ miss in absurd (cc);
-      };
-      fixed = d.settled.fixed;
+      sound = sound_of f g d.settled.loose sound
+          (λ m st. elim (same_or_not m c) as (λ _. IsSoundNode g m) [
+            | inl e ↦ subst (IsSoundNode g) (sym e) new_node
+            | inr ne ↦ elim (same_or_not m at) as (λ _. IsSoundNode g m) [
+              | inl e ↦ subst (IsSoundNode g) (sym e) here_node
+              | inr off ↦ let old = d.stands m ne st in same_node f g d.settled.loose m old st (sound.node m old) (d.there m old off) (λ k. d.link m k old off) (λ k e l. stays e ((sound.node m old).child k e l).stands)
+            ]
+          ])
+          (λ m st. elim (same_or_not m c) as (λ _. (g.stands (g.root m) ≡ true) × (g.root (g.root m) ≡ g.root m)) [
+            | inl e ↦ subst (λ z. (g.stands (g.root z) ≡ true) × (g.root (g.root z) ≡ g.root z)) (sym e) new_top
+            | inr ne ↦ let old = d.stands m ne st in same_top f g d.settled.loose m sound old st (stays (f.root m) (sound.top m old).0)
+          ])
+          (λ m st ne. elim (same_or_not m c) as (λ _. HasParent g m) [
+            | inl e ↦ subst (HasParent g) (sym e) (record { parent = at; stands = stays at stands; link = ap (g.link at) d.low ∙ child })
+            | inr off ↦ old_parent m (d.stands m off st) ne
+          ]);
+      fixed = d.settled.loose.fixed;
       fresh = d.fresh;
       child = child;
       moved = d.moved;
-      new_writable = d.settled.writable c ∙ d.settled.all_writable c;
+      new_writable = d.settled.loose.writable c ∙ d.settled.loose.all_writable c;
       ref = ref;
       indirect = is_ind;
       key = key_is;
       keybits = bits_is;
       now = d.now;
-      place = d.settled.place at stands;
+      place = place at stands;
       below_moved = below;
       below_kept = kept;
-      copies = d.settled.copies at;
-      others = λ m st off. same_all f g d.settled m st (d.there m st off) (λ k. d.link m k st off);
+      copies = d.settled.loose.copies at;
+      others = λ m st off. same_all f g d.settled.loose m st (stays m st) (d.there m st off) (λ k. d.link m k st off);
       none_new = λ m st. elim (same_or_not m c) as (λ _. (m ≡ c) ⊎ (f.stands m ≡ true)) [
         | inl e ↦ inl e
         | inr ne ↦ inr (d.stands m ne st)

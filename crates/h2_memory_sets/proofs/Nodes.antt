@@ -10,8 +10,7 @@ use Rattle.h2_set.specs.Forest.{IsSound, ReadiesOnly, Unchanged}
 use Rattle.h2_set.specs.ChangeLaws.{same_or_not}
 use Rattle.h2_memory_sets.specs.declared.node.Node.{Node}
 use Rattle.h2_memory_sets.specs.View.{stands_of, set_of, root_of, low_of, bits_of, leaf_bits_of, is_child, link_to, link_of, with_set, new_node, moved_all, parted, forest_with}
-use Rattle.h2_memory_sets.proofs.Settled.{Settled, readies, counts_rise}
-use Rattle.h2_memory_sets.proofs.Storing.{DiffersByStore}
+use Rattle.h2_memory_sets.proofs.Settled.{Loose, Settled, readies, counts_rise}
 
 -- a test that passes at the same places of two lists
 pub first_same : {X : Type 0} (p q : X → Bool) (xs ys : List X) → length xs ≡ length ys → ((i : ℕ) (x y : X) → slice_get xs i ≡ Some x → slice_get ys i ≡ Some y → p x ≡ q y) → position_or_len p xs ≡ position_or_len q ys
@@ -49,17 +48,24 @@ is_there (x ∷ xs) zero h = omega arith
 is_there (x ∷ xs) (suc at) h = let it = is_there xs at h in omega arith
 
 -- what every change of a forest in memory leaves as it is
-pub settled_of : (xs ys : List Node) (spare spare' epoch room room' failed failed' bad bad' : ℕ) → ((m : ℕ) → leaf_bits_of (slice_get ys m) ≡ leaf_bits_of (slice_get xs m)) → failed ≤ failed' → bad ≤ bad' → ((m : ℕ) → stands_of (slice_get xs m) ≡ true → (stands_of (slice_get ys m) ≡ true) × (root_of (slice_get ys m) ≡ root_of (slice_get xs m)) × (low_of (slice_get ys m) ≡ low_of (slice_get xs m)) × (bits_of (slice_get ys m) ≡ bits_of (slice_get xs m))) → Settled (forest_with xs spare epoch room failed bad) (forest_with ys spare' epoch room' failed' bad')
-settled_of xs ys spare spare' epoch room room' failed failed' bad bad' leaf more_failed more_bad place = record {
+pub loose_of : (xs ys : List Node) (spare spare' epoch room room' failed failed' bad bad' : ℕ) → ((m : ℕ) → leaf_bits_of (slice_get ys m) ≡ leaf_bits_of (slice_get xs m)) → failed ≤ failed' → bad ≤ bad' → ((m : ℕ) → stands_of (slice_get xs m) ≡ true → stands_of (slice_get ys m) ≡ true → (root_of (slice_get ys m) ≡ root_of (slice_get xs m)) × (low_of (slice_get ys m) ≡ low_of (slice_get xs m)) × (bits_of (slice_get ys m) ≡ bits_of (slice_get xs m))) → Loose (forest_with xs spare epoch room failed bad) (forest_with ys spare' epoch room' failed' bad')
+loose_of xs ys spare spare' epoch room room' failed failed' bad bad' leaf more_failed more_bad place = record {
   fixed = record { leaf_bits = leaf; allows = λ m r. refl; held = λ m. refl; name = λ r. refl; epoch = refl; failed = more_failed; bad = more_bad };
-  place = λ m st. let it = place m st in record { stands = it.0; root = it.1; low = it.2; bits = it.3; belongs = λ t k. refl; writable = λ e. refl };
+  place = λ m st now. let it = place m st now in record { stands = now; root = it.0; low = it.1; bits = it.2; belongs = λ t k. refl; writable = λ e. refl };
   copies = λ m. refl;
   writable = λ m. refl;
   uncopied = λ m. refl;
   all_writable = λ m. refl;
   all_allowed = λ m r. refl;
   none_held = λ m. refl;
+  none_belonged = λ m t k. refl;
   none_belong = λ m t k. refl;
+}
+
+pub settled_of : (xs ys : List Node) (spare spare' epoch room room' failed failed' bad bad' : ℕ) → ((m : ℕ) → leaf_bits_of (slice_get ys m) ≡ leaf_bits_of (slice_get xs m)) → failed ≤ failed' → bad ≤ bad' → ((m : ℕ) → stands_of (slice_get xs m) ≡ true → (stands_of (slice_get ys m) ≡ true) × (root_of (slice_get ys m) ≡ root_of (slice_get xs m)) × (low_of (slice_get ys m) ≡ low_of (slice_get xs m)) × (bits_of (slice_get ys m) ≡ bits_of (slice_get xs m))) → Settled (forest_with xs spare epoch room failed bad) (forest_with ys spare' epoch room' failed' bad')
+settled_of xs ys spare spare' epoch room room' failed failed' bad bad' leaf more_failed more_bad place = record {
+  loose = loose_of xs ys spare spare' epoch room room' failed failed' bad bad' leaf more_failed more_bad (λ m st now. let it = place m st in (it.1, it.2, it.3));
+  stands = λ m st. (place m st).0;
 }
 
 -- where the nodes are the same and there are more spare ones
@@ -67,42 +73,6 @@ pub readies_nodes : (xs ys : List Node) (spare more epoch room failed bad : ℕ)
 readies_nodes xs ys spare more epoch room failed bad items le sound =
     let field : (X : Type 0) (F : Option Node → X) (m : ℕ) → F (slice_get ys m) ≡ F (slice_get xs m) = λ X F m. ap (λ (l : List Node). F (slice_get l m)) items in
     readies _ _ (settled_of xs ys spare more epoch room room failed failed bad bad (field _ leaf_bits_of) (omega arith) (omega arith) (λ m st. (field _ stands_of m ∙ st, field _ root_of m, field _ low_of m, field _ bits_of m))) (field _ stands_of) (field _ set_of) (λ m k. ap (λ (l : List Node). link_of l m k) items) le refl refl refl sound
-
--- where the set of one node is another
-pub differs_by_store : (xs : List Node) (spare epoch room failed bad : ℕ) (at : ℕ) (x : Node) (s : RefSet) → slice_get xs at ≡ Some x → DiffersByStore (forest_with xs spare epoch room failed bad) (forest_with (slice_set xs at (with_set x s)) spare epoch room failed bad) at s
-differs_by_store xs spare epoch room failed bad at x s read =
-    let y = with_set x s in
-    let ys = slice_set xs at y in
-    let field : (X : Type 0) (F : Option Node → X) → F (Some y) ≡ F (Some x) → (m : ℕ) → F (slice_get ys m) ≡ F (slice_get xs m) = λ X F same. field_stays F xs at x y read same in
-    let here : set_of (slice_get ys at) ≡ s = ap set_of (get_set xs at y (slice_get_within xs at x read)) in
-    let there : (m : ℕ) → (m ≡ at → ⊥) → set_of (slice_get ys m) ≡ set_of (slice_get xs m) = λ m ne. ap set_of (get_set_other xs at m y ne) in
-    let first : (m k : ℕ) → position (is_child m k) ys ≡ position (is_child m k) xs = λ m k. sym (position_same (is_child m k) (is_child m k) xs ys (sym (length-set xs at y)) (same_children xs at x y read m k refl refl refl)) in
-    record {
-      settled = settled_of xs ys spare spare epoch room room failed failed bad bad (field _ leaf_bits_of refl) (omega arith) (omega arith) (λ m st. (field _ stands_of refl m ∙ st, field _ root_of refl m, field _ low_of refl m, field _ bits_of refl m));
-      stands = field _ stands_of refl;
-      here = here;
-      there = there;
-      link = λ m k ne. rw (there m ne, first m k) refl;
-      below = λ k. link_to (position (is_child at k) xs);
-      before = λ k. refl;
-      after = λ k. rw (here, first at k) refl;
-      spare = refl;
-      room = refl;
-      failed = refl;
-      bad = refl;
-    }
-  where
-    same_children : (xs : List Node) (at : ℕ) (x y : Node) → slice_get xs at ≡ Some x → (m k : ℕ) → y.loaded ≡ x.loaded → y.up ≡ x.up → y.low ≡ x.low → (i : ℕ) (a b : Node) → slice_get xs i ≡ Some a → slice_get (slice_set xs at y) i ≡ Some b → is_child m k a ≡ is_child m k b
-    same_children xs at x y read m k l u w i a b ra rb = elim (same_or_not i at) as (λ _. is_child m k a ≡ is_child m k b) [
-      | inl e ↦
-          let a_is : x ≡ a = some_one x a (sym read ∙ subst (λ z. slice_get xs z ≡ Some a) e ra) in
-          let b_is : y ≡ b = some_one y b (sym (get_set xs at y (slice_get_within xs at x read)) ∙ subst (λ z. slice_get (slice_set xs at y) z ≡ Some b) e rb) in
-          rw (← a_is, ← b_is, l, u, w) refl
-      | inr ne ↦ let b_is : a ≡ b = some_one a b (sym ra ∙ sym (get_set_other xs at i y ne) ∙ rb) in ap (is_child m k) b_is
-    ]
-      where
-        some_one : {X : Type 0} (a b : X) → Some a ≡ Some b → a ≡ b
-        some_one a b e = cc
 
 -- the nodes that a change of the set, a move of what is below, and one more node make
 pub parted_is : (xs zs items : List Node) (at n : ℕ) (x a b : Node) (kept part : RefSet) (r : Ref) → n ≡ length xs → slice_get xs at ≡ Some x → slice_get xs at ≡ Some a → slice_get xs at ≡ Some b → zs ≡ moved_all at n r (slice_set xs at (with_set b kept)) → items ≡ zs ++ new_node at a part r ∷ [] → items ≡ parted xs at x kept part r

@@ -174,6 +174,22 @@ position_one p xs c y read yes' others = position_first p xs ∙ go xs c read ot
     go (z ∷ zs) zero read others = let same : z ≡ y = (cc) in rw (same, yes') refl
     go (z ∷ zs) (suc c) read others = rw (others 0 z (λ e. omega (arith, e)) refl) (ap after_one (go zs c read (λ i x ne got. others (suc i) x (λ e. ne (omega (arith, e))) got)))
 
+-- the first place at which a test passes stays where fewer pass and this one still does
+pub position_less : {X : Type 0} (p : X → Bool) (xs ys : List X) → length ys ≡ length xs → ((i : ℕ) (a b : X) → slice_get xs i ≡ Some a → slice_get ys i ≡ Some b → p b ≡ true → p a ≡ true) → ((c : ℕ) → position p xs ≡ Some c → (a b : X) → slice_get xs c ≡ Some a → slice_get ys c ≡ Some b → p a ≡ true → p b ≡ true) → position p ys ≡ position p xs
+position_less p xs ys len fewer found = position_first p ys ∙ go xs ys len fewer (λ c e. found c (position_first p xs ∙ e)) ∙ sym (position_first p xs)
+  where
+    go : (xs ys : List _) → length ys ≡ length xs → ((i : ℕ) (a b : _) → slice_get xs i ≡ Some a → slice_get ys i ≡ Some b → p b ≡ true → p a ≡ true) → ((c : ℕ) → first_of p xs ≡ Some c → (a b : _) → slice_get xs c ≡ Some a → slice_get ys c ≡ Some b → p a ≡ true → p b ≡ true) → first_of p ys ≡ first_of p xs
+    go [] [] len fewer found = refl
+    go [] (y ∷ ys) len fewer found = absurd (omega (arith, len))
+    go (x ∷ xs) [] len fewer found = absurd (omega (arith, len))
+    go (x ∷ xs) (y ∷ ys) len fewer found = head x y xs ys (p x) refl (p y) refl (fewer 0 x y refl refl) (λ e. found 0 e x y refl refl) (λ miss. go xs ys (omega (arith, len)) (λ i a b ra rb. fewer (suc i) a b ra rb) (λ c e a b ra rb. found (suc c) (rw miss (ap after_one e)) a b ra rb))
+      where
+        head : (x y : _) (xs ys : List _) (a : Bool) → p x ≡ a → (b : Bool) → p y ≡ b → (p y ≡ true → p x ≡ true) → (first_of p (x ∷ xs) ≡ Some 0 → p x ≡ true → p y ≡ true) → (p x ≡ false → first_of p ys ≡ first_of p xs) → first_of p (y ∷ ys) ≡ first_of p (x ∷ xs)
+        head x y xs ys true ea true eb fewer found ih = rw (ea, eb) refl
+        head x y xs ys true ea false eb fewer found ih = let clash : true ≡ false = sym (found (rw ea refl) ea) ∙ eb in absurd (cc)
+        head x y xs ys false ea true eb fewer found ih = let clash : true ≡ false = sym (fewer eb) ∙ ea in absurd (cc)
+        head x y xs ys false ea false eb fewer found ih = rw (ea, eb) (ap after_one (ih ea))
+
 pub get_append : {X : Type 0} (xs : List X) (z : X) (i : ℕ) → i < length xs → slice_get (xs ++ z ∷ []) i ≡ slice_get xs i
 get_append [] z i lt = absurd (omega (arith, lt))
 get_append (x ∷ xs) z zero lt = refl

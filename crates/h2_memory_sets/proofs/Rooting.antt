@@ -3,7 +3,7 @@ use Rattle.std.proofs.Common.{◌≡◌, ℕ, ◌+◌, ◌%◌, ◌≤◌, ◌^�
 use Rattle.std.proofs.lemmas.Option.{none-some, slice_get_past}
 use Rattle.h2_ref.specs.declared.reference.Ref.{Ref}
 use Rattle.h2_set.specs.RefSet.{RefSet}
-use Rattle.h2_set.specs.Forest.{Forest, refs, loaded, untold, IsSound, IsSoundNode, Same}
+use Rattle.h2_set.specs.Forest.{Forest, refs, loaded, untold, IsSound, IsSoundNode, Same, HasParent}
 use Rattle.h2_set.specs.ChangeLaws.{same_or_not}
 use Rattle.h2_memory_sets.specs.declared.node.KeyClass.{KeyClass}
 use Rattle.h2_memory_sets.specs.declared.node.KeyClass.TheVariants.{Low, High}
@@ -30,10 +30,13 @@ still_sound f g m agrees old st links leaf allows none node =
     let grain : g.leaf_bits (g.root m) ≡ f.leaf_bits (f.root m) = ap g.leaf_bits p.root ∙ leaf in
     record {
       set = rw p.set node.set;
+      root_capacity = λ top. ap (λ (t : RefSet). t.capacity) p.set ∙ node.root_capacity (sym p.root ∙ top);
+      block_capacity = λ off. ap (λ (t : RefSet). t.capacity) p.set ∙ node.block_capacity (λ e. off (p.root ∙ e));
       inside = rw (refs_is, p.low, p.bits) node.inside;
       aligned = rw (p.low, p.bits) node.aligned;
       ends = rw (p.low, p.bits) node.ends;
       fits = λ i r read. let h = node.fits i r (rw refs_is at read) in record {
+        held = h.held;
         aligned = h.aligned;
         class = h.class;
         leaf = λ k. h.leaf k ∙ sym grain;
@@ -130,6 +133,8 @@ module _ (xs : List Node) (keys : KeyClass) (leaf_bits spare epoch room failed b
       let bits = ap bits_of here in
       record {
         set = rw set_here (record { rising = omega arith; fits = omega arith; known = inl refl });
+        root_capacity = λ _. ap (λ (t : RefSet). t.capacity) set_here;
+        block_capacity = λ off. absurd (off (ap root_of here));
         inside = rw (refs_here, low, bits) (omega arith);
         aligned = rw (low, bits) (keys_aligned keys);
         ends = rw (low, bits) (keys_end keys);
@@ -155,6 +160,25 @@ module _ (xs : List Node) (keys : KeyClass) (leaf_bits spare epoch room failed b
       (ap leaf_bits_of (get_push xs new (root_of (slice_get xs m)) root_there))
       (λ r. refl) (λ n t j. refl) node
 
+  new_top : (g.stands (g.root (length xs)) ≡ true) × (g.root (g.root (length xs)) ≡ g.root (length xs))
+  new_top =
+      let root : root_of (slice_get ys (length xs)) ≡ length xs = ap root_of here in
+      (ap g.stands root ∙ ap stands_of here, ap g.root root)
+
+  old_top : IsSound f → (m : ℕ) → stands_of (slice_get xs m) ≡ true → (g.stands (g.root m) ≡ true) × (g.root (g.root m) ≡ g.root m)
+  old_top sound m st =
+      let t = sound.top m st in
+      let p = same m st in
+      let q = same (f.root m) t.0 in
+      (ap g.stands p.place.root ∙ q.place.stands, ap g.root p.place.root ∙ q.place.root ∙ t.1 ∙ sym p.place.root)
+
+  old_parent : IsSound f → (m : ℕ) → stands_of (slice_get xs m) ≡ true → (g.root m ≡ m → ⊥) → HasParent g m
+  old_parent sound m st off =
+      let p = same m st in
+      let h = sound.parent m st (λ e. off (p.place.root ∙ e)) in
+      let q = same h.parent h.stands in
+      record { parent = h.parent; stands = q.place.stands; link = ap (g.link h.parent) p.place.low ∙ q.link (f.low m) ∙ h.link }
+
   pub adds_root : AllRooted xs → IsSound f → AddsRoot (forest_with xs spare epoch room failed bad) (forest_with (xs ++ top_node (length xs) keys leaf_bits ∷ []) spare epoch room failed bad) (length xs) keys leaf_bits
   adds_root rooted sound = record {
     top = record {
@@ -164,6 +188,16 @@ module _ (xs : List Node) (keys : KeyClass) (leaf_bits spare epoch room failed b
           | inr ne ↦ old_node rooted sound m (sym (ap stands_of (get_push xs new m ne)) ∙ st)
         ];
         held = λ m held. absurd (cc);
+        top = λ m st. elim (same_or_not m (length xs)) as (λ _. (g.stands (g.root m) ≡ true) × (g.root (g.root m) ≡ g.root m)) [
+          | inl e ↦ subst (λ z. (g.stands (g.root z) ≡ true) × (g.root (g.root z) ≡ g.root z)) (sym e) new_top
+          | inr ne ↦ old_top sound m (sym (ap stands_of (get_push xs new m ne)) ∙ st)
+        ];
+        parent = λ m st off. elim (same_or_not m (length xs)) as (λ _. HasParent g m) [
+          | inl e ↦ absurd (off (subst (λ z. g.root z ≡ z) (sym e) (ap root_of here)))
+          | inr ne ↦ old_parent sound m (sym (ap stands_of (get_push xs new m ne)) ∙ st) off
+        ];
+        owner = λ m t k st b. absurd (cc);
+        epoch = sound.epoch;
       };
       stands = ap stands_of here;
       root = ap root_of here;

@@ -3,26 +3,33 @@ use Rattle.std.proofs.Common.{◌≡◌, ℕ, ◌+◌, ◌<◌, ◌≤◌, ◌^�
 use Rattle.h2_ref.specs.declared.reference.Ref.{Ref}
 use Rattle.h2_set.specs.Ranges.{Rising, is_indirect}
 use Rattle.h2_set.specs.RefSet.{RefSet, IsRefSet}
-use Rattle.h2_set.specs.Forest.{Forest, refs, loaded, IsChild, IsSoundNode, IsSound, Fits, NamesBelow, Fixed, InPlace, Keeps, Same, Alike, Alters, ReadiesOnly, Unchanged}
+use Rattle.h2_set.specs.Forest.{Forest, refs, loaded, IsChild, IsSoundNode, IsSound, Fits, NamesBelow, HasParent, Fixed, InPlace, Keeps, Same, Alike, Alters, ReadiesOnly, Unchanged}
 use Rattle.h2_set.specs.StayLaws.{Alike-refl, Fixed-refl}
 use Rattle.h2_set.specs.ChangeLaws.{Keeps-refl}
 use Rattle.h2_set.specs.RenewLaws.{Keeps-Renews}
 
--- every node that stands stays in its place, and none is copied
-pub record Settled (f g : Forest) : Type 0 where
+-- every node that stands in both forests stays in its place, and none is copied
+pub record Loose (f g : Forest) : Type 0 where
   pub fixed : Fixed f g
-  pub place : (m : ℕ) → f.stands m ≡ true → InPlace f g m
+  pub place : (m : ℕ) → f.stands m ≡ true → g.stands m ≡ true → InPlace f g m
   pub copies : (m : ℕ) → g.copies m ≡ f.copies m
   pub writable : (m : ℕ) → g.writable m ≡ f.writable m
   pub uncopied : (m : ℕ) → f.copies m ≡ 0
   pub all_writable : (m : ℕ) → f.writable m ≡ true
   pub all_allowed : (m : ℕ) (r : Ref) → f.allows m r ≡ true
   pub none_held : (m : ℕ) → f.held m ≡ false
+  pub none_belonged : (m top k : ℕ) → f.belongs m top k ≡ false
   pub none_belong : (m top k : ℕ) → g.belongs m top k ≡ false
+
+-- and every node that stood stands
+pub record Settled (f g : Forest) : Type 0 where
+  pub loose : Loose f g
+  pub stands : (m : ℕ) → f.stands m ≡ true → g.stands m ≡ true
 
 -- what is sound of a node but for its range
 pub record Contents (f g : Forest) (m : ℕ) : Type 0 where
   pub set : IsRefSet (g.set m)
+  pub capacity : let s = g.set m in let t = f.set m in s.capacity ≡ t.capacity
   pub inside : Rising (g.low m) (g.low m + 2 ^ g.bits m) (refs g m)
   pub fits : (i : ℕ) (r : Ref) → slice_get (refs g m) i ≡ Some r → Fits g m r
   pub some : (g.root m ≡ m → ⊥) → 0 < length (refs g m)
@@ -30,12 +37,13 @@ pub record Contents (f g : Forest) (m : ℕ) : Type 0 where
   pub named : (k c : ℕ) → g.link m k ≡ loaded c → NamesBelow (refs g m) k
   pub bits : (i c : ℕ) (r : Ref) → slice_get (refs g m) i ≡ Some r → is_indirect r ≡ true → g.link m r.key ≡ loaded c → g.bits c ≡ r.keybits
 
-module _ (f g : Forest) (s : Settled f g) where
-  pub fits_in : (m : ℕ) (r : Ref) → f.stands m ≡ true → Fits f m r → Fits g m r
-  fits_in m r st h =
-      let p = s.place m st in
+module _ (f g : Forest) (s : Loose f g) where
+  pub fits_in : (m : ℕ) (r : Ref) → f.stands m ≡ true → g.stands m ≡ true → Fits f m r → Fits g m r
+  fits_in m r st now h =
+      let p = s.place m st now in
       let grain : g.leaf_bits (g.root m) ≡ f.leaf_bits (f.root m) = ap g.leaf_bits p.root ∙ s.fixed.leaf_bits (f.root m) in
       record {
+        held = h.held;
         aligned = h.aligned;
         class = h.class;
         leaf = λ k. h.leaf k ∙ sym grain;
@@ -45,12 +53,12 @@ module _ (f g : Forest) (s : Settled f g) where
         falls = λ k. rw p.bits (h.falls k);
       }
 
-  pub child_in : (m k c : ℕ) → f.stands m ≡ true → IsChild f m k c → IsChild g m k c
-  child_in m k c st h =
-      let p = s.place m st in
-      let q = s.place c h.stands in
+  pub child_in : (m k c : ℕ) → f.stands m ≡ true → g.stands m ≡ true → g.stands c ≡ true → IsChild f m k c → IsChild g m k c
+  child_in m k c st now kid h =
+      let p = s.place m st now in
+      let q = s.place c h.stands kid in
       record {
-        stands = q.stands;
+        stands = kid;
         root = q.root ∙ h.root ∙ sym p.root;
         low = q.low ∙ h.low;
         above = rw (p.low, q.low) h.above;
@@ -61,11 +69,13 @@ module _ (f g : Forest) (s : Settled f g) where
       }
 
   -- a node in its place with sound contents is sound
-  pub placed : (m : ℕ) → f.stands m ≡ true → IsSoundNode f m → Contents f g m → IsSoundNode g m
-  placed m st node h =
-      let p = s.place m st in
+  pub placed : (m : ℕ) → f.stands m ≡ true → g.stands m ≡ true → IsSoundNode f m → Contents f g m → IsSoundNode g m
+  placed m st now node h =
+      let p = s.place m st now in
       record {
         set = h.set;
+        root_capacity = λ top. h.capacity ∙ node.root_capacity (sym p.root ∙ top);
+        block_capacity = λ off. h.capacity ∙ node.block_capacity (λ e. off (p.root ∙ e));
         inside = h.inside;
         aligned = rw (p.low, p.bits) node.aligned;
         ends = rw (p.low, p.bits) node.ends;
@@ -79,38 +89,51 @@ module _ (f g : Forest) (s : Settled f g) where
         slope = rw (s.copies m, p.bits) node.slope;
       }
 
-  -- a node of which nothing has changed is sound still
-  pub same_node : (m : ℕ) → f.stands m ≡ true → IsSoundNode f m → g.set m ≡ f.set m → ((k : ℕ) → g.link m k ≡ f.link m k) → IsSoundNode g m
-  same_node m st node set link =
-      let p = s.place m st in
+  -- a node of which nothing has changed is sound still, where what is right below it stands
+  pub same_node : (m : ℕ) → f.stands m ≡ true → g.stands m ≡ true → IsSoundNode f m → g.set m ≡ f.set m → ((k : ℕ) → g.link m k ≡ f.link m k) → ((k c : ℕ) → f.link m k ≡ loaded c → g.stands c ≡ true) → IsSoundNode g m
+  same_node m st now node set link kids =
+      let p = s.place m st now in
       let refs_is : refs g m ≡ refs f m = ap (λ (t : RefSet). t.refs) set in
-      placed m st node (record {
+      placed m st now node (record {
         set = rw set node.set;
+        capacity = ap (λ (t : RefSet). t.capacity) set;
         inside = rw (refs_is, p.low, p.bits) node.inside;
-        fits = λ i r read. fits_in m r st (node.fits i r (rw refs_is at read));
+        fits = λ i r read. fits_in m r st now (node.fits i r (rw refs_is at read));
         some = λ top. rw refs_is (node.some (λ e. top (p.root ∙ e)));
-        child = λ k c at_k. child_in m k c st (node.child k c (sym (link k) ∙ at_k));
+        child = λ k c at_k. let old = sym (link k) ∙ at_k in child_in m k c st now (kids k c old) (node.child k c old);
         named = λ k c at_k. rw refs_is (node.named k c (sym (link k) ∙ at_k));
         bits = λ i c r read ind at_k.
             let old : f.link m r.key ≡ loaded c = sym (link r.key) ∙ at_k in
             let kid = node.child r.key c old in
-            (s.place c kid.stands).bits ∙ node.bits i c r (rw refs_is at read) ind old;
+            (s.place c kid.stands (kids r.key c old)).bits ∙ node.bits i c r (rw refs_is at read) ind old;
       })
 
-  pub same_keeps : (m : ℕ) → f.stands m ≡ true → g.set m ≡ f.set m → ((k : ℕ) → g.link m k ≡ f.link m k) → Keeps f g m
-  same_keeps m st set link = record {
-    place = s.place m st;
-    alike = subst (λ (t : RefSet). Alike (refs f m) t.refs) (sym set) (Alike-refl (refs f m));
-    link = link;
-  }
-
-  pub same_all : (m : ℕ) → f.stands m ≡ true → g.set m ≡ f.set m → ((k : ℕ) → g.link m k ≡ f.link m k) → Same f g m
-  same_all m st set link = record {
-    place = s.place m st;
+  pub same_all : (m : ℕ) → f.stands m ≡ true → g.stands m ≡ true → g.set m ≡ f.set m → ((k : ℕ) → g.link m k ≡ f.link m k) → Same f g m
+  same_all m st now set link = record {
+    place = s.place m st now;
     set = set;
     link = link;
     writable = s.writable m;
     copies = s.copies m;
+  }
+
+  -- the root of a node stays, where it stands
+  pub same_top : (m : ℕ) → IsSound f → f.stands m ≡ true → g.stands m ≡ true → g.stands (f.root m) ≡ true → (g.stands (g.root m) ≡ true) × (g.root (g.root m) ≡ g.root m)
+  same_top m sound st now root =
+      let t = sound.top m st in
+      let p = s.place m st now in
+      let q = s.place (f.root m) t.0 root in
+      (ap g.stands p.root ∙ root, ap g.root p.root ∙ q.root ∙ t.1 ∙ sym p.root)
+
+  -- a forest whose nodes are sound and hang together
+  pub sound_of : IsSound f → ((m : ℕ) → g.stands m ≡ true → IsSoundNode g m) → ((m : ℕ) → g.stands m ≡ true → (g.stands (g.root m) ≡ true) × (g.root (g.root m) ≡ g.root m)) → ((m : ℕ) → g.stands m ≡ true → (g.root m ≡ m → ⊥) → HasParent g m) → IsSound g
+  sound_of sound node top parent = record {
+    node = node;
+    held = λ m held. let miss : g.held m ≡ false = s.fixed.held m ∙ s.none_held m in let clash : true ≡ false = sym held ∙ miss in absurd (cc);
+    top = top;
+    parent = parent;
+    owner = λ m t k st b. let clash : true ≡ false = sym b ∙ s.none_belong m t k in absurd (cc);
+    epoch = rw s.fixed.epoch sound.epoch;
   }
 
 -- where all is writable, nothing has to be done
@@ -135,32 +158,45 @@ alters_nothing f at sound stands writable copies = record {
   bad = refl;
 }
 
--- where nothing but spare has changed
-pub readies : (f g : Forest) → Settled f g → ((m : ℕ) → g.stands m ≡ f.stands m) → ((m : ℕ) → g.set m ≡ f.set m) → ((m k : ℕ) → g.link m k ≡ f.link m k) → f.spare ≤ g.spare → g.room ≡ f.room → g.failed ≡ f.failed → g.bad ≡ f.bad → IsSound f → ReadiesOnly f g
-readies f g s stands set link spare room failed bad sound = record {
-  sound = record {
-    node = λ m st. let old = sym (stands m) ∙ st in same_node f g s m old (sound.node m old) (set m) (link m);
-    held = λ m held. let miss : g.held m ≡ false = s.fixed.held m ∙ s.none_held m in let clash : true ≡ false = sym held ∙ miss in absurd (cc);
-  };
-  fixed = s.fixed;
-  same = λ m st. same_all f g s m st (set m) (link m);
-  none_new = λ m st. sym (stands m) ∙ st;
-  spare = spare;
-  room = room;
-  failed = failed;
-  bad = bad;
-}
+module _ (f g : Forest) (s : Settled f g) where
+  pub same_keeps : (m : ℕ) → f.stands m ≡ true → g.set m ≡ f.set m → ((k : ℕ) → g.link m k ≡ f.link m k) → Keeps f g m
+  same_keeps m st set link = record {
+    place = s.loose.place m st (s.stands m st);
+    alike = subst (λ (t : RefSet). Alike (refs f m) t.refs) (sym set) (Alike-refl (refs f m));
+    link = link;
+  }
 
--- where nothing but the two counts has risen
-pub counts_rise : (f g : Forest) → Settled f g → ((m : ℕ) → g.stands m ≡ f.stands m) → ((m : ℕ) → g.set m ≡ f.set m) → ((m k : ℕ) → g.link m k ≡ f.link m k) → g.spare ≡ f.spare → g.room ≡ f.room → IsSound f → Unchanged f g
-counts_rise f g s stands set link spare room sound = record {
-  sound = record {
-    node = λ m st. let old = sym (stands m) ∙ st in same_node f g s m old (sound.node m old) (set m) (link m);
-    held = λ m held. let miss : g.held m ≡ false = s.fixed.held m ∙ s.none_held m in let clash : true ≡ false = sym held ∙ miss in absurd (cc);
-  };
-  fixed = s.fixed;
-  same = λ m st. same_all f g s m st (set m) (link m);
-  none_new = λ m st. sym (stands m) ∙ st;
-  spare = spare;
-  room = room;
-}
+  -- where all nodes that stand are the same, the forest is sound
+  pub all_same : ((m : ℕ) → g.stands m ≡ f.stands m) → ((m : ℕ) → g.set m ≡ f.set m) → ((m k : ℕ) → g.link m k ≡ f.link m k) → IsSound f → IsSound g
+  all_same stands set link sound = sound_of f g s.loose sound
+      (λ m st. let old = sym (stands m) ∙ st in same_node f g s.loose m old st (sound.node m old) (set m) (link m) (λ k c l. s.stands c ((sound.node m old).child k c l).stands))
+      (λ m st. let old = sym (stands m) ∙ st in same_top f g s.loose m sound old st (s.stands (f.root m) (sound.top m old).0))
+      (λ m st ne.
+      let old = sym (stands m) ∙ st in
+      let p = s.loose.place m old st in
+      let h = sound.parent m old (λ e. ne (p.root ∙ e)) in
+      record { parent = h.parent; stands = s.stands h.parent h.stands; link = ap (g.link h.parent) p.low ∙ link h.parent (f.low m) ∙ h.link })
+
+  -- where nothing but spare has changed
+  pub readies : ((m : ℕ) → g.stands m ≡ f.stands m) → ((m : ℕ) → g.set m ≡ f.set m) → ((m k : ℕ) → g.link m k ≡ f.link m k) → f.spare ≤ g.spare → g.room ≡ f.room → g.failed ≡ f.failed → g.bad ≡ f.bad → IsSound f → ReadiesOnly f g
+  readies stands set link spare room failed bad sound = record {
+    sound = all_same stands set link sound;
+    fixed = s.loose.fixed;
+    same = λ m st. same_all f g s.loose m st (s.stands m st) (set m) (link m);
+    none_new = λ m st. sym (stands m) ∙ st;
+    spare = spare;
+    room = room;
+    failed = failed;
+    bad = bad;
+  }
+
+  -- where nothing but the two counts has risen
+  pub counts_rise : ((m : ℕ) → g.stands m ≡ f.stands m) → ((m : ℕ) → g.set m ≡ f.set m) → ((m k : ℕ) → g.link m k ≡ f.link m k) → g.spare ≡ f.spare → g.room ≡ f.room → IsSound f → Unchanged f g
+  counts_rise stands set link spare room sound = record {
+    sound = all_same stands set link sound;
+    fixed = s.loose.fixed;
+    same = λ m st. same_all f g s.loose m st (s.stands m st) (set m) (link m);
+    none_new = λ m st. sym (stands m) ∙ st;
+    spare = spare;
+    room = room;
+  }

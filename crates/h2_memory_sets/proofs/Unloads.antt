@@ -8,7 +8,7 @@ use Rattle.std.proofs.lemmas.Bool.Decides.{nat_tests}
 use Rattle.std.proofs.lemmas.List.{length-map}
 use Rattle.std.proofs.lemmas.List.Quantifiers.{position-Some}
 use Rattle.std.proofs.lemmas.Option.{none-some, slice_get-get_or}
-use Rattle.h2_set.specs.Forest.{Forest, loaded, untold, IsSound, InPlace}
+use Rattle.h2_set.specs.Forest.{Forest, loaded, untold, IsSound, InPlace, HasParent}
 use Rattle.h2_memory_sets.specs.declared.node.Node.{Node}
 use Rattle.h2_memory_sets.specs.View.{stands_of, set_of, root_of, low_of, bits_of, leaf_bits_of, is_up, is_bare, is_top, is_child, link_to, link_of, forest_with, Block, block, stays_loaded, unloaded, unloaded_all, AllRooted}
 use Rattle.h2_memory_sets.specs.Roots.{Unloads}
@@ -145,6 +145,18 @@ module _ (xs : List Node) (from spare epoch room failed bad : ℕ) where
   place : (m : ℕ) → stands_of (slice_get ys m) ≡ true → InPlace f g m
   place m st = record { stands = st; root = field root_of (λ x. refl) m; low = field low_of (λ x. refl) m; bits = field bits_of (λ x. refl) m; belongs = λ t k. refl; writable = λ e. refl }
 
+  -- a node that stays isn't below one that goes
+  kept_parent : AllRooted xs → IsSound f → (m : ℕ) → stands_of (slice_get xs m) ≡ true → stands_of (slice_get ys m) ≡ true → (f.root m ≡ m → ⊥) → HasParent g m
+  kept_parent rooted sound m old st ne =
+      let h = sound.parent m old ne in
+      let kid = (sound.node h.parent h.stands).child (f.low m) m h.link in
+      let above = kid.above in
+      let low : g.low m ≡ f.low m = field low_of (λ x. refl) m in
+      elim (cases_lt (f.low m) from) as (λ _. HasParent g m) [
+        | inl lt ↦ record { parent = h.parent; stands = stays h.parent rooted h.stands (inl (omega (arith, above, lt))); link = ap (g.link h.parent) low ∙ link_before h.parent (f.low m) lt ∙ h.link }
+        | inr ge ↦ let clash : true ≡ false = sym st ∙ goes h.parent (f.low m) m ge h.link in absurd (cc)
+      ]
+
   pub unloads : AllRooted xs → IsSound f → Unloads (forest_with xs spare epoch room failed bad) (forest_with (unloaded_all from xs) spare epoch room failed bad) from
   unloads rooted sound = record {
     sound = record {
@@ -164,6 +176,15 @@ module _ (xs : List Node) (from spare epoch room failed bad : ℕ) where
           (field leaf_bits_of (λ x. refl) (root_of (slice_get xs m)))
           (λ r. refl) (λ n t j. refl) node;
       held = λ m held. absurd (cc);
+      top = λ m st.
+          let old = stood from xs m st in
+          let t = sound.top m old in
+          let root = field root_of (λ x. refl) m in
+          let now = stays (f.root m) rooted t.0 (inr t.1) in
+          (ap g.stands root ∙ now, ap g.root root ∙ field root_of (λ x. refl) (f.root m) ∙ t.1 ∙ sym root);
+      parent = λ m st off. kept_parent rooted sound m (stood from xs m st) st (λ e. off (field root_of (λ x. refl) m ∙ e));
+      owner = λ m t k st b. absurd (cc);
+      epoch = sound.epoch;
     };
     fixed = record { leaf_bits = field leaf_bits_of (λ x. refl); allows = λ m r. refl; held = λ m. refl; name = λ r. refl; epoch = refl; failed = omega arith; bad = omega arith };
     stays = λ m st why. place m (stays m rooted st why);

@@ -4,6 +4,7 @@ use Rattle.std.specs.List.{position}
 use Rattle.h2_ref.specs.declared.reference.Ref.{Ref}
 use Rattle.h2_set.specs.Ranges.{limit, holds, is_indirect, IsAligned}
 use Rattle.h2_set.specs.RefSet.{RefSet, IsRefSet}
+use Rattle.h2_set.specs.SetBytes.{IsHeld}
 use Rattle.h2_set.specs.Forest.{Link, loaded, untold, Forest}
 use Rattle.h2_memory_sets.specs.declared.node.Node.{Node}
 use Rattle.h2_memory_sets.specs.declared.node.KeyClass.{KeyClass}
@@ -113,6 +114,7 @@ parted xs at x kept part r = moved_all at (length xs) r (slice_set xs at (with_s
 
 -- a reference that may stand in the node that top names, in a tree with leaves of these keybits
 pub record FitsBelow (top : Ref) (leaf_bits : ℕ) (r : Ref) : Type 0 where
+  pub held : IsHeld r
   pub low : top.key ≤ r.key
   pub high : limit r ≤ limit top
   pub aligned : IsAligned r
@@ -125,6 +127,7 @@ pub record FitsBelow (top : Ref) (leaf_bits : ℕ) (r : Ref) : Type 0 where
 -- a set that may be that of the node that top names
 pub record AllFitBelow (top : Ref) (leaf_bits : ℕ) (s : RefSet) : Type 0 where
   pub set : IsRefSet s
+  pub capacity : s.capacity ≡ 32
   pub some : 0 < length s.refs
   pub each : (i : ℕ) (r : Ref) → slice_get s.refs i ≡ Some r → FitsBelow top leaf_bits r
 
@@ -173,6 +176,38 @@ unloaded from x = record { set = x.set; loaded = stays_loaded from x; up = x.up;
 
 abbrev pub unloaded_all : ℕ → List Node → List Node
 unloaded_all from xs = map (unloaded from) xs
+
+-- whether one of the references passes
+abbrev pub any_of : (Ref → Bool) → List Ref → Bool
+any_of p [] = false
+any_of p (r ∷ rs) = if p r then true else any_of p rs
+
+-- whether two references have one key, and both lead further down or neither
+abbrev pub names_same : Ref → Ref → Bool
+names_same q r = r.key == q.key && (if is_indirect q then is_indirect r else not (is_indirect r))
+
+-- whether no reference of a list has the key of q
+abbrev pub lacks : List Ref → Ref → Bool
+lacks rs q = not (any_of (names_same q) rs)
+
+-- whether a reference whose range holds the key is missing in the second list
+abbrev pub loses : List Ref → List Ref → ℕ → Bool
+loses old new key = any_of (λ q. holds key q && lacks new q) old
+
+-- whether a node of the tree with this root, shorter than 2 ^ bits, is below a reference that is missing
+abbrev pub goes : ℕ → ℕ → List Ref → List Ref → Node → Bool
+goes root bits old new x = x.root == root && (nat_lt x.bits bits && loses old new x.low)
+
+-- a node that stands no longer, nor can be loaded again
+abbrev pub lost : Node → Node
+lost x = record { set = x.set; loaded = false; up = None; root = x.root; low = x.low; bits = x.bits; leaf_bits = x.leaf_bits }
+
+abbrev pub dropped : ℕ → ℕ → List Ref → List Ref → Node → Node
+dropped root bits old new x = if goes root bits old new x then lost x else x
+
+-- nodes of which those below references that are missing are lost
+abbrev pub dropped_all : ℕ → ℕ → List Ref → List Ref → List Node → List Node
+dropped_all root bits old new xs = map (dropped root bits old new) xs
 
 -- what the block of a node holds, loaded or not, and its first key
 pub record Block : Type 0 where

@@ -1,10 +1,11 @@
 //! A node that takes over a part of another.
-ghost use Rattle.std.specs.Prelude.{◌≡◌, ◌<◌, ◌≤◌, ◌^◌, ◌+◌, length, Some, None, slice_get, true};
+ghost use Rattle.std.specs.Prelude.{◌≡◌, ◌<◌, ◌≤◌, ◌^◌, ◌+◌, ◌%◌, length, Some, None, slice_get, true};
 ghost use Rattle.std.specs.Vec.{vec_len, vec_capacity};
 ghost use Rattle.h2_ref.specs.declared.reference.Ref.{Ref};
 ghost use Rattle.h2_memory_sets.specs.declared.node.Node.{Node};
 ghost use Rattle.h2_set.specs.Ranges.{put, is_indirect, IsApart, Rising};
 ghost use Rattle.h2_set.specs.RefSet.{RefSet, with_rest};
+ghost use Rattle.h2_set.specs.SetBytes.{IsHeld};
 ghost use Rattle.h2_memory_sets.specs.View.{parted};
 
 use crate::moving::move_below;
@@ -12,8 +13,13 @@ use crate::node::Node;
 use h2_ref::{Check, Kind, Ref};
 use h2_set::{PutAnswer, Set};
 
-/// The reference that leads to a new node. There is no disk, so its place means nothing.
+/// The reference that leads to a new node. There is no disk, so its place and its check mean nothing.
 pub(crate) fn new_reference(key: u64, keybits: u8, epoch: u64) -> Ref
+    requires aligned { key % 2 ^ keybits ≡ 0 }
+    requires ends { key + 2 ^ keybits ≤ 2 ^ 64 }
+    requires keybits { (1 ≤ keybits) × (keybits ≤ 62) }
+    requires epoch { (1 ≤ epoch) × (epoch ≤ 2 ^ 62) }
+    ensures held { IsHeld result }
     ensures indirect { is_indirect result ≡ true }
     ensures key { result.key ≡ key }
     ensures keybits { result.keybits ≡ keybits }
@@ -22,10 +28,10 @@ pub(crate) fn new_reference(key: u64, keybits: u8, epoch: u64) -> Ref
         kind: Kind::Indirect,
         key,
         keybits,
-        place: 0x40_000c,
+        place: 0x40_0000,
         radix: 12,
         id: epoch,
-        check: Check::Nothing,
+        check: Check::Xx(0),
         dirent: None,
     }
 }

@@ -1,11 +1,15 @@
 ghost use Rattle.std.specs.Prelude.{◌≡◌, ◌<◌, ◌≤◌, ◌^◌, ◌-◌, ◌↔◌, ◌⊎◌, true, false, IsTrue, IfSome, IfNone, length, slice_get};
 ghost use Rattle.h2_set.specs.Ranges.{limit, is_indirect, IsAligned};
+ghost use Rattle.h2_set.specs.SetBytes.{IsHeld};
 ghost use Rattle.h2_memory_sets.specs.View.{leaf_bits_of, brought, FitsBelow, AllFitBelow, IsLoadable};
 
 use crate::node::Node;
 use crate::searching::{find_away, find_below};
-use h2_ref::Ref;
+use h2_ref::{Kind, Ref};
 use h2_set::{Set, is_indirect};
+
+/// How many references the set of an indirect block has room for.
+const BLOCK_CAPACITY: u8 = 32;
 
 // How many keys a range has.
 fn range_length(keybits: u8) -> u64
@@ -73,10 +77,23 @@ fn is_sized(r: &Ref, leaf_bits: u8) -> bool
     leaf_bits <= r.keybits
 }
 
+// Whether a set may hold a reference: it is valid and names something.
+fn is_held(r: &Ref) -> bool
+    ensures { IsTrue result → IsHeld r.now }
+{
+    if r.kind == Kind::Empty {
+        return false;
+    }
+    r.valid()
+}
+
 // Whether a reference may stand in a node with the range of `top`, in a tree with leaves of these keybits.
 fn fits_below(r: &Ref, top: &Ref, leaf_bits: u8) -> bool
     ensures { IsTrue result → FitsBelow top.now leaf_bits r.now }
 {
+    if !is_held(r) {
+        return false;
+    }
     if !lies_below(r, top) {
         return false;
     }
@@ -96,10 +113,20 @@ fn has_some(set: &Set) -> bool
     set.len() > 0
 }
 
+// Whether a set has the room of an indirect block.
+fn has_room(set: &Set) -> bool
+    ensures { IsTrue result → set.now.capacity ≡ 32 }
+{
+    set.capacity() == BLOCK_CAPACITY
+}
+
 // Whether a set may be that of the node that `top` names.
 fn all_fit(set: &Set, top: &Ref, leaf_bits: u8) -> bool
     ensures { IsTrue result → AllFitBelow top.now leaf_bits set.now }
 {
+    if !has_room(set) {
+        return false;
+    }
     if !has_some(set) {
         return false;
     }

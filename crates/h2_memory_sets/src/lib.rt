@@ -6,6 +6,7 @@
 #![tactic(auto)]
 
 mod adding;
+mod dropping;
 mod judging;
 mod memory;
 mod moving;

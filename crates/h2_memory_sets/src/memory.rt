@@ -4,6 +4,7 @@ ghost use Rattle.std.specs.Vec.{vec_len, vec_capacity};
 ghost use Rattle.h2_memory_sets.specs.View.{AllRooted};
 
 use crate::adding::{add_node, new_reference, with_left, with_one};
+use crate::dropping::drop_all;
 use crate::judging::{bring_in, find_unspoiled, is_due};
 use crate::node::{KeyClass, Node};
 use crate::roots::add_top;
@@ -43,8 +44,9 @@ impl MemorySets {
     ghost use Rattle.h2_memory_sets.specs.Seen.{forest_of, blocks_of, failing_load, spoiled_load, refused_spare};
     ghost use Rattle.h2_memory_sets.specs.Roots.{AddsRoot, Unloads};
 
-    /// A forest with no node, in which this number of blocks can be taken.
+    /// A forest with no node, in which this number of blocks can be taken. The epoch is the number of a checkpoint.
     pub fn new(alloc: Global, epoch: u64, room: u64) -> MemorySets
+        requires { (1 ≤ epoch) × (epoch ≤ 2 ^ 62) }
         ensures sound { IsSound (forest_of result) }
         ensures empty { let f = forest_of result in (m : ℕ) → f.stands m ≡ false }
         ensures epoch { let f = forest_of result in f.epoch ≡ epoch }
@@ -139,6 +141,7 @@ fn one_more(count: u64) -> u64
 // The name that an entry of a directory has in itself; None where there is none.
 fn inline_name(alloc: Global, entry: Dirent) -> Result<Option<Bytes>, NoMemory>
     ensures some { IfOk result (λ o. IfSome o (λ b. b ≡ take entry.len entry.name)) }
+    ensures len { IfOk result (λ o. IfSome o (λ b. length b ≡ entry.len)) }
     ensures none { IfOk result (λ o. IfNone o (64 < entry.len)) }
 {
     let all = entry.name.as_slice();
@@ -221,6 +224,10 @@ impl Sets for MemorySets {
     }
 
     fn store(&mut self, at: NodeId, set: Set) {
+        let x = &self.nodes[at.0 as usize];
+        let (root, bits) = (x.root, x.bits);
+        let old = x.set.copy();
+        drop_all(&mut self.nodes, root, bits, &old, &set);
         self.nodes[at.0 as usize].set = set;
     }
 

@@ -1,9 +1,9 @@
 -- The fields of a reference, put over zeros.
-use Rattle.std.proofs.Common.{◌≡◌, ◌<◌, ◌≤◌, ℕ, ◌+◌, ◌-◌, refl, ◌∙◌, sym, ap, subst, arith, inl, inr, true}
-use Rattle.std.specs.Prelude.{Option, Some, None, zero, suc, slice_index, length, List}
-use Rattle.std.proofs.lemmas.Bool.{cases_lt, cond-true, cond-false, false≢true}
-use Rattle.h2_num.specs.Places.{Places, places, number_at, SameOutside, SameBelow, ZeroIn, Puts, Lays}
-use Rattle.h2_num.specs.PlaceLaws.{number_at-same, number_stays, byte_stays, zeros_stay, zeros_within, outside_both}
+use Rattle.std.proofs.Common.{◌≡◌, ◌≤◌, ℕ, ◌+◌, ◌-◌, refl, ◌∙◌, sym, ap, subst, arith, true}
+use Rattle.std.specs.Prelude.{Option, Some, None, zero, suc, length}
+use Rattle.std.proofs.lemmas.Bool.{cond-true, false≢true}
+use Rattle.h2_num.specs.Places.{Places, places, number_at, SameOutside, ZeroIn, Puts, Lays}
+use Rattle.h2_num.specs.PlaceLaws.{number_at-same, number_stays, byte_stays, outside_both}
 use Rattle.h2_ref.specs.Ref.{row, kind_number, method_number, check_len, check_value, area_len, fields_end, is_inline, inline_len, EntryFits, EntryBytes, NameBytes, RefBytes}
 use Rattle.h2_ref.specs.Table.{row_of}
 use Rattle.h2_ref.specs.declared.reference.Kind.{Kind}

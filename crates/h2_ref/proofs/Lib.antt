@@ -1,3 +1,4 @@
 pub mod Area
 pub mod Adjacent
 pub mod Fields
+pub mod Padding

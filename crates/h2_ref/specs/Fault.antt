@@ -1,5 +1,5 @@
 -- Which refusal bytes that are no reference meet: the first of the order, as the bytes show it.
-use Rattle.std.specs.Prelude.{◌≡◌, ℕ, zero, suc, Bool, true, false, not, ◌&&◌, ◌||◌, ◌==◌, ◌+◌, ◌-◌, ◌%◌, ◌^◌, nat_le, nat_lt, if◌then◌else◌, Option, Some, None, option_map}
+use Rattle.std.specs.Prelude.{ℕ, zero, suc, Bool, true, not, ◌&&◌, ◌||◌, ◌==◌, ◌+◌, ◌-◌, ◌%◌, ◌^◌, nat_le, nat_lt, if◌then◌else◌, Option, Some, None, option_map}
 use Rattle.h2_num.specs.Places.{Places, number_at}
 use Rattle.h2_ref.specs.declared.reference.Kind.{Kind}
 use Rattle.h2_ref.specs.declared.reference.Kind.TheVariants.{Empty, Inode, Indirect, Content, Dirent, MapNode, MapLeaf}
@@ -9,9 +9,8 @@ use Rattle.h2_ref.specs.declared.table.Span.{Span}
 use Rattle.h2_ref.specs.declared.table.Keybits.{Keybits}
 use Rattle.h2_ref.specs.declared.table.Keybits.TheVariants.{Just, Either, Between}
 use Rattle.h2_ref.specs.declared.table.CheckClass.{CheckClass}
-use Rattle.h2_ref.specs.declared.table.CheckClass.TheVariants.{Absent, OfBlock, OfMap}
 use Rattle.h2_ref.specs.declared.table.Row.{Row}
-use Rattle.h2_ref.specs.Table.{row_of}
+use Rattle.h2_ref.specs.Table.{method_of, row_of}
 use Rattle.h2_ref.specs.Ref.{is_inline}
 
 -- The tests of the table
@@ -28,9 +27,7 @@ in_span s n = nat_le s.least n && nat_le n s.last
 
 -- a class of checks has the method with a number
 abbrev pub is_method_of : CheckClass → ℕ → Bool
-is_method_of Absent method = method == 0
-is_method_of OfBlock method = method == 3
-is_method_of OfMap method = method == 5
+is_method_of class method = method == (method_of class).number
 
 -- keybits are allowed
 abbrev pub has_keybits : Keybits → ℕ → Bool
@@ -66,14 +63,10 @@ abbrev pub entry_fits_at : Option Span → Places → Bool
 entry_fits_at None b = true
 entry_fits_at (Some names) b = is_entry_at names b
 
--- how many bytes a method's check has
-abbrev pub method_len : ℕ → ℕ
-method_len method = if method == 3 then 8 else if method == 5 then 4 else 0
-
--- how many bytes of the check area are in use: those of a name that stands there, or of the check
+-- how many bytes of the check area are in use: those of a name that stands there, or of the row's check
 abbrev pub area_len_at : Row → Option Span → Places → ℕ
-area_len_at w None b = method_len (b 1)
-area_len_at w (Some names) b = if is_inline w then number_at b 40 2 else method_len (b 1)
+area_len_at w None b = (method_of w.check).area
+area_len_at w (Some names) b = if is_inline w then number_at b 40 2 else (method_of w.check).area
 
 -- where the fields of an entry end, or those of every other kind
 abbrev pub fields_end_at : Option Span → ℕ

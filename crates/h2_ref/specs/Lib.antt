@@ -5,6 +5,7 @@ pub mod Set
 pub mod RefLaws
 pub mod Fault
 pub mod FirstPlace
+pub mod Padding
 pub mod Tests
 pub mod Passing
 pub mod Reading

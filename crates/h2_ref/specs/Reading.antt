@@ -1,5 +1,5 @@
 -- What stands in the bytes of a reference, by its kind.
-use Rattle.std.specs.Prelude.{◌≡◌, ℕ, zero, suc, ◌==◌, if◌then◌else◌, List, [], ◌∷◌, replicate, Option, option_map}
+use Rattle.std.specs.Prelude.{ℕ, zero, suc, if◌then◌else◌, List, [], ◌∷◌, replicate, Option, option_map}
 use Rattle.h2_num.specs.Places.{Places, number_at}
 use Rattle.h2_ref.specs.declared.reference.Kind.{Kind}
 use Rattle.h2_ref.specs.declared.reference.Check.{Check}
@@ -7,8 +7,10 @@ use Rattle.h2_ref.specs.declared.reference.Check.TheVariants.{Nothing, Crc, Xx}
 use Rattle.h2_ref.specs.declared.reference.Dirent.{Dirent as Entry}
 use Rattle.h2_ref.specs.declared.reference.Ref.{Ref}
 use Rattle.h2_ref.specs.declared.table.Span.{Span}
+use Rattle.h2_ref.specs.declared.table.CheckClass.{CheckClass}
+use Rattle.h2_ref.specs.declared.table.CheckClass.TheVariants.{Absent, OfBlock, OfMap}
 use Rattle.h2_ref.specs.declared.table.Row.{Row}
-use Rattle.h2_ref.specs.Table.{row_of}
+use Rattle.h2_ref.specs.Table.{method_of, row_of}
 use Rattle.h2_ref.specs.Ref.{is_inline}
 use Rattle.h2_ref.specs.Fault.{place_at, radix_at}
 
@@ -17,9 +19,15 @@ unfoldable pub bytes_from : Places → ℕ → ℕ → List ℕ
 bytes_from b at zero = []
 bytes_from b at (suc n) = b at ∷ bytes_from b (suc at) n
 
--- the check of a method
-abbrev pub check_of : ℕ → Places → Check
-check_of method b = if method == 3 then Xx (number_at b 64 8) else if method == 5 then Crc (number_at b 64 4) else Nothing
+-- the check of a class with a value
+abbrev pub check_with : CheckClass → ℕ → Check
+check_with Absent value = Nothing
+check_with OfBlock value = Xx value
+check_with OfMap value = Crc value
+
+-- the check of a class
+abbrev pub check_of : CheckClass → Places → Check
+check_of class b = check_with class (number_at b 64 (method_of class).area)
 
 -- the name in the check area, or none
 abbrev pub name_at : Row → Places → List ℕ
@@ -42,6 +50,6 @@ ref_at kind b = record {
   place = place_at b;
   radix = radix_at b;
   id = number_at b 24 8;
-  check = check_of (b 1) b;
+  check = check_of (row_of kind (b 1)).check b;
   dirent = dirent_at (row_of kind (b 1)) (row_of kind (b 1)).names b;
 }

@@ -1,5 +1,5 @@
 -- References, and which are valid.
-use Rattle.std.specs.Prelude.{◌≡◌, ◌⊎◌, ◌<◌, ◌≤◌, ⊤, Bool, ℕ, zero, suc, ◌+◌, ◌*◌, ◌%◌, ◌^◌, ◌==◌, if◌then◌else◌, List, length, slice_index, Option, Some, None}
+use Rattle.std.specs.Prelude.{◌≡◌, ◌⊎◌, ◌<◌, ◌≤◌, ⊤, Bool, ℕ, zero, suc, ◌+◌, ◌*◌, ◌%◌, ◌^◌, ◌==◌, if◌then◌else◌, length, slice_index, Option, Some, None}
 use Rattle.h2_num.specs.Places.{Places, places, number_at, ZeroIn}
 use Rattle.h2_ref.specs.declared.reference.Kind.{Kind}
 use Rattle.h2_ref.specs.declared.reference.Kind.TheVariants.{Empty, Inode, Indirect, Content, Dirent, MapNode, MapLeaf}
@@ -13,7 +13,7 @@ use Rattle.h2_ref.specs.declared.table.Keybits.TheVariants.{Just, Either, Betwee
 use Rattle.h2_ref.specs.declared.table.CheckClass.{CheckClass}
 use Rattle.h2_ref.specs.declared.table.CheckClass.TheVariants.{Absent, OfBlock, OfMap}
 use Rattle.h2_ref.specs.declared.table.Row.{Row}
-use Rattle.h2_ref.specs.Table.{row_of}
+use Rattle.h2_ref.specs.Table.{method_of, row_of}
 
 -- the number of a kind
 abbrev pub kind_number : Kind → ℕ
@@ -25,17 +25,19 @@ kind_number Dirent = 4
 kind_number MapNode = 5
 kind_number MapLeaf = 6
 
+-- the class of a check
+abbrev pub class_of : Check → CheckClass
+class_of Nothing = Absent
+class_of (Xx n) = OfBlock
+class_of (Crc n) = OfMap
+
 -- the number of the method of a check
 abbrev pub method_number : Check → ℕ
-method_number Nothing = 0
-method_number (Xx n) = 3
-method_number (Crc n) = 5
+method_number check = (method_of (class_of check)).number
 
 -- how many bytes a check has
 abbrev pub check_len : Check → ℕ
-check_len Nothing = 0
-check_len (Xx n) = 8
-check_len (Crc n) = 4
+check_len check = (method_of (class_of check)).area
 
 -- the number that they spell
 abbrev pub check_value : Check → ℕ
@@ -56,11 +58,9 @@ pub record InSpan (s : Span) (n : ℕ) : Type 0 where
   pub least : s.least ≤ n
   pub last : n ≤ s.last
 
--- the methods of a class of checks
+-- the method of a class of checks
 abbrev pub IsMethodOf : CheckClass → ℕ → Type 0
-IsMethodOf Absent method = method ≡ 0
-IsMethodOf OfBlock method = method ≡ 3
-IsMethodOf OfMap method = method ≡ 5
+IsMethodOf class method = method ≡ (method_of class).number
 
 -- the keybits that are allowed
 abbrev pub HasKeybits : Keybits → ℕ → Type 0

@@ -1,5 +1,5 @@
 -- The bytes of a reference are seen by its 128 places alone. The empty reference is valid.
-use Rattle.std.specs.Prelude.{◌≤◌, ◌<◌, ◌+◌, ℕ, Option, Some, None, refl}
+use Rattle.std.specs.Prelude.{◌≤◌, ◌+◌, Option, Some, None, refl}
 use Rattle.std.proofs.Common.{◌∙◌, arith}
 use Rattle.h2_num.specs.Places.{Places, SameBelow}
 use Rattle.h2_num.specs.PlaceLaws.{number_same, zeros_same}
@@ -8,9 +8,10 @@ use Rattle.h2_ref.specs.declared.reference.Check.TheVariants.{Nothing, Crc, Xx}
 use Rattle.h2_ref.specs.declared.reference.Dirent.{Dirent as Entry}
 use Rattle.h2_ref.specs.declared.reference.Ref.{Ref}
 use Rattle.h2_ref.specs.declared.table.Row.{Row}
-use Rattle.h2_ref.specs.Ref.{row, check_len, inline_len, area_len, fields_end, EntryBytes, NameBytes, FieldBytes, GapBytes, RefBytes, IsValid, empty_ref}
+use Rattle.h2_ref.specs.Ref.{row, check_len, area_len, fields_end, EntryBytes, NameBytes, FieldBytes, GapBytes, RefBytes, IsValid, empty_ref}
 
-pub check_len-most : (c : Check) → check_len c ≤ 8
+-- a check has room in the check area
+pub check_len-most : (c : Check) → check_len c ≤ 64
 check_len-most Nothing = omega arith
 check_len-most (Xx n) = omega arith
 check_len-most (Crc n) = omega arith

@@ -1,5 +1,5 @@
--- The table of references: what is allowed of each kind, a row for each.
-use Rattle.std.specs.Prelude.{◌≡◌, ◌⊎◌, ◌<◌, ◌≤◌, ◌-◌, ◌^◌, ℕ, zero, suc, Option, Some, None}
+-- The tables of references: how each method's check stands in them, and what is allowed of each kind, a row for each.
+use Rattle.std.specs.Prelude.{◌-◌, ◌^◌, ℕ, zero, suc, Some, None}
 use Rattle.h2_ref.specs.declared.reference.Kind.{Kind}
 use Rattle.h2_ref.specs.declared.reference.Kind.TheVariants.{Empty, Inode, Indirect, Content, Dirent, MapNode, MapLeaf}
 use Rattle.h2_ref.specs.declared.flags.RefFlags.{RefFlags}
@@ -8,7 +8,18 @@ use Rattle.h2_ref.specs.declared.table.Keybits.{Keybits}
 use Rattle.h2_ref.specs.declared.table.Keybits.TheVariants.{Just, Either, Between}
 use Rattle.h2_ref.specs.declared.table.CheckClass.{CheckClass}
 use Rattle.h2_ref.specs.declared.table.CheckClass.TheVariants.{Absent, OfBlock, OfMap}
+use Rattle.h2_ref.specs.declared.table.Method.{Method}
 use Rattle.h2_ref.specs.declared.table.Row.{Row}
+
+-- the number of a method, and how many bytes of the check area its check takes
+abbrev pub method : ℕ → ℕ → Method
+method number area = record { number = number; area = area }
+
+-- the row of a class of checks: none, XXH64 of a block of files and directories, CRC-32C of one of the freemap
+abbrev pub method_of : CheckClass → Method
+method_of Absent = method 0 0
+method_of OfBlock = method 3 8
+method_of OfMap = method 5 4
 
 -- the numbers from one to another
 abbrev pub span : ℕ → ℕ → Span

@@ -1,16 +1,16 @@
 -- The tests of the table and its facts are the same.
-use Rattle.std.specs.Prelude.{◌≡◌, ◌⊎◌, ◌<◌, ◌≤◌, ⊤, ℕ, zero, suc, Bool, true, false, ◌&&◌, ◌||◌, ◌+◌, ◌*◌, ◌%◌, ◌^◌, ◌==◌, nat_le, nat_lt, Option, Some, None, refl}
-use Rattle.std.proofs.Common.{sym, arith, inl, inr}
+use Rattle.std.specs.Prelude.{◌≡◌, ◌⊎◌, ◌<◌, ⊤, ℕ, zero, suc, true, ◌&&◌, ◌||◌, ◌%◌, ◌^◌, ◌==◌, nat_le, nat_lt, Option, Some, None, refl}
+use Rattle.std.proofs.Common.{inl, inr}
 use Rattle.std.proofs.lemmas.Bool.{and_parts, and_from, or_cases, or_left, or_right, leb-true, le-leb, ltb-true, lt-ltb, eqb-true, eq-eqb}
 use Rattle.h2_num.specs.Places.{Places, number_at}
 use Rattle.h2_ref.specs.declared.table.Span.{Span}
 use Rattle.h2_ref.specs.declared.table.Keybits.{Keybits}
 use Rattle.h2_ref.specs.declared.table.Keybits.TheVariants.{Just, Either, Between}
 use Rattle.h2_ref.specs.declared.table.CheckClass.{CheckClass}
-use Rattle.h2_ref.specs.declared.table.CheckClass.TheVariants.{Absent, OfBlock, OfMap}
 use Rattle.h2_ref.specs.declared.table.Row.{Row}
-use Rattle.h2_ref.specs.Ref.{InSpan, IsMethodOf, HasKeybits, KeyFits, IsBlockPlace, PlaceFits}
-use Rattle.h2_ref.specs.Fault.{in_span, is_method_of, has_keybits, key_fits, place_fits, is_entry_at, entry_fits_at}
+use Rattle.h2_ref.specs.Table.{method_of}
+use Rattle.h2_ref.specs.Ref.{InSpan, IsMethodOf, HasKeybits, KeyFits, PlaceFits}
+use Rattle.h2_ref.specs.Fault.{in_span, is_method_of, has_keybits, key_fits, place_fits, entry_fits_at}
 
 pub in_span-fact : (s : Span) (n : ℕ) → in_span s n ≡ true → InSpan s n
 in_span-fact s n e = let p = and_parts (nat_le s.least n) (nat_le n s.last) e in record { least = leb-true s.least n p.0; last = leb-true n s.last p.1 }
@@ -19,14 +19,10 @@ pub in_span-test : (s : Span) (n : ℕ) → InSpan s n → in_span s n ≡ true
 in_span-test s n h = and_from (nat_le s.least n) (nat_le n s.last) (le-leb s.least n h.least) (le-leb n s.last h.last)
 
 pub method-fact : (c : CheckClass) (m : ℕ) → is_method_of c m ≡ true → IsMethodOf c m
-method-fact Absent m e = eqb-true m 0 e
-method-fact OfBlock m e = eqb-true m 3 e
-method-fact OfMap m e = eqb-true m 5 e
+method-fact c m e = eqb-true m (method_of c).number e
 
 pub method-test : (c : CheckClass) (m : ℕ) → IsMethodOf c m → is_method_of c m ≡ true
-method-test Absent m h = eq-eqb m 0 h
-method-test OfBlock m h = eq-eqb m 3 h
-method-test OfMap m h = eq-eqb m 5 h
+method-test c m h = eq-eqb m (method_of c).number h
 
 keybits-fact : (k : Keybits) (n : ℕ) → has_keybits k n ≡ true → HasKeybits k n
 keybits-fact (Just a) n e = eqb-true n a e

@@ -14,17 +14,17 @@ use crate::layout::{
     REF_BYTES, TARGET_AT,
 };
 use crate::reference::{Check, Dirent, Kind, Ref};
-use crate::table::{Row, row_of};
+use crate::table::{CheckClass, Row, row_of};
 use h2_num::{get16, get32, get64};
 
-/// The check that stands in the bytes.
-fn check_of(b: &[u8; REF_BYTES]) -> Check
-    ensures { result ≡ check_of (places b.now 1) (places b.now) }
+/// The check of a class that stands in the bytes.
+fn check_of(class: CheckClass, b: &[u8; REF_BYTES]) -> Check
+    ensures { result ≡ check_of class (places b.now) }
 {
-    match b[METHOD_AT] {
-        3 => Check::Xx(get64(b, AREA_AT)),
-        5 => Check::Crc(get32(b, AREA_AT)),
-        _ => Check::Nothing,
+    match class {
+        CheckClass::Absent => Check::Nothing,
+        CheckClass::OfBlock => Check::Xx(get64(b, AREA_AT)),
+        CheckClass::OfMap => Check::Crc(get32(b, AREA_AT)),
     }
 }
 
@@ -68,7 +68,7 @@ fn read(kind: Kind, w: &Row, b: &[u8; REF_BYTES]) -> Ref
         place: place_at(b),
         radix: radix_at(b),
         id: get64(b, ID_AT),
-        check: check_of(b),
+        check: check_of(w.check, b),
         dirent: dirent_at(w, b),
     }
 }

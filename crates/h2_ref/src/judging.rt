@@ -1,6 +1,6 @@
 ghost use Rattle.std.specs.Prelude.{◌≡◌, ◌<◌, ◌≤◌, ◌+◌, IfNone, IfSome, MatchOption, option_map};
-ghost use Rattle.h2_num.specs.Places.{places};
-ghost use Rattle.h2_ref.specs.Fault.{area_len_at, entry_fits_at, fault_by, fields_end_at, first_place, is_entry_at, is_padding, kind_of, method_len, must_be_zero, place_at, radix_at};
+ghost use Rattle.h2_num.specs.Places.{places, ZeroIn};
+ghost use Rattle.h2_ref.specs.Fault.{area_len_at, entry_fits_at, fault_by, fields_end_at, first_place, is_entry_at, is_padding, kind_of, place_at, radix_at};
 ghost use Rattle.h2_ref.specs.Limits.{IsLimited};
 
 use crate::faults::RefFault;
@@ -11,15 +11,12 @@ use crate::layout::{
 };
 use crate::reference::Kind;
 use crate::rules::{in_span, is_method_of, key_fits, place_fits};
-use crate::table::{Row, Span};
+use crate::table::{INODE_END, Row, Span, method_of};
 use bitflags::Flags;
-use h2_num::{get16, get64};
+use h2_num::{first_nonzero, get16, get64};
 
 /// One more than the greatest radix that the low bits of a place hold.
 const RADIX_END: u64 = 64;
-
-/// The end of the numbers of inodes.
-const INODE_END: u64 = 1 << 62;
 
 /// The kind with the number; None where there is none.
 pub fn kind_of(number: u8) -> Option<Kind>
@@ -72,17 +69,6 @@ fn entry_fits_at(names: Option<Span>, b: &[u8; REF_BYTES]) -> bool
     }
 }
 
-/// How many bytes a method's check has.
-fn method_len(method: u8) -> usize
-    ensures { result ≡ method_len method }
-{
-    match method {
-        3 => 8,
-        5 => 4,
-        _ => 0,
-    }
-}
-
 /// How many bytes of the check area are in use: those of a name that stands there, or of the check.
 fn area_len_at(w: &Row, b: &[u8; REF_BYTES]) -> usize
     ensures { result ≡ area_len_at w.now w.now.names (places b.now) }
@@ -90,13 +76,14 @@ fn area_len_at(w: &Row, b: &[u8; REF_BYTES]) -> usize
     if w.names.is_some() && w.flags == RefFlags::INLINE {
         get16(b, LEN_AT) as usize
     } else {
-        method_len(b[METHOD_AT])
+        method_of(w.check).area
     }
 }
 
 /// Where the fields of an entry end, or those of every other kind.
 fn fields_end_at(names: Option<Span>) -> usize
-    ensures { result ≡ fields_end_at names }
+    ensures end { result ≡ fields_end_at names }
+    ensures before_area { result ≤ 64 }
 {
     match names {
         None => NUMBER_AT,
@@ -104,35 +91,30 @@ fn fields_end_at(names: Option<Span>) -> usize
     }
 }
 
-/// Whether the byte at a place must be zero.
-fn must_be_zero(w: &Row, b: &[u8; REF_BYTES], at: usize) -> bool
-    requires { at < 128 }
-    ensures { result ≡ must_be_zero w.now (places b.now) at }
+/// The first nonzero byte from a place on.
+fn nonzero_from(b: &[u8; REF_BYTES], from: usize) -> Option<usize>
+    ensures { MatchOption result (ZeroIn from 128 (places b.now))
+        (λ at. (from ≤ at) × (at < 128) × (0 < places b.now at) × ZeroIn from at (places b.now)) }
 {
-    FLAGS_END <= at && at < KEY_AT
-        || fields_end_at(w.names) <= at && at < AREA_AT
-        || AREA_AT + area_len_at(w, b) <= at
+    if from >= REF_BYTES {
+        return None;
+    }
+    first_nonzero(b, from, REF_BYTES)
 }
 
-/// Whether it must be, and isn't.
-fn is_padding(w: &Row, b: &[u8; REF_BYTES], at: usize) -> bool
-    requires { at < 128 }
-    ensures { result ≡ is_padding w.now (places b.now) at }
-{
-    must_be_zero(w, b, at) && b[at] != 0
-}
-
-/// The first nonzero byte that must be zero.
+/// The first nonzero byte that must be zero: before the key, before the check area, or behind what is in use
+/// of the area.
 fn first_padding(w: &Row, b: &[u8; REF_BYTES]) -> Option<usize>
     ensures place { result ≡ first_place (is_padding w.now (places b.now)) 128 }
     ensures within { IfSome result (λ at. at < 128) }
 {
-    for at in 0..REF_BYTES {
-        if is_padding(w, b, at) {
-            return Some(at);
-        }
+    if let Some(at) = first_nonzero(b, FLAGS_END, KEY_AT) {
+        return Some(at);
     }
-    None
+    if let Some(at) = first_nonzero(b, fields_end_at(w.names), AREA_AT) {
+        return Some(at);
+    }
+    nonzero_from(b, AREA_AT + area_len_at(w, b))
 }
 
 /// The first refusal by a row of the table.

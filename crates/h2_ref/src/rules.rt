@@ -1,19 +1,13 @@
 ghost use Rattle.std.specs.Prelude.{◌≡◌, ◌<◌, ◌%◌, ◌^◌, ◌↔◌, IsTrue, length};
 ghost use Rattle.h2_num.specs.Places.{places, ZeroIn};
-ghost use Rattle.h2_ref.specs.Ref.{HasKeybits, InSpan, IsMethodOf, IsStored, method_number, PlaceFits, KeyFits, EntryFits, IsEntry, FitsRow, IsValid, inline_len};
+ghost use Rattle.h2_ref.specs.Ref.{HasKeybits, InSpan, IsMethodOf, IsStored, class_of, method_number, PlaceFits, KeyFits, EntryFits, IsEntry, FitsRow, IsValid, inline_len};
 ghost use Rattle.h2_ref.specs.Fault.{in_span, is_method_of, has_keybits, key_fits, place_fits};
 ghost use Rattle.h2_ref.specs.Limits.{IsLimited};
 
 use crate::flags::RefFlags;
 use crate::reference::{Check, Dirent, Ref};
-use crate::table::{CheckClass, Keybits, Row, Span, row_of};
+use crate::table::{CheckClass, DISK_BYTES, INODE_END, Keybits, Row, Span, method_of, row_of};
 use h2_num::first_nonzero;
-
-/// The end of a disk's places.
-const DISK_BYTES: u64 = 1 << 34;
-
-/// The end of the numbers of inodes.
-const INODE_END: u64 = 1 << 62;
 
 /// Whether a number is in a span.
 pub fn in_span(s: Span, n: u64) -> bool
@@ -28,11 +22,7 @@ pub fn is_method_of(class: CheckClass, method: u8) -> bool
     ensures test { result ≡ is_method_of class method }
     ensures fact { IsTrue result ↔ IsMethodOf class method }
 {
-    match class {
-        CheckClass::Absent => method == 0,
-        CheckClass::OfBlock => method == 3,
-        CheckClass::OfMap => method == 5,
-    }
+    method == method_of(class).number
 }
 
 /// Whether these are keybits of a kind.
@@ -105,16 +95,24 @@ fn entry_fits(w: &Row, dirent: &Option<Dirent>) -> bool
     }
 }
 
+/// The class of a check.
+fn class_of(check: Check) -> CheckClass
+    ensures class { result ≡ class_of check }
+    ensures stored { IsStored check }
+{
+    match check {
+        Check::Nothing => CheckClass::Absent,
+        Check::Xx(_) => CheckClass::OfBlock,
+        Check::Crc(_) => CheckClass::OfMap,
+    }
+}
+
 /// The number of the method of a check.
 pub fn method_number(check: Check) -> u8
     ensures number { result ≡ method_number check }
     ensures stored { IsStored check }
 {
-    match check {
-        Check::Nothing => 0,
-        Check::Xx(_) => 3,
-        Check::Crc(_) => 5,
-    }
+    method_of(class_of(check)).number
 }
 
 /// Whether a reference is allowed by a row.

@@ -1,5 +1,5 @@
 ghost use Rattle.std.specs.Prelude.{◌≡◌};
-ghost use Rattle.h2_ref.specs.Table.{block_row, inline_row, map_row, row_of};
+ghost use Rattle.h2_ref.specs.Table.{block_row, inline_row, map_row, method_of, row_of};
 
 use crate::flags::RefFlags;
 use crate::reference::Kind;
@@ -23,7 +23,7 @@ pub enum Keybits {
     Between(u8, u8),
 }
 
-/// Whose check a kind has.
+/// Whose check a kind has, and so by which method.
 #[derive(Clone, Copy)]
 pub enum CheckClass {
     /// There is no block, and no check.
@@ -32,6 +32,15 @@ pub enum CheckClass {
     OfBlock,
     /// That of a block of the freemap.
     OfMap,
+}
+
+/// How a check stands in a reference: a row of the table of methods.
+#[derive(Clone, Copy)]
+pub struct Method {
+    /// The number of the method.
+    pub number: u8,
+    /// How many bytes of the check area the check takes.
+    pub area: usize,
 }
 
 /// What is allowed of a kind: a row of the table of references. An entry of a directory has two, since its
@@ -48,6 +57,12 @@ pub struct Row {
     pub names: Option<Span>,
 }
 
+/// The end of a disk's places, in bytes.
+pub const DISK_BYTES: u64 = 1 << 34;
+
+/// The end of the numbers of inodes.
+pub const INODE_END: u64 = 1 << 62;
+
 /// Zero alone.
 const ZERO: Span = Span { least: 0, last: 0 };
 
@@ -60,7 +75,7 @@ const IDS: Span = Span {
 /// The numbers of inodes.
 const INODES: Span = Span {
     least: 1,
-    last: (1 << 62) - 1,
+    last: INODE_END - 1,
 };
 
 /// All keys.
@@ -84,7 +99,7 @@ const NAME_KEYS: Span = Span {
 /// The places of a disk.
 const PLACES: Span = Span {
     least: 0,
-    last: (1 << 34) - 1,
+    last: DISK_BYTES - 1,
 };
 
 /// The lengths of names that stand in their entries, in bytes.
@@ -95,6 +110,17 @@ const LONG_NAMES: Span = Span {
     least: 65,
     last: 255,
 };
+
+/// The row of a class of checks: its method.
+pub fn method_of(class: CheckClass) -> Method
+    ensures { result ≡ method_of class }
+{
+    match class {
+        CheckClass::Absent => Method { number: 0, area: 0 },
+        CheckClass::OfBlock => Method { number: 3, area: 8 },
+        CheckClass::OfMap => Method { number: 5, area: 4 },
+    }
+}
 
 /// The row of a block of files and directories.
 fn block_row(radix: u8, keybits: Keybits, keys: Span) -> Row

@@ -267,11 +267,13 @@ pub record Unchanged (f g : Forest) : Type 0 where
   pub spare : g.spare ≡ f.spare
   pub room : g.room ≡ f.room
 
--- nothing but loads took place: nodes have been loaded, and all else but the two counts is as before
+-- nothing but loads took place: indirect blocks have been loaded, and all else but the two counts is as before
 pub record Walks (f g : Forest) : Type 0 where
   pub sound : IsSound g
   pub fixed : Fixed f g
   pub stays : (m : ℕ) → f.stands m ≡ true → Stays f g m
+  -- no root was loaded, only indirect blocks
+  pub roots : (m : ℕ) → g.stands m ≡ true → g.root m ≡ m → f.stands m ≡ true
   pub sets : (m : ℕ) → f.stands m ≡ true → g.set m ≡ f.set m
   pub writable : (m : ℕ) → f.stands m ≡ true → g.writable m ≡ f.writable m
   pub copies : (m : ℕ) → f.stands m ≡ true → g.copies m ≡ f.copies m

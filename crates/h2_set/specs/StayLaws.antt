@@ -110,13 +110,14 @@ Stays-trans f g h sound all m a =
     }
 
 pub Walks-refl : (f : Forest) → IsSound f → Walks f f
-Walks-refl f sound = record { sound = sound; fixed = Fixed-refl f; stays = λ m stands. Stays-refl f m stands; sets = λ m stands. refl; writable = λ m stands. refl; copies = λ m stands. refl; spare = refl; room = refl }
+Walks-refl f sound = record { sound = sound; fixed = Fixed-refl f; stays = λ m stands. Stays-refl f m stands; roots = λ m stands root. stands; sets = λ m stands. refl; writable = λ m stands. refl; copies = λ m stands. refl; spare = refl; room = refl }
 
 pub Walks-trans : (f g h : Forest) → Walks f g → Walks g h → Walks f h
 Walks-trans f g h a b = record {
   sound = b.sound;
   fixed = Fixed-trans f g h a.fixed b.fixed;
   stays = λ m stands. Stays-trans f g h a.sound b.stays m (a.stays m stands);
+  roots = λ m stands root. let middle = b.roots m stands root in a.roots m middle (sym (b.stays m middle).place.root ∙ root);
   sets = λ m stands. b.sets m (a.stays m stands).place.stands ∙ a.sets m stands;
   writable = λ m stands. b.writable m (a.stays m stands).place.stands ∙ a.writable m stands;
   copies = λ m stands. b.copies m (a.stays m stands).place.stands ∙ a.copies m stands;
@@ -149,6 +150,7 @@ Unchanged-walks f g u = record {
   sound = u.sound;
   fixed = u.fixed;
   stays = λ m stands. Same-Stays f g m (u.same m stands);
+  roots = λ m stands root. u.none_new m stands;
   sets = λ m stands. (u.same m stands).set;
   writable = λ m stands. (u.same m stands).writable;
   copies = λ m stands. (u.same m stands).copies;

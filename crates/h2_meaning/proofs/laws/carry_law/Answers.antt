@@ -1,5 +1,6 @@
 use Rattle.h2_meaning.specs.Forest.{InTable}
-use Rattle.h2_meaning.specs.CarryLaws.{contents_carried, directory_carried, table_carried, pfs_list_carried, forest_carried}
+use Rattle.h2_inode.specs.CarryLaws.{contents_carried, directory_carried, pfs_list_carried}
+use Rattle.h2_meaning.specs.CarryLaws.{table_carried, forest_carried}
 use Rattle.h2_meaning.proofs.laws.carry_law.Goals as goal
 
 pub returns : goal.returns

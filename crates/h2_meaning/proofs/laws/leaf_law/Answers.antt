@@ -1,5 +1,6 @@
 use Rattle.h2_meaning.specs.Forest.{InTable}
-use Rattle.h2_meaning.specs.FoundLaws.{entry_of_leaf, leaf_of_entry, node_of_leaf, leaf_of_node}
+use Rattle.h2_inode.specs.FoundLaws.{entry_of_leaf, leaf_of_entry}
+use Rattle.h2_meaning.specs.FoundLaws.{node_of_leaf, leaf_of_node}
 use Rattle.h2_meaning.proofs.laws.leaf_law.Goals as goal
 
 pub returns : goal.returns

@@ -1,5 +1,6 @@
 use Rattle.h2_meaning.specs.Forest.{InTable}
-use Rattle.h2_meaning.specs.SingleLaws.{contents_one, directory_one, table_one, pfs_list_one, forest_one}
+use Rattle.h2_inode.specs.SingleLaws.{contents_one, directory_one, pfs_list_one}
+use Rattle.h2_meaning.specs.SingleLaws.{table_one, forest_one}
 use Rattle.h2_meaning.proofs.laws.one_meaning_law.Goals as goal
 
 pub returns : goal.returns

@@ -1,5 +1,6 @@
 use Rattle.h2_meaning.specs.Forest.{InTable}
-use Rattle.h2_meaning.specs.OrderLaws.{numbers_ascend, listed_ids_ascend, ids_ascend}
+use Rattle.h2_inode.specs.OrderLaws.{listed_ids_ascend}
+use Rattle.h2_meaning.specs.OrderLaws.{numbers_ascend, ids_ascend}
 use Rattle.h2_meaning.proofs.laws.order_law.Goals as goal
 
 pub returns : goal.returns

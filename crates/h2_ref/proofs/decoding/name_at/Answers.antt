@@ -1,6 +1,6 @@
-use Rattle.std.proofs.Common.{◌≡◌, ℕ, List, sym, ◌∙◌, true}
+use Rattle.std.proofs.Common.{◌≡◌, sym, ◌∙◌, true}
 use Rattle.std.proofs.lemmas.Bool.{cond-true, not-false}
-use Rattle.std.specs.Prelude.{◌==◌, replicate}
+use Rattle.std.specs.Prelude.{replicate}
 use Rattle.h2_num.specs.Places.{places}
 use Rattle.h2_ref.specs.Ref.{is_inline}
 use Rattle.h2_ref.specs.Reading.{bytes_from}

@@ -1,4 +1,4 @@
-use Rattle.std.proofs.Common.{◌≡◌, ◌∙◌, ap, ◌+◌}
+use Rattle.std.proofs.Common.{◌≡◌, ◌∙◌, ap}
 use Rattle.h2_num.specs.Places.{places}
 use Rattle.h2_ref.specs.Ref.{row, method_number}
 use Rattle.h2_ref.specs.Table.{row_of}

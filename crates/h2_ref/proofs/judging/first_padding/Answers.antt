@@ -1,16 +1,18 @@
-use Rattle.std.proofs.Common.{sym, ◌∙◌, add-one}
 use Rattle.h2_num.specs.Places.{places}
-use Rattle.h2_ref.specs.Fault.{is_padding}
-use Rattle.h2_ref.specs.FirstPlace.{first_place-zero, first_place-none, first_place-found}
+use Rattle.h2_ref.proofs.Padding.{padding_before_key, padding_before_area, padding_behind}
 use Rattle.h2_ref.proofs.judging.first_padding.Goals as goal
 
-pub loop-at-init : goal.loop-at-init
-loop-at-init c = first_place-zero (is_padding c.args.w.now (places c.args.b.now))
+pub returns-in-Some-clause-place : goal.returns-in-Some-clause-place
+returns-in-Some-clause-place c =
+    let h = c.in-Some.ensures in
+    padding_before_key c.args.w.now (places c.args.b.now) c.in-Some.at h.0 h.1 h.2 h.3
 
-pub returns-then-is_padding-clause-place : goal.returns-then-is_padding-clause-place
-returns-then-is_padding-clause-place c =
-    sym (first_place-found (is_padding c.args.w.now (places c.args.b.now)) c.loop-at.at 128 c.loop-at.invariant (sym c.is_padding.ensures ∙ c.if-is_padding.true) c.loop-at-test.true)
+pub returns-in-Some-first_nonzero-clause-place : goal.returns-in-Some-first_nonzero-clause-place
+returns-in-Some-first_nonzero-clause-place c =
+    let h = rw c.fields_end_at.ensures.end at c.in-Some-first_nonzero.ensures in
+    padding_before_area c.args.w.now (places c.args.b.now) c.in-Some-first_nonzero.at c.in_default.ensures h.0 h.1 h.2 h.3
 
-pub loop-at-preserved : goal.loop-at-preserved
-loop-at-preserved c =
-    rw (add-one c.loop-at.at) (first_place-none (is_padding c.args.w.now (places c.args.b.now)) c.loop-at.at c.loop-at.invariant (sym c.is_padding.ensures ∙ c.if-is_padding.false))
+pub returns-clause-place : goal.returns-clause-place
+returns-clause-place c =
+    padding_behind c.args.w.now (places c.args.b.now) c.nonzero_from.result c.in_default.ensures
+    (rw c.fields_end_at.ensures.end at c.in_default-first_nonzero.ensures) (rw c.area_len_at.ensures at c.nonzero_from.ensures)

@@ -3,6 +3,7 @@ use Rattle.std.proofs.lemmas.Option.{slice_get_past}
 use Rattle.h2_set.specs.Ranges.{Rising, put}
 use Rattle.h2_set.specs.RefSet.{RefSet, with_rest}
 use Rattle.h2_set.specs.Forest.{Makes}
+use Rattle.h2_set.specs.MadeLaws.{parts_node}
 use Rattle.h2_memory_sets.specs.declared.node.Node.{Node}
 use Rattle.h2_memory_sets.specs.View.{forest_with, parted, stands_of, AllRooted}
 use Rattle.h2_memory_sets.proofs.Making.{kept_set, whole_set, makes}
@@ -11,6 +12,22 @@ use Rattle.h2_memory_sets.proofs.Parting.{item_at}
 use Rattle.h2_memory_sets.proofs.Differing.{differs_by_make}
 use Rattle.h2_memory_sets.proofs.Rooted.{rooted_part, root_not}
 use Rattle.h2_memory_sets.proofs.memory.MemorySetsSets.make.Goals as goal
+
+pub new_reference-r-requires-clause-ends : goal.new_reference-r-requires-clause-ends
+new_reference-r-requires-clause-ends c =
+    let node = c.requires.sound.node c.args.at.0 c.requires.stands in
+    let high = (parts_node _ _ _ _ _ node c.requires.split.1).range_high in
+    let end = node.ends in
+    omega (arith, high, end)
+
+pub new_reference-r-requires-clause-keybits : goal.new_reference-r-requires-clause-keybits
+new_reference-r-requires-clause-keybits c =
+    let node = c.requires.sound.node c.args.at.0 c.requires.stands in
+    let it = parts_node _ _ _ _ _ node c.requires.split.1 in
+    let wide = it.wide in
+    let fewer = it.fewer in
+    let slope = node.slope in
+    (omega (arith, wide), omega (arith, fewer, slope))
 
 pub with_left-requires-clause-rising : goal.with_left-requires-clause-rising
 with_left-requires-clause-rising c = let n = c.new_reference-r.ensures in (kept_set _ _ _ _ c.new_reference-r.result _ c.requires.sound c.requires.stands c.requires.split.1 n.indirect n.key n.keybits).rising
@@ -46,7 +63,7 @@ returns-clause-makes c =
     let spare : p.spare - 1 + 1 ≡ p.spare = (let one = c.requires.space.0 in omega (arith, one)) in
     let room : p.room - 1 + 1 ≡ p.room = (let one = c.requires.space.1 in omega (arith, one)) in
     let d = differs_by_make xs c.args.at.0 it.0 c.args.set c.args.split r it.1 n.key n.keybits (root_not xs c.args.at.0 (length xs) p.rooted c.requires.stands (ap stands_of (slice_get_past xs (length xs) (omega arith)))) p.spare (p.spare - 1) p.epoch p.room (p.room - 1) p.failed p.bad spare room in
-    let made = makes _ _ _ _ r _ c.requires.sound c.requires.stands c.requires.split.1 n.indirect n.key n.keybits _ _ d in
+    let made = makes _ _ _ _ r _ c.requires.sound c.requires.stands c.requires.split.1 n.indirect n.key n.keybits _ _ d n.held in
     let place : length xs ≡ c.len-c.result = sym (c.len-c.ensures ∙ p.nodes.ok.0) in
     subst (λ (ys : List Node). Makes (forest_with xs p.spare p.epoch p.room p.failed p.bad) (forest_with ys (p.spare - 1) p.epoch (p.room - 1) p.failed p.bad) c.args.at.0 c.len-c.result c.args.set c.args.split) (sym items) (subst (λ (k : ℕ). Makes (forest_with xs p.spare p.epoch p.room p.failed p.bad) (forest_with (parted xs c.args.at.0 it.0 whole c.args.split.moved r) (p.spare - 1) p.epoch (p.room - 1) p.failed p.bad) c.args.at.0 k c.args.set c.args.split) place made)
 

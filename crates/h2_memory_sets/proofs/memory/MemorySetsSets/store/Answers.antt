@@ -1,20 +1,29 @@
-use Rattle.std.proofs.Common.{refl}
+use Rattle.std.proofs.Common.{◌≡◌, ℕ, List, refl, sym, ap, ◌∙◌, length, take, drop, ◌++◌}
 use Rattle.std.proofs.lemmas.Option.{slice_get_read}
-use Rattle.h2_memory_sets.proofs.Storing.{stores}
-use Rattle.h2_memory_sets.proofs.Nodes.{differs_by_store, is_there}
-use Rattle.h2_memory_sets.proofs.Rooted.{rooted_store}
+use Rattle.h2_ref.specs.declared.reference.Ref.{Ref}
+use Rattle.h2_set.specs.RefSet.{RefSet}
+use Rattle.h2_memory_sets.proofs.Drops.{stored, dropped_written, dropped_length}
+use Rattle.h2_memory_sets.proofs.Nodes.{is_there}
 use Rattle.h2_memory_sets.proofs.memory.MemorySetsSets.store.Goals as goal
 
 pub returns-clause-stores : goal.returns-clause-stores
 returns-clause-stores c =
     let p = c.args.self.now in
-    let x = c.index_mut.result.now in
-    let read = slice_get_read p.nodes.items _ _ x refl (is_there _ _ c.requires.stands) c.index_mut.ensures.value in
-    stores _ _ _ _ (differs_by_store p.nodes.items p.spare p.epoch p.room p.failed p.bad c.args.at.0 x c.args.set read) c.requires.sound c.requires.stands c.requires.storable
+    let xs = p.nodes.items in
+    let x = c.index-x.result.now in
+    let there = is_there xs c.args.at.0 c.requires.stands in
+    let read = slice_get_read xs _ c.args.at.0 x refl there c.index-x.ensures in
+    let items_is = dropped_written xs c.deref_mut.result.now c.drop_all.new.nodes p.nodes.len x.root x.bits c.copy-old.result.refs (let t : RefSet = c.args.set in t.refs) (sym (c.drop_all.auto.nodes ∙ c.deref_mut.ensures.len)) c.deref_mut.ensures.value c.drop_all.ensures in
+    let read_y = slice_get_read _ _ c.args.at.0 c.index_mut.result.now refl (dropped_length xs x.root x.bits c.copy-old.result.refs (let t : RefSet = c.args.set in t.refs) _ c.args.at.0 items_is there) c.index_mut.ensures.value in
+    (stored xs _ c.args.at.0 x c.index_mut.result.now c.args.set c.copy-old.result.refs p.spare p.epoch p.room p.failed p.bad c.requires.sound c.requires.stands c.requires.storable p.rooted items_is (ap (λ (t : RefSet). t.refs) c.copy-old.ensures.same) read read_y).0
 
 pub invariant_of-self-clause-rooted : goal.invariant_of-self-clause-rooted
 invariant_of-self-clause-rooted c =
     let p = c.args.self.now in
-    let x = c.index_mut.result.now in
-    let read = slice_get_read p.nodes.items _ _ x refl (is_there _ _ c.requires.stands) c.index_mut.ensures.value in
-    rooted_store p.nodes.items c.args.at.0 x c.args.set p.rooted read
+    let xs = p.nodes.items in
+    let x = c.index-x.result.now in
+    let there = is_there xs c.args.at.0 c.requires.stands in
+    let read = slice_get_read xs _ c.args.at.0 x refl there c.index-x.ensures in
+    let items_is = dropped_written xs c.deref_mut.result.now c.drop_all.new.nodes p.nodes.len x.root x.bits c.copy-old.result.refs (let t : RefSet = c.args.set in t.refs) (sym (c.drop_all.auto.nodes ∙ c.deref_mut.ensures.len)) c.deref_mut.ensures.value c.drop_all.ensures in
+    let read_y = slice_get_read _ _ c.args.at.0 c.index_mut.result.now refl (dropped_length xs x.root x.bits c.copy-old.result.refs (let t : RefSet = c.args.set in t.refs) _ c.args.at.0 items_is there) c.index_mut.ensures.value in
+    (stored xs _ c.args.at.0 x c.index_mut.result.now c.args.set c.copy-old.result.refs p.spare p.epoch p.room p.failed p.bad c.requires.sound c.requires.stands c.requires.storable p.rooted items_is (ap (λ (t : RefSet). t.refs) c.copy-old.ensures.same) read read_y).1

@@ -1,12 +1,16 @@
 -- Lists one by one, all of a list, and the leaf whose range holds a key.
-use Rattle.std.specs.Prelude.{◌≡◌, ◌<◌, ◌≤◌, ℕ, zero, suc, ◌+◌, ◌^◌, Bool, true, false, List, [], ◌∷◌, ◌++◌, length, slice_index_or, All, AllPairs, Some, None, if◌then◌else◌, refl}
+use Rattle.std.specs.Prelude.{◌≡◌, ◌<◌, ◌≤◌, ℕ, zero, suc, ◌+◌, ◌^◌, Bool, true, false, List, [], ◌∷◌, ◌++◌, length, slice_index_or, All, Contains, AllPairs, Some, None, if◌then◌else◌, refl}
 use Rattle.std.proofs.Common.{ap, sym, ◌∙◌, arith, subst}
 use Rattle.std.proofs.lemmas.Option.{none-some, same_Some}
 use Rattle.std.proofs.lemmas.Nat.{pow_pos}
 use Rattle.h2_ref.specs.declared.reference.Ref.{Ref}
 use Rattle.h2_set.specs.Ranges.{find, holds, limit, Rising}
 use Rattle.h2_inode.specs.Access.{OneByOne}
-use Rattle.h2_meaning.specs.Following.{SameLeaf}
+use Rattle.h2_inode.specs.Following.{SameLeaf}
+
+-- what a list has, a longer one has
+pub behind : {X : Type 0} (x : X) (xs : List X) (y : X) → Contains xs y → Contains (x ∷ xs) y
+behind x xs y h = let lt : h.0 < length xs = h.1 in (suc h.0, omega (arith, lt), h.2)
 
 -- Lists one by one
 
@@ -19,6 +23,12 @@ through R P Q f (x ∷ xs) [] zs p q = absurd p
 through R P Q f (x ∷ xs) (y ∷ ys) [] p q = absurd q
 through R P Q f (x ∷ xs) (y ∷ ys) (z ∷ zs) p q = (f x y z p.0 q.0, through R P Q f xs ys zs p.1 q.1)
 
+pub each_mapped : {X Y : Type 0} (P Q : X → Y → Type 0) → ((x : X) (y : Y) → P x y → Q x y) → (xs : List X) (ys : List Y) → OneByOne P xs ys → OneByOne Q xs ys
+each_mapped P Q f [] [] p = tt
+each_mapped P Q f [] (y ∷ ys) p = absurd p
+each_mapped P Q f (x ∷ xs) [] p = absurd p
+each_mapped P Q f (x ∷ xs) (y ∷ ys) p = (f x y p.0, each_mapped P Q f xs ys p.1)
+
 -- where each member has one partner at most, a list has one partner list at most
 pub one_list : {X Y : Type 0} (P Q : X → Y → Type 0) → ((x : X) (y z : Y) → P x y → Q x z → z ≡ y) → (xs : List X) (ys zs : List Y) → OneByOne P xs ys → OneByOne Q xs zs → zs ≡ ys
 one_list P Q f [] [] [] p q = refl
@@ -27,6 +37,11 @@ one_list P Q f [] (y ∷ ys) zs p q = absurd p
 one_list P Q f (x ∷ xs) [] zs p q = absurd p
 one_list P Q f (x ∷ xs) (y ∷ ys) [] p q = absurd q
 one_list P Q f (x ∷ xs) (y ∷ ys) (z ∷ zs) p q = λ i. f x y z p.0 q.0 i ∷ one_list P Q f xs ys zs p.1 q.1 i
+
+-- a list beside itself
+pub all_beside : {X : Type 0} (R : X → X → Type 0) (xs : List X) → ((x : X) → Contains xs x → R x x) → OneByOne R xs xs
+all_beside R [] f = tt
+all_beside R (x ∷ xs) f = (f x (0, omega arith, refl), all_beside R xs (λ y h. f y (behind x xs y h)))
 
 -- All of a list
 
@@ -48,6 +63,9 @@ all_through R P Q f [] [] p h = all_none Q
 all_through R P Q f [] (y ∷ ys) p h = absurd p
 all_through R P Q f (x ∷ xs) [] p h = absurd p
 all_through R P Q f (x ∷ xs) (y ∷ ys) p h = all_cons Q y ys (f x y p.0 (all_head P x xs h)) (all_through R P Q f xs ys p.1 (all_tail P x xs h))
+
+pub all_mapped : {X : Type 0} (P Q : X → Type 0) → ((x : X) → P x → Q x) → (xs : List X) → All P xs → All Q xs
+all_mapped P Q f xs h = λ k d lt. f (slice_index_or xs k d) (h k d lt)
 
 pub all_append : {X : Type 0} (P : X → Type 0) (xs ys : List X) → All P xs → All P ys → All P (xs ++ ys)
 all_append P [] ys h g = g

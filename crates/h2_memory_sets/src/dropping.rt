@@ -1,0 +1,78 @@
+//! Nodes below references that are lost.
+ghost use Rattle.std.specs.Prelude.{◌≡◌, ◌&&◌};
+ghost use Rattle.h2_set.specs.Ranges.{holds};
+ghost use Rattle.h2_memory_sets.specs.View.{names_same, lacks, loses, goes, dropped, dropped_all};
+
+use crate::node::Node;
+use h2_ref::Ref;
+use h2_set::{Set, holds, is_indirect};
+
+// Whether two references have one key, and both lead further down or neither.
+fn names_same(q: &Ref, r: &Ref) -> bool
+    ensures { result ≡ names_same q.now r.now }
+{
+    r.key == q.key
+        && (if is_indirect(q) {
+            is_indirect(r)
+        } else {
+            !is_indirect(r)
+        })
+}
+
+// Whether no reference of a set has the key of `q`.
+fn lacks(set: &Set, q: &Ref) -> bool
+    ensures { result ≡ lacks set.now.refs q.now }
+{
+    for i in 0..set.len() {
+        if names_same(q, set.at(i)) {
+            return false;
+        }
+    }
+    true
+}
+
+// Whether a reference whose range holds the key is missing in a set.
+fn is_missing(q: &Ref, set: &Set, key: u64) -> bool
+    ensures { result ≡ (holds key q.now && lacks set.now.refs q.now) }
+{
+    holds(q, key) && lacks(set, q)
+}
+
+// Whether a reference of a set whose range holds the key is missing in another.
+fn loses(old: &Set, new: &Set, key: u64) -> bool
+    ensures { result ≡ loses old.now.refs new.now.refs key }
+{
+    for i in 0..old.len() {
+        if is_missing(old.at(i), new, key) {
+            return true;
+        }
+    }
+    false
+}
+
+// Whether a node of the tree with this root, shorter than 2^bits, is below a reference that is missing.
+fn goes(x: &Node, root: u32, bits: u8, old: &Set, new: &Set) -> bool
+    ensures { result ≡ goes root bits old.now.refs new.now.refs x.now }
+{
+    x.root == root && (x.bits < bits && loses(old, new, x.low))
+}
+
+// Lets a node stand no longer, nor be loaded again, where it is below a reference that is missing.
+fn drop_one(x: &mut Node, root: u32, bits: u8, old: &Set, new: &Set)
+    ensures { x.new ≡ dropped root bits old.now.refs new.now.refs x.old }
+{
+    if goes(x, root, bits, old, new) {
+        x.loaded = false;
+        x.up = None;
+    }
+}
+
+/// Drops what is below references that are in `old` and not in `new`, where `old` is the set of a node of the tree
+/// with this root, whose range has 2^bits keys.
+pub(crate) fn drop_all(nodes: &mut [Node], root: u32, bits: u8, old: &Set, new: &Set)
+    ensures { nodes.new ≡ dropped_all root bits old.now.refs new.now.refs nodes.old }
+{
+    for i in 0..nodes.len() {
+        drop_one(&mut nodes[i], root, bits, old, new);
+    }
+}
