@@ -44,7 +44,7 @@ seeks_named f g top key other c d stands root h differs named =
 -- loads of indirect blocks name no root
 pub walks_named : (f g : Forest) (top key from to d : ℕ) → f.stands top ≡ true → Walks f g → LoadsTouched f g from to → IsNamed g top key d → IsNamed f top key d
 walks_named f g top key from to d stands walks touched named =
-    let stood = touched.inner d named.stands named.root in
+    let stood = walks.roots d named.stands named.root in
     named_before f g top key d (walks.stays top stands).place (walks.stays d stood).place stood named
 
 -- what is known of the inode that a leaf names stays so, where no new root is named by the leaf

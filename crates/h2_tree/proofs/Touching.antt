@@ -29,11 +29,11 @@ touches_holds from to r false le ge e = elim (holds_outside from r e) as (λ _. 
 ]
 
 pub Touched-refl : (f : Forest) (from to : ℕ) → LoadsTouched f f from to
-Touched-refl f from to = record { only = λ m st. inl st; inner = λ m st root. st }
+Touched-refl f from to = record { only = λ m st. inl st }
 
 -- where no node was loaded
 pub none_touched : (f g : Forest) (from to : ℕ) → ((m : ℕ) → g.stands m ≡ true → f.stands m ≡ true) → LoadsTouched f g from to
-none_touched f g from to none_new = record { only = λ m st. inl (none_new m st); inner = λ m st root. none_new m st }
+none_touched f g from to none_new = record { only = λ m st. inl (none_new m st) }
 
 -- where each node that stood in between stands where it stood
 Touched-placed : (f g h : Forest) (from to : ℕ) → ((m : ℕ) → g.stands m ≡ true → InPlace g h m) → LoadsTouched f g from to → LoadsTouched g h from to → LoadsTouched f h from to
@@ -47,7 +47,6 @@ Touched-placed f g h from to placed a b = record {
           inr (omega (arith, place.low, new.0), omega (arith, place.low, ap (λ z. 2 ^ z) place.bits, new.1))
     ]
   ];
-  inner = λ m st root. let was = b.inner m st root in a.inner m was (sym (placed m was).root ∙ root);
 }
 
 pub Touched-prepared : (f g h : Forest) (from to : ℕ) → Prepares g h → LoadsTouched f g from to → LoadsTouched g h from to → LoadsTouched f h from to
@@ -71,14 +70,6 @@ touched_load f g at i r from to stands read ind touch walks loads = record {
         let bits = node.bits i m r read_g ind link in
         let it = touches_inside from to r touch in
         inr (omega (arith, kid.low, it.0), omega (arith, kid.low, ap (λ z. 2 ^ z) bits, it.1))
-  ];
-  -- a child has fewer bits than a node of its tree, and a root has as many as any
-  inner = λ m st root. elim (loads.new m st) as (λ _. f.stands m ≡ true) [
-    | inl was ↦ was
-    | inr link ↦
-        let node = walks.sound.node at (walks.stays at stands).place.stands in
-        let kid = node.child r.key m link in
-        absurd (omega (arith, (walks.sound.node m st).half root, kid.fewer, node.slope))
   ];
 }
 

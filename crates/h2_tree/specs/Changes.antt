@@ -108,10 +108,9 @@ pub record Prepares (f g : Forest) : Type 0 where
   pub spare : f.spare ≤ g.spare
   pub room : g.room ≡ f.room
 
--- each node that was loaded has a key from `from` to `to` in its range, and is no root
+-- each node that was loaded has a key from `from` to `to` in its range
 pub record LoadsTouched (f g : Forest) (from to : ℕ) : Type 0 where
   pub only : (m : ℕ) → g.stands m ≡ true → (f.stands m ≡ true) ⊎ ((g.low m ≤ to) × (from < g.low m + 2 ^ g.bits m))
-  pub inner : (m : ℕ) → g.stands m ≡ true → g.root m ≡ m → f.stands m ≡ true
 
 -- Where the leaf went in: once the path of its key was loaded, into the set of one node on it. The room is lowered by
 -- the nodes that are copied for it and the new block, and spare by the new block alone.
