@@ -1,3 +1,4 @@
 pub mod Touching
 pub mod Blocks
 pub mod Cutting
+pub mod Sizing

@@ -5,12 +5,14 @@ ghost use Rattle.h2_set.specs.Ranges.{is_indirect, limit};
 ghost use Rattle.h2_set.specs.RefSet.{RefSet};
 ghost use Rattle.h2_set.specs.Forest.{Forest, refs, IsSound, Walks, HasCause, LeavesOf, HasLeaves, KeepsBeside};
 ghost use Rattle.h2_tree.specs.Changes.{LoadsTouched, PathUnloaded, WalksUnder};
-ghost use Rattle.h2_inode.specs.Nodes.{held_by};
+ghost use Rattle.h2_inode.specs.Nodes.{held_by, KeepsOthersBeside};
 ghost use Rattle.h2_file.specs.Blocks.{IsFileOfRefs, HasContents};
+ghost use Rattle.h2_file.specs.Sizing.{HasResized};
 ghost use Rattle.h2_file.specs.Cutting.{IsCutBlock, cut_to, front, FitsLast, KeepsFront, Cuts, Remains};
 ghost use Rattle.h2_file.specs.declared.cutting.Left.{Left};
 
-use h2_inode::{Body, Inode, Nodes};
+use crate::sizing::set_size;
+use h2_inode::Nodes;
 use h2_ref::{Ref, Trouble};
 use h2_set::{NodeId, Set, Sets, holds, is_indirect};
 use std::alloc::Global;
@@ -124,4 +126,66 @@ fn cut_below<N: Sets>(
         }
     }
     Ok(Left::Something)
+}
+
+// Takes the references at or past the size out of the tree of a root.
+fn cut_tree<N: Sets>(
+    alloc: Global,
+    n: &mut N,
+    root: NodeId,
+    size: u64,
+    last: Option<Ref>,
+) -> Result<(), Trouble>
+    requires sound { IsSound (N.forest n.old) }
+    requires stands { let f = N.forest n.old in f.stands root.0 ≡ true }
+    requires top { let f = N.forest n.old in f.root root.0 ≡ root.0 }
+    requires room { let f = N.forest n.old in 62 ≤ f.room }
+    requires contents { HasContents (N.forest n.old) root.0 }
+    requires last { IfSome last (IsCutBlock size) }
+    ensures cuts { OnOk result (Cuts (N.forest n.old) (N.forest n.new) root.0 size last) }
+    ensures walks { OnErr result (Walks (N.forest n.old) (N.forest n.new)) }
+    ensures err { IfErr result (HasCause (N.forest n.old) (N.forest n.new)) }
+    ensures touched { OnErr result (LoadsTouched (N.forest n.old) (N.forest n.new) size size) }
+    ensures unloaded { OnErr result (PathUnloaded (N.forest n.old) root.0 size) }
+    ensures beside { KeepsBeside (N.forest n.old) (N.forest n.new) (N.beside n.old) (N.beside n.new) }
+    ensures later { N.later n.old n.new }
+{
+    match cut_below(alloc, n, root, size, last)? {
+        Left::Something => Ok(()),
+        Left::Nothing => {
+            keep_front(n, root, 0, None);
+            Ok(())
+        }
+    }
+}
+
+/// Cuts a file to a size: takes out every content reference at or past it, puts `last`, where it is given, in place of
+/// the reference of the block that the cut ends in, where there is one, and sets the size. The file's body is
+/// references. A node that lies wholly past the size goes without being made writable. The room is at least 62, and is
+/// lowered by the number of nodes that are copied. Trouble only where a node on the path of the size isn't loaded;
+/// nothing but loads took place then.
+pub fn cut_blocks<N: Nodes>(
+    alloc: Global,
+    n: &mut N,
+    inode: NodeId,
+    size: u64,
+    last: Option<Ref>,
+) -> Result<(), Trouble>
+    requires sound { IsSound (N.forest n.old) }
+    requires file { IsFileOfRefs (N.forest n.old) (held_by N.fields (N.beside n.old)) inode.0 }
+    requires room { let f = N.forest n.old in 62 ≤ f.room }
+    requires last { IfSome last (IsCutBlock size) }
+    ensures cuts { OnOk result (Cuts (N.forest n.old) (N.forest n.new) inode.0 size last) }
+    ensures inode { OnOk result ((file : IsFileOfRefs (N.forest n.old) (held_by N.fields (N.beside n.old)) inode.0) → HasResized (N.forest n.new) (held_by N.fields (N.beside n.new)) inode.0 file.inode size) }
+    ensures walks { OnErr result (Walks (N.forest n.old) (N.forest n.new)) }
+    ensures err { IfErr result (HasCause (N.forest n.old) (N.forest n.new)) }
+    ensures touched { OnErr result (LoadsTouched (N.forest n.old) (N.forest n.new) size size) }
+    ensures unloaded { OnErr result (PathUnloaded (N.forest n.old) inode.0 size) }
+    ensures beside { KeepsOthersBeside (N.forest n.old) (N.forest n.new) inode.0 (N.beside n.old) (N.beside n.new) }
+    ensures same { OnErr result (KeepsBeside (N.forest n.old) (N.forest n.new) (N.beside n.old) (N.beside n.new)) }
+    ensures later { N.later n.old n.new }
+{
+    cut_tree(alloc, n, inode, size, last)?;
+    set_size(n, inode, size);
+    Ok(())
 }

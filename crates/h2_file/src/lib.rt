@@ -10,9 +10,11 @@ mod cutting;
 mod fault;
 mod merging;
 mod reading;
+mod sizing;
 mod touching;
 
 pub use blocks::Touched;
+pub use cutting::cut_blocks;
 pub use fault::{FILE_BYTES, FileFault, check_end};
 pub use merging::merge;
 pub use reading::read_block;
