@@ -314,12 +314,12 @@ pub record Alters (f g : Forest) (at : ℕ) : Type 0 where
   pub failed : g.failed ≡ f.failed
   pub bad : g.bad ≡ f.bad
 
--- a reference of node at whose range holds the key isn't in s
+-- a reference of node at whose range holds the key isn't in s; a leaf in place of an indirect one isn't that one
 pub record Loses (f : Forest) (at : ℕ) (s : RefSet) (key : ℕ) : Type 0 where
   pub place : ℕ
   pub lost : Ref
   pub was : slice_get (refs f at) place ≡ Some lost
-  pub lacks : (i : ℕ) (r : Ref) → slice_get s.refs i ≡ Some r → r.key ≡ lost.key → ⊥
+  pub lacks : (i : ℕ) (r : Ref) → slice_get s.refs i ≡ Some r → r.key ≡ lost.key → is_indirect r ≡ is_indirect lost → ⊥
   pub held : holds key lost ≡ true
 
 -- node m of this tree stands below a reference of node at that s lacks

@@ -11,6 +11,8 @@ pub mod CutLaws
 pub mod PutLaws
 pub mod SplitLaws
 pub mod RenewLaws
+pub mod PathLaws
+pub mod EditPathLaws
 pub mod MadeLaws
 pub mod ValidLaws
 pub mod SetBytesLaws

@@ -19,7 +19,7 @@ mod set_encoding;
 mod sets;
 mod split;
 
-pub use laws::{set_bytes_law, split_law};
+pub use laws::{path_law, set_bytes_law, split_law};
 pub use range::{holds, is_indirect};
 pub use set::{PutAnswer, Set, Split};
 pub use set_decoding::{SetFault, decode_set};

@@ -106,8 +106,8 @@ pub trait Sets {
         ensures beside { KeepsBeside (forest self.old) (forest self.new) (beside self.old) (beside self.new) }
         ensures later { later self.old self.new };
 
-    /// The name of a directory's entry, as long as the entry says. Nothing but the two counts changes. Trouble only from a load or want of memory
-    /// in this call, and a name of at most 64 bytes, which stands in its entry, needs no load.
+    /// The name of a directory's entry, as long as the entry says. Nothing but the two counts changes. Trouble only from
+    /// a load or want of memory in this call, and a name of at most 64 bytes, which stands in its entry, needs no load.
     fn name(&mut self, alloc: Global, r: &Ref) -> Result<Bytes, Trouble>
         requires sound { IsSound (forest self.old) }
         requires valid { IsValid r.now }

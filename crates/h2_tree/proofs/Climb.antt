@@ -1,12 +1,12 @@
 -- From a node back to the root.
-use Rattle.std.proofs.Common.{◌≡◌, ℕ, true, false, List, Option, Some, ◌<◌, inl, inr, sym, subst, arith, slice_get, ap, ◌∙◌}
+use Rattle.std.proofs.Common.{◌≡◌, ℕ, true, false, List, Option, Some, ◌<◌, sym, subst, arith, slice_get, ap, ◌∙◌}
 use Rattle.h2_ref.specs.declared.reference.Ref.{Ref}
 use Rattle.h2_set.specs.RefSet.{RefSet}
-use Rattle.h2_set.specs.Ranges.{Rising, holds, find, is_indirect}
+use Rattle.h2_set.specs.Ranges.{holds, find, is_indirect}
 use Rattle.h2_set.specs.Forest.{Forest, refs, loaded, IsSound, Walks, Reaches, nowhere, here, below, LeavesOf}
 use Rattle.h2_set.specs.StayLaws.{Walks-trans, Walks-leaves, Reaches-walks}
-use Rattle.h2_set.specs.LeafLaws.{reaches_find, holds_inside}
-use Rattle.h2_set.specs.ChangeLaws.{apart_places, same_or_not}
+use Rattle.h2_set.specs.LeafLaws.{reaches_find}
+use Rattle.h2_set.specs.PathLaws.{same_holder}
 
 -- what the key reaches from node at, it reaches from the root, now and after any walk
 pub record LeadsTo (f : Forest) (key root at : ℕ) : Type 0 where
@@ -37,19 +37,6 @@ next_node f g at c i r sound walk stands read ind link =
 -- what a walk reached is what the list had
 pub found_in : (f g : Forest) (key root : ℕ) (o : Option Ref) → IsSound f → Walks f g → f.stands root ≡ true → Reaches g key root o → (l : List Ref) → LeavesOf f root l → o ≡ find key l
 found_in f g key root o sound walk stands reached l h = reaches_find walk.sound reached (walk.stays root stands).place.stands l (Walks-leaves f g sound walk root stands l h)
-
--- two references whose ranges hold one key are one
-pub same_holder : (low high key : ℕ) (rs : List Ref) (i j : ℕ) (q r : Ref) → Rising low high rs → slice_get rs i ≡ Some q → slice_get rs j ≡ Some r → holds key q ≡ true → holds key r ≡ true → r ≡ q
-same_holder low high key rs i j q r h read_q read_r in_q in_r =
-    let a = holds_inside key q in_q in
-    let b = holds_inside key r in_r in
-    elim (same_or_not j i) as (λ _. r ≡ q) [
-      | inl e ↦ let moved : slice_get rs i ≡ Some r = subst (λ z. slice_get rs z ≡ Some r) e read_r in cc
-      | inr ne ↦ elim (apart_places low high rs i j q r h read_q read_r ne) as (λ _. r ≡ q) [
-        | inl lower ↦ absurd (omega (arith, lower, a.0, b.1))
-        | inr upper ↦ absurd (omega (arith, upper, a.1, b.0))
-      ]
-    ]
 
 -- where the key's path was loaded at the start, it leads through node at
 pub record LedBack (f : Forest) (key root at : ℕ) : Type 0 where

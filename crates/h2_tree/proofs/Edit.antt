@@ -22,7 +22,7 @@ with_put h at leaf node a kind low high room = record {
   some = (let n = length-put leaf (refs h at) a in omega (arith, n));
   inside = Rising-put _ _ (refs h at) leaf node.inside a low high;
   from = put_from leaf (refs h at) a;
-  keys = λ j r read. let it = put_keeps leaf (refs h at) a j r read in (it.0, r, it.1, refl);
+  keys = λ j r read. let it = put_keeps leaf (refs h at) a j r read in (it.0, r, it.1, refl, refl);
   leaves = λ l hl. leaves_put leaf hl _ _ node.inside a kind;
 }
 
@@ -36,15 +36,15 @@ set_from leaf (x ∷ xs) (suc at) (suc i) r read = elim (set_from leaf xs at i r
   | inr w ↦ inr (suc w.0, w.1)
 ]
 
-set_keys : (leaf : Ref) (rs : List Ref) (at : ℕ) (q : Ref) → slice_get rs at ≡ Some q → q.key ≡ leaf.key → (j : ℕ) (r : Ref) → slice_get rs j ≡ Some r → (i : ℕ) × (p : Ref) × (slice_get (slice_set rs at leaf) i ≡ Some p) × (p.key ≡ r.key)
-set_keys leaf [] at q there key j r read = absurd (none-some r read)
-set_keys leaf (x ∷ xs) zero q there key zero r read =
+set_keys : (leaf : Ref) (rs : List Ref) (at : ℕ) (q : Ref) → slice_get rs at ≡ Some q → q.key ≡ leaf.key → is_indirect leaf ≡ is_indirect q → (j : ℕ) (r : Ref) → slice_get rs j ≡ Some r → (i : ℕ) × (p : Ref) × (slice_get (slice_set rs at leaf) i ≡ Some p) × (p.key ≡ r.key) × (is_indirect p ≡ is_indirect r)
+set_keys leaf [] at q there key kind j r read = absurd (none-some r read)
+set_keys leaf (x ∷ xs) zero q there key kind zero r read =
     let xq : x ≡ q = (cc) in
     let xr : x ≡ r = (cc) in
-    (0, leaf, refl, sym key ∙ ap (λ (y : Ref). y.key) (sym xq ∙ xr))
-set_keys leaf (x ∷ xs) zero q there key (suc j) r read = (suc j, r, read, refl)
-set_keys leaf (x ∷ xs) (suc at) q there key zero r read = (0, r, read, refl)
-set_keys leaf (x ∷ xs) (suc at) q there key (suc j) r read = let it = set_keys leaf xs at q there key j r read in (suc it.0, it.1, it.2, it.3)
+    (0, leaf, refl, sym key ∙ ap (λ (y : Ref). y.key) (sym xq ∙ xr), kind ∙ ap (λ (y : Ref). is_indirect y) (sym xq ∙ xr))
+set_keys leaf (x ∷ xs) zero q there key kind (suc j) r read = (suc j, r, read, refl, refl)
+set_keys leaf (x ∷ xs) (suc at) q there key kind zero r read = (0, r, read, refl, refl)
+set_keys leaf (x ∷ xs) (suc at) q there key kind (suc j) r read = let it = set_keys leaf xs at q there key kind j r read in (suc it.0, it.1, it.2, it.3, it.4)
 
 pub with_swap : (h : Forest) (at : ℕ) (leaf : Ref) (i : ℕ) (q : Ref) → IsSoundNode h at → is_indirect leaf ≡ false → slice_get (refs h at) i ≡ Some q → is_indirect q ≡ false → q.key ≡ leaf.key → q.keybits ≡ leaf.keybits → WithLeaf h at leaf (let s = h.set at in let t : RefSet = record { refs = slice_set s.refs i leaf; capacity = s.capacity } in t)
 with_swap h at leaf i q node kind read qkind key bits = record {
@@ -53,7 +53,7 @@ with_swap h at leaf i q node kind read qkind key bits = record {
   some = (let n = length-slice_set (refs h at) i leaf in let within = slice_get_within (refs h at) i q read in omega (arith, n, within));
   inside = Rising-set _ _ (refs h at) i leaf q node.inside read key bits;
   from = set_from leaf (refs h at) i;
-  keys = set_keys leaf (refs h at) i q read key;
+  keys = set_keys leaf (refs h at) i q read key (kind ∙ sym qkind);
   leaves = λ l hl. leaves_swap leaf i q hl _ _ node.inside read qkind key kind;
 }
 
@@ -138,7 +138,7 @@ module _ (f h : Forest) (at : ℕ) (leaf : Ref) (sound : IsSound f) (stands : f.
   pub places : (g : Forest) → NoneHolds leaf.key (refs f at) → (let s = f.set at in length s.refs < s.capacity) → (copy got s : RefSet) → copy ≡ got → got ≡ h.set at → s ≡ record { refs = put leaf copy.refs; capacity = copy.capacity } → Stores h g at s → TakesIn f g at leaf 0 None
   places g miss room copy got s e1 e2 e3 stores =
       let same = own_set f h at sound stands alters in
-      placed (record { none = miss; apart = apart_node f at leaf (sound.node at stands) takes miss; space = room; link = links g s stores; set = stores.set ∙ e3 ∙ ap (λ (s : RefSet). let t : RefSet = record { refs = put leaf s.refs; capacity = s.capacity } in t) (e1 ∙ e2 ∙ same) })
+      placed (record { none = miss; apart = apart_node f at leaf (sound.node at stands) takes miss; space = room; none_new = λ m st. alters.none_new m (stores.none_new m st); link = links g s stores; set = stores.set ∙ e3 ∙ ap (λ (s : RefSet). let t : RefSet = record { refs = put leaf s.refs; capacity = s.capacity } in t) (e1 ∙ e2 ∙ same) })
 
   pub replaces : (g : Forest) (i : ℕ) (q : Ref) → IsSameAt (refs f at) i leaf → (copy got s : RefSet) → copy ≡ got → got ≡ h.set at → s ≡ record { refs = slice_set copy.refs i leaf; capacity = copy.capacity } → slice_get copy.refs i ≡ Some q → Stores h g at s → TakesIn f g at leaf 0 (Some q)
   replaces g i q facts copy got s e1 e2 e3 read stores =
@@ -151,6 +151,7 @@ module _ (f h : Forest) (at : ℕ) (leaf : Ref) (sound : IsSound f) (stands : f.
         leaf_was = it.0;
         key = it.1;
         keybits = it.2;
+        none_new = λ m st. alters.none_new m (stores.none_new m st);
         link = links g s stores;
         set = stores.set ∙ e3 ∙ ap (λ (s : RefSet). let t : RefSet = record { refs = slice_set s.refs i leaf; capacity = s.capacity } in t) (e1 ∙ e2 ∙ same);
       })

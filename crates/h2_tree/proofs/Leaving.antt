@@ -12,10 +12,11 @@ use Rattle.h2_set.specs.EditLaws.{remove_from, remove_keeps, remove_lacks}
 use Rattle.h2_set.specs.ChangeLaws.{Keeps-Stays, same_or_not, apart_places}
 use Rattle.h2_set.specs.RenewLaws.{like_at, Alike-sym}
 use Rattle.h2_tree.specs.Changes.{ChangesOnly, LeadsOnly, itself, down, GoesAway, below_it, named, Descends, arrived, onward, Removes, KeepsPaths}
-use Rattle.h2_tree.proofs.Climb.{same_holder}
 use Rattle.h2_tree.proofs.Only.{only_holds, only_reaches}
 use Rattle.h2_tree.proofs.Going.{Walks-prepares}
-use Rattle.h2_tree.proofs.Paths.{same_holds, reaches_stay, reaches_prepared, ends_in}
+use Rattle.h2_tree.proofs.Paths.{reaches_prepared, ends_in}
+use Rattle.h2_set.specs.PathLaws.{same_holder}
+use Rattle.h2_set.specs.PathLaws.{same_holds, reaches_stay}
 
 -- the leaf that a path leads to holds the key
 reaches_holds : {f : Forest} {key at : ℕ} {r : Ref} → Reaches f key at (Some r) → holds key r ≡ true

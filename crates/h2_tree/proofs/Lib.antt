@@ -15,3 +15,4 @@ mod Removal
 mod RemoveBelow
 mod Taking
 mod TakeBelow
+mod Gathering

@@ -1,20 +1,17 @@
 -- A reference that leads to one leaf alone.
-use Rattle.std.proofs.Common.{◌≡◌, ℕ, ◌<◌, ◌≤◌, ◌^◌, true, false, arith, refl, sym, ◌∙◌, ap, List, [], ◌∷◌, length, Some, subst, inl, inr, slice_get}
-use Rattle.std.proofs.lemmas.Bool.Decides.{nat_tests}
+use Rattle.std.proofs.Common.{◌≡◌, ℕ, ◌^◌, true, false, arith, refl, sym, ◌∙◌, ap, List, [], ◌∷◌, length, Some, subst, inl, inr, slice_get}
 use Rattle.std.proofs.lemmas.Nat.{pow_pos}
 use Rattle.std.proofs.lemmas.Option.{slice_get_within}
 use Rattle.h2_ref.specs.declared.reference.Ref.{Ref}
-use Rattle.h2_set.specs.Ranges.{leads_on, limit, holds, is_indirect}
+use Rattle.h2_set.specs.Ranges.{leads_on, holds, is_indirect}
 use Rattle.h2_set.specs.Forest.{Forest, refs, loaded, told, LeavesOf, IsSound, Alters, Reaches, here, below}
 use Rattle.h2_set.specs.LeafLaws.{holds_inside, place_above}
 use Rattle.h2_set.specs.SplitLaws.{below_high}
 use Rattle.h2_set.specs.RenewLaws.{like_at, Alike-length}
 use Rattle.h2_tree.specs.Changes.{LeadsOnly, itself, down}
-use Rattle.h2_tree.proofs.Climb.{same_holder}
 use Rattle.h2_tree.proofs.Collect.{last_leaf, last_below}
-
-pub in_holds : (key : ℕ) (r : Ref) → r.key ≤ key → key < limit r → holds key r ≡ true
-in_holds key r lo hi = grind (arith, nat_tests)
+use Rattle.h2_set.specs.PathLaws.{same_holder}
+use Rattle.h2_set.specs.PathLaws.{in_holds}
 
 -- a list of one
 pub single : (rs : List Ref) (r : Ref) → length rs ≡ 1 → slice_get rs 0 ≡ Some r → rs ≡ r ∷ []

@@ -1,5 +1,5 @@
 -- A leaf that goes into a set which is split for it.
-use Rattle.std.proofs.Common.{◌≡◌, ℕ, ◌+◌, ◌≤◌, ◌^◌, Bool, true, false, arith, refl, sym, ◌∙◌, ap, List, length, Some, None, slice_get, subst}
+use Rattle.std.proofs.Common.{◌≡◌, ℕ, ◌+◌, ◌≤◌, ◌^◌, Bool, true, false, arith, refl, sym, ◌∙◌, ap, List, length, Some, None, slice_get, subst, ◌⊎◌, inl, inr}
 use Rattle.h2_ref.specs.declared.reference.Ref.{Ref}
 use Rattle.h2_set.specs.declared.set.Split.{Split}
 use Rattle.std.specs.Prelude.{filter, not}
@@ -16,6 +16,7 @@ use Rattle.h2_tree.specs.Changes.{Under, Takes, TakesIn, arrived, Inserts}
 use Rattle.h2_tree.specs.Changes.{parted as parted_by}
 use Rattle.h2_tree.proofs.Going.{own_set, changes_only, Prepares-refl, none_empty}
 use Rattle.h2_tree.proofs.Store.{all_still, leaf_fits, alters_still}
+use Rattle.h2_tree.proofs.Touching.{Touched-refl}
 use Rattle.h2_tree.proofs.Edit.{apart_altered, apart_node}
 
 module _ (f h g : Forest) (at c : ℕ) (leaf : Ref) (set : RefSet) (s : Split) (sound : IsSound f) (stands : f.stands at ≡ true) (takes : Takes f at leaf) (alters : Alters f h at) (made : MadeFrom h at leaf set s) (makes : Makes h g at c set s) where
@@ -68,6 +69,10 @@ module _ (f h g : Forest) (at c : ℕ) (leaf : Ref) (set : RefSet) (s : Split) (
     fresh = not_there;
     moved = subst (λ (t : RefSet). g.set c ≡ record { refs = filter (lies s.key s.keybits) (put leaf t.refs); capacity = 32 }) same (makes.moved ∙ made.moved);
     new_writable = makes.new_writable;
+    none_new = λ m st. elim (makes.none_new m st) as (λ _. (m ≡ c) ⊎ (f.stands m ≡ true)) [
+      | inl new ↦ inl new
+      | inr was ↦ inr (alters.none_new m was)
+    ];
     ref = makes.ref;
     indirect = makes.indirect;
     ref_key = makes.key;
@@ -108,6 +113,7 @@ module _ (f h g : Forest) (at c : ℕ) (leaf : Ref) (set : RefSet) (s : Split) (
         goes = record {
           then = f;
           prepares = Prepares-refl f sound;
+          touched = Touched-refl f leaf.key leaf.key;
           node = at;
           stands = stands;
           way = arrived;

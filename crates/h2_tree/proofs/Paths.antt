@@ -1,5 +1,5 @@
 -- Paths that stay loaded when a leaf goes in.
-use Rattle.std.proofs.Common.{◌≡◌, ℕ, ◌+◌, ◌<◌, ◌≤◌, ◌^◌, ◌⊎◌, inl, inr, Bool, true, false, arith, refl, sym, ◌∙◌, ap, cond, List, [], ◌∷◌, Option, Some, None, subst, slice_get, slice_set, suc, zero}
+use Rattle.std.proofs.Common.{◌≡◌, ℕ, ◌+◌, ◌<◌, ◌≤◌, ◌^◌, ◌⊎◌, inl, inr, Bool, true, false, arith, refl, sym, ◌∙◌, ap, List, [], ◌∷◌, Option, Some, None, subst, slice_get, slice_set, suc, zero}
 use Rattle.std.specs.Prelude.{filter, not, IfOk, Result, Ok, Err}
 use Rattle.std.proofs.lemmas.Nat.{pow_pos}
 use Rattle.std.proofs.lemmas.Option.{none-some}
@@ -16,53 +16,14 @@ use Rattle.h2_set.specs.ChangeLaws.{Keeps-Stays, same_or_not}
 use Rattle.h2_set.specs.RenewLaws.{like_at, Alike-sym}
 use Rattle.h2_tree.specs.Changes.{Prepares, ChangesOnly, Replaces, Places, Parts, TakesIn, replaced, placed, parted, Descends, arrived, onward, Inserts, KeepsPaths}
 use Rattle.h2_tree.proofs.Edit.{set_from}
-use Rattle.h2_tree.proofs.Only.{in_holds}
-
--- ranges that are the same hold the same keys
-pub same_holds : (key : ℕ) (r q : Ref) (b : Bool) → q.key ≡ r.key → q.keybits ≡ r.keybits → holds key r ≡ b → holds key q ≡ b
-same_holds key r q b k bits e = rw (k, bits) e
-
--- where each node on the way stays, so does the path
-module _ (f g : Forest) (P : ℕ → Type 0) (closed : (m k c : ℕ) → P m → f.link m k ≡ loaded c → P c) (stay : (m : ℕ) → P m → Stays f g m) where
-  pub miss_stays : (key : ℕ) {at : ℕ} → P at → NoneHolds key (refs f at) → NoneHolds key (refs g at)
-  miss_stays key {at} p miss i q read =
-      let it = like_at (refs g at) (refs f at) (Alike-sym (refs f at) (refs g at) (stay at p).alike) i q read in
-      same_holds key it.ref q false (sym it.like.key) (sym it.like.keybits) (miss i it.ref it.read)
-
-  pub reaches_stay : {key at : ℕ} {o : Option Ref} → P at → Reaches f key at o → Reaches g key at o
-  reaches_stay {key} p (nowhere {at = at} miss) = nowhere (miss_stays key p miss)
-  reaches_stay {key} p (here {at = at} {r = r} i read in_r leaf) =
-      let it = like_at (refs f at) (refs g at) (stay at p).alike i r read in
-      here {r = r} i (it.read ∙ ap Some (it.like.leaf leaf)) in_r leaf
-  reaches_stay {key} p (below {at = at} {c = c} {r = r} {o = o} i read in_r ind link rest) =
-      let it = like_at (refs f at) (refs g at) (stay at p).alike i r read in
-      let q = it.ref in
-      let link' : g.link at q.key ≡ loaded c = ap (g.link at) it.like.key ∙ (stay at p).near r.key c link in
-      let rest' : Reaches g key c o = reaches_stay (closed at r.key c p link) rest in
-      below {r = q} i it.read (same_holds key r q true it.like.key it.like.keybits in_r) (ap leads_on it.like.kind ∙ ind) link' rest'
+use Rattle.h2_set.specs.PathLaws.{in_holds}
+use Rattle.h2_set.specs.PathLaws.{same_holds, reaches_stay}
+use Rattle.h2_tree.specs.ListLaws.{filter_from, filter_has}
 
 -- a path stays while nodes are loaded and made ready
 pub reaches_prepared : {f g : Forest} {key at : ℕ} {o : Option Ref} → IsSound f → Prepares f g → f.stands at ≡ true → Reaches f key at o → Reaches g key at o
 reaches_prepared {f} {g} sound p stands reached =
     reaches_stay f g (λ m. f.stands m ≡ true) (λ m k c st link. ((sound.node m st).child k c link).stands) p.stays stands reached
-
-pub filter_from : (p : Ref → Bool) (l : List Ref) (i : ℕ) (r : Ref) → slice_get (filter p l) i ≡ Some r → (p r ≡ true) × ((j : ℕ) × (slice_get l j ≡ Some r))
-filter_from p [] i r read = absurd (none-some r read)
-filter_from p (x ∷ xs) i r read = head (p x) refl i read (filter_from p xs)
-  where
-    head : (b : Bool) → p x ≡ b → (i : ℕ) → slice_get (cond b (x ∷ filter p xs) (filter p xs)) i ≡ Some r → ((i : ℕ) (q : Ref) → slice_get (filter p xs) i ≡ Some q → (p q ≡ true) × ((j : ℕ) × (slice_get xs j ≡ Some q))) → (p r ≡ true) × ((j : ℕ) × (slice_get (x ∷ xs) j ≡ Some r))
-    head true e zero read' more = let same : x ≡ r = (cc) in (ap p (sym same) ∙ e, (0, read'))
-    head true e (suc i) read' more = let it = more i r read' in (it.0, (suc it.1.0, it.1.1))
-    head false e i read' more = let it = more i r read' in (it.0, (suc it.1.0, it.1.1))
-
-pub filter_has : (p : Ref → Bool) (l : List Ref) (j : ℕ) (r : Ref) → slice_get l j ≡ Some r → p r ≡ true → (i : ℕ) × (slice_get (filter p l) i ≡ Some r)
-filter_has p [] j r read e = absurd (none-some r read)
-filter_has p (x ∷ xs) zero r read e = let same : x ≡ r = (cc) in rw (same, e) (0, refl)
-filter_has p (x ∷ xs) (suc j) r read e = head (p x) (filter_has p xs j r read e)
-  where
-    head : (b : Bool) → (i : ℕ) × (slice_get (filter p xs) i ≡ Some r) → (i : ℕ) × (slice_get (cond b (x ∷ filter p xs) (filter p xs)) i ≡ Some r)
-    head true it = (suc it.0, it.1)
-    head false it = it
 
 -- what is put in stands there
 pub put_has : (leaf : Ref) (rs : List Ref) → IsApart leaf rs → (i : ℕ) × (slice_get (put leaf rs) i ≡ Some leaf)

@@ -9,15 +9,18 @@ use Rattle.h2_set.specs.RefSet.{RefSet}
 use Rattle.h2_set.specs.Forest.{Forest, refs, loaded, HasLeaves, LeavesOf, KeepsLeaves, IsSoundNode, IsSound, InPlace, Stays, Keeps, Alters, Stores, Storable, Loses, GoesBelow, GoesWith}
 use Rattle.h2_set.specs.StayLaws.{Alike-refl, Fixed-trans, InPlace-trans, Walks-refl, leaves_stay}
 use Rattle.h2_set.specs.LeafLaws.{holds_inside, place_above}
-use Rattle.h2_set.specs.EditLaws.{set_cut, Rising-remove, length-remove_set, remove_from, remove_keeps}
+use Rattle.h2_set.specs.EditLaws.{set_cut, Rising-remove, length-remove_set, remove_from, remove_keeps, remove_lacks}
 use Rattle.h2_set.specs.ChangeLaws.{Keeps-Stays, Keeps-trans, Same-Keeps, leaves_move, same_or_not}
 use Rattle.h2_set.specs.SplitLaws.{nested, below_high}
 use Rattle.h2_set.specs.RenewLaws.{Keeps-Renews, Renews-trans, Alike-length}
 use Rattle.h2_set.specs.CutLaws.{leaves_cut, leaves_drop}
 use Rattle.h2_tree.specs.Changes.{Under, LeadsOnly, itself, down, IsFree, arrived, GoesAway, below_it, named, Removes}
 use Rattle.h2_tree.proofs.Going.{own_set, altered_place, changes_only, none_empty}
-use Rattle.h2_tree.proofs.Climb.{same_holder}
-use Rattle.h2_tree.proofs.Only.{in_holds, sole_leaves, only_holds, only_reaches, only_altered}
+use Rattle.h2_tree.proofs.Only.{sole_leaves, only_holds, only_reaches, only_altered}
+use Rattle.h2_tree.proofs.Taking.{only_path}
+use Rattle.h2_tree.proofs.Touching.{Touched-refl}
+use Rattle.h2_set.specs.PathLaws.{same_holder}
+use Rattle.h2_set.specs.PathLaws.{in_holds}
 
 -- the set of node at without the reference at place i
 abbrev pub set_without : Forest → ℕ → ℕ → RefSet
@@ -73,7 +76,7 @@ module _ (f h : Forest) (at i : ℕ) (leaf : Ref) (sound : IsSound f) (stands : 
         let there : slice_get (refs h at) i ≡ Some loses.lost = subst (λ z. slice_get (refs h at) z ≡ Some loses.lost) same loses.was in
         let is : loses.lost ≡ q = cc (there, read) in
         subst (λ (y : Ref). holds key y ≡ true) is loses.held
-    | inr differs ↦ let kept = remove_keeps (refs h at) i loses.place loses.lost loses.was differs in absurd (loses.lacks kept.0 loses.lost kept.1 refl)
+    | inr differs ↦ let kept = remove_keeps (refs h at) i loses.place loses.lost loses.was differs in absurd (loses.lacks kept.0 loses.lost kept.1 refl refl)
   ]
 
   -- and what it names goes with it
@@ -142,6 +145,37 @@ module _ (f h : Forest) (at i : ℕ) (leaf : Ref) (sound : IsSound f) (stands : 
       let it = goes_with m goes in
       named (λ e. it.1 (p.root ∙ e ∙ sym here.place.root)) (sym (p.belongs (f.root at) leaf.key) ∙ it.0)
 
+  -- and all that goes with the reference the store lets go
+  loses_it : (key : ℕ) → holds key q ≡ true → Loses h at s key
+  loses_it key in_q = record {
+    place = i;
+    lost = q;
+    was = read;
+    lacks = λ j r read' same_key alike. remove_lacks _ _ (refs h at) i j q r node.inside read read' same_key;
+    held = in_q;
+  }
+
+  away_goes : (m : ℕ) → f.stands m ≡ true → GoesAway f at i leaf m → GoesBelow h m at s ⊎ GoesWith h m at s
+  away_goes m st (below_it r read' tree fewer in_r) =
+      let p = altered_place f h at alters m st in
+      let is : r ≡ q = cc (read', read_f) in
+      inl (record {
+        tree = p.root ∙ tree ∙ sym here.place.root;
+        fewer = omega (arith, fewer, p.bits, here.place.bits);
+        loses = loses_it (h.low m) (subst (λ (y : Ref). holds (h.low m) y ≡ true) is (subst (λ z. holds z r ≡ true) (sym p.low) in_r));
+      })
+  away_goes m st (named other belongs) =
+      let p = altered_place f h at alters m st in
+      inr (record {
+        other = λ e. other (sym p.root ∙ e ∙ here.place.root);
+        key = leaf.key;
+        leaf = leaf;
+        loses = loses_it leaf.key (only_holds alters.sound here.place.stands only_h q read);
+        reaches = only_path alters.sound here.place.stands only_h;
+        exact = refl;
+        belongs = p.belongs (h.root at) leaf.key ∙ subst (λ z. f.belongs m z leaf.key ≡ true) (sym here.place.root) belongs;
+      })
+
   pub removes : (g : Forest) → Stores h g at s → (f.root at ≡ at) ⊎ (2 ≤ length (refs f at)) → 62 ≤ f.room → f.copies at ≤ 62 → Removes f g at leaf
   removes g stores more enough copies =
       let P : ℕ → Type 0 = λ m. (f.stands m ≡ true) × (f.root m ≡ f.root at) in
@@ -164,7 +198,7 @@ module _ (f h : Forest) (at i : ℕ) (leaf : Ref) (sound : IsSound f) (stands : 
             let pos = pow_pos (h.bits m) in
             let in_r = in_holds (h.low m) r p.2 (omega (arith, p.3, pos)) in
             let same = same_holder _ _ (h.low m) (refs h at) old.0 goes.loses.place r goes.loses.lost node.inside old.1 goes.loses.was in_r goes.loses.held in
-            goes.loses.lacks j r read' (ap (λ (y : Ref). y.key) (sym same)) in
+            goes.loses.lacks j r read' (ap (λ (y : Ref). y.key) (sym same)) (ap (λ (y : Ref). is_indirect y) (sym same)) in
             let stay' : (m : ℕ) → Q m → Stays h g m = λ m p. Keeps-Stays h g m (others m p.0 p.1 (λ e. let same = ap h.bits e in omega (arith, p.4, same)) (apart m p)) in
             let start : Q d = (kid.stands, kid.root, omega (arith, kid.low), omega (arith, kid.low, ap (λ z. 2 ^ z) bits_d), kid.fewer) in
             let it : KeepsLeaves h g d = λ l hl. leaves_stay h g Q closed' stay' start hl (refs g d) (stay' d start).alike in
@@ -186,6 +220,7 @@ module _ (f h : Forest) (at i : ℕ) (leaf : Ref) (sound : IsSound f) (stands : 
         goes = record {
           then = f;
           walks = Walks-refl f sound;
+          touched = Touched-refl f leaf.key leaf.key;
           node = at;
           stands = stands;
           way = arrived;
@@ -197,6 +232,8 @@ module _ (f h : Forest) (at i : ℕ) (leaf : Ref) (sound : IsSound f) (stands : 
               let in_s : slice_get s.refs j ≡ Some r = subst (λ (t : RefSet). slice_get t.refs j ≡ Some r) stores.set read' in
               stores.link j r in_s ind ∙ here.link r.key;
           only = changes_only f h g at (GoesAway f at i leaf) alters stores.place (λ m st ne not_gone. stores.others m st ne (λ goes. not_gone (below_goes m (alters.none_new m st) goes)) (λ goes. not_gone (with_goes m (alters.none_new m st) goes)));
+          gone = λ m st away. stores.gone m (altered_place f h at alters m st).stands (away_goes m st away);
+          none_new = λ m st. alters.none_new m (stores.none_new m st);
           room = omega (arith, alters.room, stores.room);
           spare = stores.spare ∙ alters.spare;
         };

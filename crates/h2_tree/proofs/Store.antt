@@ -9,6 +9,7 @@ use Rattle.h2_set.specs.ChangeLaws.{Keeps-Stays, Keeps-trans, Same-Keeps, below_
 use Rattle.h2_set.specs.RenewLaws.{Keeps-Renews, Renews-trans}
 use Rattle.h2_tree.specs.Changes.{Under, Takes, TakesIn, arrived, Inserts}
 use Rattle.h2_tree.proofs.Going.{changes_only, Prepares-refl, none_empty}
+use Rattle.h2_tree.proofs.Touching.{Touched-refl}
 
 -- the set s is that of node at with the leaf, and lacks no key
 pub record WithLeaf (f : Forest) (at : ℕ) (leaf : Ref) (s : RefSet) : Type 0 where
@@ -17,17 +18,18 @@ pub record WithLeaf (f : Forest) (at : ℕ) (leaf : Ref) (s : RefSet) : Type 0 w
   pub some : 0 < length s.refs
   pub inside : Rising (f.low at) (f.low at + 2 ^ f.bits at) s.refs
   pub from : (i : ℕ) (r : Ref) → slice_get s.refs i ≡ Some r → (r ≡ leaf) ⊎ ((j : ℕ) × (slice_get (refs f at) j ≡ Some r))
-  pub keys : (j : ℕ) (r : Ref) → slice_get (refs f at) j ≡ Some r → (i : ℕ) × (q : Ref) × (slice_get s.refs i ≡ Some q) × (q.key ≡ r.key)
+  pub keys : (j : ℕ) (r : Ref) → slice_get (refs f at) j ≡ Some r → (i : ℕ) × (q : Ref) × (slice_get s.refs i ≡ Some q) × (q.key ≡ r.key) × (is_indirect q ≡ is_indirect r)
   pub leaves : (l : List Ref) → LeavesOf f at l → HasLeaves f at s.refs (put leaf l)
 
 pub nothing_lost : (f : Forest) (at : ℕ) (leaf : Ref) (s : RefSet) → WithLeaf f at leaf s → (key : ℕ) → Loses f at s key → ⊥
-nothing_lost f at leaf s w key loses = let it = w.keys loses.place loses.lost loses.was in loses.lacks it.0 it.1 it.2 it.3
+nothing_lost f at leaf s w key loses = let it = w.keys loses.place loses.lost loses.was in loses.lacks it.0 it.1 it.2 it.3 it.4
 
 -- a leaf that the tree may have fits its nodes, also when they are altered
 pub leaf_fits : (f h : Forest) (at : ℕ) (leaf : Ref) → f.stands at ≡ true → Takes f at leaf → Alters f h at → Fits h at leaf
 leaf_fits f h at leaf stands takes alters =
     let here = alters.tree at stands refl in
     record {
+      held = takes.held;
       aligned = takes.aligned;
       class = takes.class;
       leaf = λ _. takes.keybits ∙ sym (alters.fixed.leaf_bits (f.root at)) ∙ ap h.leaf_bits (sym here.place.root);
@@ -100,6 +102,7 @@ module _ (f h : Forest) (at : ℕ) (leaf : Ref) (s : RefSet) (sound : IsSound f)
         goes = record {
           then = f;
           prepares = Prepares-refl f sound;
+          touched = Touched-refl f leaf.key leaf.key;
           node = at;
           stands = stands;
           way = arrived;

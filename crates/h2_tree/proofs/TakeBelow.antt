@@ -3,16 +3,17 @@ use Rattle.std.proofs.Common.{◌≡◌, ℕ, ◌≤◌, ◌^◌, true, arith, s
 use Rattle.h2_ref.specs.declared.reference.Ref.{Ref}
 use Rattle.h2_set.specs.RefSet.{RefSet}
 use Rattle.h2_set.specs.Ranges.{holds, at_key, is_indirect}
-use Rattle.h2_set.specs.Forest.{Forest, refs, loaded, LeavesOf, IsSoundNode, IsSound, Walks, Loads, Stays}
+use Rattle.h2_set.specs.Forest.{Forest, refs, loaded, LeavesOf, IsSoundNode, IsSound, Walks, Loads, Stays, below}
 use Rattle.h2_set.specs.StayLaws.{Walks-trans, Walks-leaves}
 use Rattle.h2_set.specs.LeafLaws.{leaves_rising, find_below}
 use Rattle.h2_set.specs.ChangeLaws.{Keeps-trans}
-use Rattle.h2_tree.specs.Changes.{WalksUnder, LeadsOnly, down, IsFree, Removes, TakesOut, PathUnloaded}
+use Rattle.h2_tree.specs.Changes.{WalksUnder, LeadsOnly, down, IsFree, LoadsTouched, LacksLeaf, Removes, TakesOut, PathUnloaded}
 use Rattle.h2_tree.specs.declared.removing.Taken.{Taken}
 use Rattle.h2_tree.specs.declared.removing.Taken.TheVariants.{Nothing, Out, Sole}
 use Rattle.h2_tree.proofs.Climb.{reaches_child}
 use Rattle.h2_tree.proofs.Taking.{keyed, at_key_find, only_at_key, under_load, under_child, removes_after, free_after}
 use Rattle.h2_tree.proofs.RemoveBelow.{remove_below}
+use Rattle.h2_tree.proofs.Touching.{Touched-trans, touched_load}
 
 -- walks under a node, one after the other
 pub under_on : (f h g : Forest) (at : ℕ) → f.stands at ≡ true → WalksUnder f h at → WalksUnder h g at → WalksUnder f g at
@@ -29,10 +30,10 @@ under_on f h g at stands first second =
     }
 
 -- what was taken out after loads under the node
-pub takes_after : (f h g : Forest) (at key : ℕ) → IsSound f → f.stands at ≡ true → WalksUnder f h at → (t : Taken) → TakesOut h g at key t → TakesOut f g at key t
-takes_after f h g at key sound stands walk Nothing taken = (under_on f h g at stands walk taken.0, λ l hl. taken.1 l (Walks-leaves f h sound walk.walks at stands l hl))
-takes_after f h g at key sound stands walk (Out leaf) taken = (removes_after f h g at leaf sound stands walk taken.0, taken.1, λ l hl. taken.2 l (Walks-leaves f h sound walk.walks at stands l hl))
-takes_after f h g at key sound stands walk (Sole leaf) taken = (under_on f h g at stands walk taken.0, taken.1, taken.2, taken.3)
+pub takes_after : (f h g : Forest) (at key : ℕ) → IsSound f → f.stands at ≡ true → WalksUnder f h at → LoadsTouched f h key key → (t : Taken) → TakesOut h g at key t → TakesOut f g at key t
+takes_after f h g at key sound stands walk touched Nothing taken = (under_on f h g at stands walk taken.0, λ l hl. taken.1 l (Walks-leaves f h sound walk.walks at stands l hl), Touched-trans f h g key key taken.0.walks touched taken.2, taken.3)
+takes_after f h g at key sound stands walk touched (Out leaf) taken = (removes_after f h g at leaf sound stands walk (subst (λ z. LoadsTouched f h z z) (sym taken.1) touched) taken.0, taken.1, λ l hl. taken.2 l (Walks-leaves f h sound walk.walks at stands l hl))
+takes_after f h g at key sound stands walk touched (Sole leaf) taken = (under_on f h g at stands walk taken.0, taken.1, taken.2, taken.3, Touched-trans f h g key key taken.0.walks touched taken.4)
 
 -- the same by another name of the key
 pub takes_key : (f g : Forest) (at a b : ℕ) → a ≡ b → (t : Taken) → TakesOut f g at a t → TakesOut f g at b t
@@ -51,16 +52,30 @@ module _ (f h : Forest) (at i c key : ℕ) (q : Ref) (sound : IsSound f) (stands
   under : WalksUnder f h at
   under = under_load f h at q.key walks loads
 
+  pub touched_child : LoadsTouched f h key key
+  touched_child = touched_load f h at i q key key stands read ind in_q walks loads
+
+  pub touched_err : (g : Forest) → Walks h g → LoadsTouched h g key key → LoadsTouched f g key key
+  touched_err g walks' touched = Touched-trans f h g key key walks' touched_child touched
+
+  -- where the child's path leads to no leaf of the key, that of the node leads to none
+  lacks_below : (g : Forest) → Walks h g → LacksLeaf g c key → LacksLeaf g at key
+  lacks_below g walks' lacks = record {
+    found = lacks.found;
+    path = below {r = q} i (ap (λ (s : RefSet). slice_get s.refs i) (walks'.sets at there.place.stands) ∙ read_h) in_q ind ((walks'.stays at there.place.stands).near q.key c link) lacks.path;
+    other = lacks.other;
+  }
+
   at_below : (o : Option Ref) → ((b : List Ref) → LeavesOf h c b → at_key key b ≡ o) → (l : List Ref) → LeavesOf f at l → at_key key l ≡ o
-  at_below o below l hl =
+  at_below o inner l hl =
       let it = find_below key _ _ i c q (Walks-leaves f h sound walks at stands l hl) node.inside read_h in_q ind link in
       let kid = walks.sound.node c (node.child q.key c link).stands in
       let whole = at_key_find key _ _ l (leaves_rising hl _ _ (sound.node at stands).inside) in
       let part = at_key_find key _ _ it.kids (leaves_rising it.leaves _ _ kid.inside) in
-      whole ∙ (ap (keyed key) it.same ∙ sym part) ∙ below it.kids it.leaves
+      whole ∙ (ap (keyed key) it.same ∙ sym part) ∙ inner it.kids it.leaves
 
   pub nothing_below : (g : Forest) → TakesOut h g c key Nothing → TakesOut f g at key Nothing
-  nothing_below g taken = (under_child f h g at q.key c stands under link taken.0, at_below None taken.1)
+  nothing_below g taken = (under_child f h g at q.key c stands under link taken.0, at_below None taken.1, touched_err g taken.0.walks taken.2, lacks_below g taken.0.walks taken.3)
 
   pub out_below : (g : Forest) (leaf : Ref) → TakesOut h g c key (Out leaf) → TakesOut f g at key (Out leaf)
   out_below g leaf taken = (remove_below f h at i c leaf q sound stands read ind (rw taken.1 in_q) walks loads link g taken.0, taken.1, at_below (Some leaf) taken.2)
@@ -86,7 +101,7 @@ module _ (f h : Forest) (at i c key : ℕ) (q : Ref) (sound : IsSound f) (stands
       (omega (arith, whole.copies at stands, room.0), omega (arith, whole.room, room.1))
 
   pub taken_sole : (g g' : Forest) (leaf : Ref) (t : Taken) → TakesOut h g c key (Sole leaf) → TakesOut g g' at leaf.key t → TakesOut f g' at key t
-  taken_sole g g' leaf t taken after = takes_after f g g' at key sound stands (under_sole g leaf taken) t (takes_key g g' at leaf.key key taken.3 t after)
+  taken_sole g g' leaf t taken after = takes_after f g g' at key sound stands (under_sole g leaf taken) (touched_err g taken.0.walks taken.4) t (takes_key g g' at leaf.key key taken.3 t after)
 
   -- what the call on the child owes
   pub child_free : IsFree f (f.root at) key → IsFree h (h.root c) key
@@ -125,4 +140,4 @@ module _ (f g : Forest) (at key : ℕ) (leaf : Ref) (sound : IsSound f) (stands 
         rw (root, taken.3) (free_after f g at key sound taken.0.walks free)
 
 pub root_removes : (f h g : Forest) (at key : ℕ) (leaf : Ref) → IsSound f → f.stands at ≡ true → TakesOut f h at key (Sole leaf) → Removes h g at leaf → Removes f g at leaf
-root_removes f h g at key leaf sound stands taken rem = removes_after f h g at leaf sound stands taken.0 rem
+root_removes f h g at key leaf sound stands taken rem = removes_after f h g at leaf sound stands taken.0 (subst (λ z. LoadsTouched f h z z) (sym taken.3) taken.4) rem

@@ -10,8 +10,10 @@ use Rattle.h2_set.specs.StayLaws.{Walks-refl, Walks-trans, Walks-leaves, Fixed-t
 use Rattle.h2_set.specs.LeafLaws.{leaves_rising, holds_inside, reaches_find}
 use Rattle.h2_set.specs.ChangeLaws.{Keeps-refl, Keeps-trans}
 use Rattle.h2_set.specs.RenewLaws.{Keeps-Renews, Renews-trans}
-use Rattle.h2_tree.specs.Changes.{Under, WalksUnder, LeadsOnly, itself, down, IsFree, Removes}
-use Rattle.h2_tree.proofs.Only.{only_holds, in_holds}
+use Rattle.h2_tree.specs.Changes.{Under, WalksUnder, LeadsOnly, itself, down, IsFree, LoadsTouched, Removes}
+use Rattle.h2_tree.proofs.Only.{only_holds}
+use Rattle.h2_tree.proofs.Touching.{Touched-trans}
+use Rattle.h2_set.specs.PathLaws.{in_holds}
 
 -- the leaf that was found, where it has the very key
 abbrev pub keyed : ℕ → Option Ref → Option Ref
@@ -107,8 +109,8 @@ under_child f h g at k c stands first link second =
     }
 
 -- a removal after loads under the node
-pub removes_after : (f h g : Forest) (at : ℕ) (leaf : Ref) → IsSound f → f.stands at ≡ true → WalksUnder f h at → Removes h g at leaf → Removes f g at leaf
-removes_after f h g at leaf sound stands walk rem =
+pub removes_after : (f h g : Forest) (at : ℕ) (leaf : Ref) → IsSound f → f.stands at ≡ true → WalksUnder f h at → LoadsTouched f h leaf.key leaf.key → Removes h g at leaf → Removes f g at leaf
+removes_after f h g at leaf sound stands walk touched rem =
     let there = (walk.walks.stays at stands).place in
     record {
       sound = rem.sound;
@@ -127,6 +129,7 @@ removes_after f h g at leaf sound stands walk rem =
       goes = (let it = rem.goes in record {
         then = it.then;
         walks = Walks-trans f h it.then walk.walks it.walks;
+        touched = Touched-trans f h it.then leaf.key leaf.key it.walks touched it.touched;
         node = it.node;
         stands = it.stands;
         way = it.way;
@@ -136,6 +139,8 @@ removes_after f h g at leaf sound stands walk rem =
         set = it.set;
         link = it.link;
         only = it.only;
+        gone = it.gone;
+        none_new = it.none_new;
         room = omega (arith, it.room, walk.walks.room);
         spare = it.spare ∙ walk.walks.spare;
       });

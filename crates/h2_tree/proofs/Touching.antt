@@ -12,8 +12,8 @@ use Rattle.h2_ref.specs.declared.faults.Trouble.TheVariants.{NoMemory}
 use Rattle.h2_set.specs.RefSet.{RefSet}
 use Rattle.h2_set.specs.Ranges.{Rising, limit, holds, is_indirect}
 use Rattle.h2_set.specs.LeafLaws.{Rising-le, holds_inside, holds_outside, leaves_rising}
-use Rattle.h2_set.specs.Forest.{Link, loaded, told, untold, Forest, refs, HasLeaves, IsSound, Walks, Loads}
-use Rattle.h2_tree.specs.Changes.{is_between, touches, RangeUnloaded, missing, deeper, LoadsTouched}
+use Rattle.h2_set.specs.Forest.{Link, loaded, told, untold, Forest, refs, HasLeaves, IsSound, InPlace, Walks, Loads}
+use Rattle.h2_tree.specs.Changes.{is_between, touches, RangeUnloaded, missing, deeper, LoadsTouched, Prepares}
 
 pub touches_not : (from to : ℕ) (r : Ref) → to < r.key → touches from to r ≡ false
 touches_not from to r lt = grind (arith, nat_tests)
@@ -31,18 +31,29 @@ touches_holds from to r false le ge e = elim (holds_outside from r e) as (λ _. 
 pub Touched-refl : (f : Forest) (from to : ℕ) → LoadsTouched f f from to
 Touched-refl f from to = record { only = λ m st. inl st }
 
-pub Touched-trans : (f g h : Forest) (from to : ℕ) → Walks g h → LoadsTouched f g from to → LoadsTouched g h from to → LoadsTouched f h from to
-Touched-trans f g h from to walks a b = record {
+-- where no node was loaded
+pub none_touched : (f g : Forest) (from to : ℕ) → ((m : ℕ) → g.stands m ≡ true → f.stands m ≡ true) → LoadsTouched f g from to
+none_touched f g from to none_new = record { only = λ m st. inl (none_new m st) }
+
+-- where each node that stood in between stands where it stood
+Touched-placed : (f g h : Forest) (from to : ℕ) → ((m : ℕ) → g.stands m ≡ true → InPlace g h m) → LoadsTouched f g from to → LoadsTouched g h from to → LoadsTouched f h from to
+Touched-placed f g h from to placed a b = record {
   only = λ m st. elim (b.only m st) as (λ _. (f.stands m ≡ true) ⊎ ((h.low m ≤ to) × (from < h.low m + 2 ^ h.bits m))) [
     | inr new ↦ inr new
     | inl was ↦ elim (a.only m was) as (λ _. (f.stands m ≡ true) ⊎ ((h.low m ≤ to) × (from < h.low m + 2 ^ h.bits m))) [
       | inl first ↦ inl first
       | inr new ↦
-          let place = (walks.stays m was).place in
+          let place = placed m was in
           inr (omega (arith, place.low, new.0), omega (arith, place.low, ap (λ z. 2 ^ z) place.bits, new.1))
     ]
   ];
 }
+
+pub Touched-prepared : (f g h : Forest) (from to : ℕ) → Prepares g h → LoadsTouched f g from to → LoadsTouched g h from to → LoadsTouched f h from to
+Touched-prepared f g h from to p a b = Touched-placed f g h from to (λ m st. (p.stays m st).place) a b
+
+pub Touched-trans : (f g h : Forest) (from to : ℕ) → Walks g h → LoadsTouched f g from to → LoadsTouched g h from to → LoadsTouched f h from to
+Touched-trans f g h from to walks a b = Touched-placed f g h from to (λ m st. (walks.stays m st).place) a b
 
 pub touches_inside : (from to : ℕ) (r : Ref) → touches from to r ≡ true → (r.key ≤ to) × (from < limit r)
 touches_inside from to r e = (grind (arith, nat_tests), grind (arith, nat_tests))

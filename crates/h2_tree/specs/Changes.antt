@@ -204,11 +204,17 @@ pub record Removes (f g : Forest) (at : ℕ) (leaf : Ref) : Type 0 where
   pub room_falls : g.room ≤ f.room
   pub spare : g.spare ≡ f.spare
 
+-- the loaded path of the key leads to no leaf of this key
+pub record LacksLeaf (f : Forest) (at key : ℕ) : Type 0 where
+  pub found : Option Ref
+  pub path : Reaches f key at found
+  pub other : (r : Ref) → found ≡ Some r → r.key ≡ key → ⊥
+
 -- what taking out the leaf with the key did at node at: there is none, or it is out, or the node has no other
 abbrev pub TakesOut : Forest → Forest → ℕ → ℕ → Taken → Type 0
-TakesOut f g at key Nothing = WalksUnder f g at × ((l : List Ref) → LeavesOf f at l → at_key key l ≡ None)
+TakesOut f g at key Nothing = WalksUnder f g at × ((l : List Ref) → LeavesOf f at l → at_key key l ≡ None) × LoadsTouched f g key key × LacksLeaf g at key
 TakesOut f g at key (Out leaf) = Removes f g at leaf × (leaf.key ≡ key) × ((l : List Ref) → LeavesOf f at l → at_key key l ≡ Some leaf)
-TakesOut f g at key (Sole leaf) = WalksUnder f g at × (length (refs g at) ≡ 1) × LeadsOnly g at 0 leaf × (leaf.key ≡ key)
+TakesOut f g at key (Sole leaf) = WalksUnder f g at × (length (refs g at) ≡ 1) × LeadsOnly g at 0 leaf × (leaf.key ≡ key) × LoadsTouched f g key key
 
 -- each loaded path to a key outside the leaf's range stays loaded, and leads to what it led to
 abbrev pub KeepsPaths : Forest → Forest → ℕ → Ref → Type 0
@@ -230,12 +236,6 @@ pub data RangeUnloaded (f : Forest) (from to : ℕ) : ℕ → Type 0 where
 -- no loaded path leads to what the key has
 abbrev pub PathUnloaded : Forest → ℕ → ℕ → Type 0
 PathUnloaded f at key = (o : Option Ref) → Reaches f key at o → ⊥
-
--- the loaded path of the key leads to no leaf of this key
-pub record LacksLeaf (f : Forest) (at key : ℕ) : Type 0 where
-  pub found : Option Ref
-  pub path : Reaches f key at found
-  pub other : (r : Ref) → found ≡ Some r → r.key ≡ key → ⊥
 
 -- the loaded leaves of node at with keys from `from` to `to` are l, in order, and no node that they need is unloaded
 pub record Lists (f : Forest) (at from to : ℕ) (l : List Ref) : Type 0 where

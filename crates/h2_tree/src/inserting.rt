@@ -4,6 +4,7 @@ ghost use Rattle.h2_set.specs.Ranges.{find, is_indirect, NoneHolds};
 ghost use Rattle.h2_set.specs.Forest.{Forest, refs, IsSound, Walks, HasCause, LeavesOf, Reaches, KeepsBeside, ReadiesOnly};
 ghost use Rattle.h2_tree.specs.Changes.{Takes, Inserts, KeepsPaths, LoadsTouched, PathUnloaded};
 
+use crate::loading::load_child;
 use h2_num::NoMemory;
 use h2_ref::{Ref, Trouble};
 use h2_set::{NodeId, PutAnswer, Sets, is_indirect};
@@ -77,6 +78,7 @@ fn add<N: Sets>(alloc: Global, n: &mut N, at: NodeId, leaf: Ref) -> Result<(), N
     requires none { NoneHolds leaf.key (refs (N.forest n.old) at.0) }
     ensures ok { OnOk result (Inserts (N.forest n.old) (N.forest n.new) at.0 leaf None) }
     ensures walks { OnErr result (Walks (N.forest n.old) (N.forest n.new)) }
+    ensures touched { OnErr result (LoadsTouched (N.forest n.old) (N.forest n.new) leaf.key leaf.key) }
     ensures spare { let f = N.forest n.old in OnErr result (f.spare ≡ 0) }
     ensures beside { KeepsBeside (N.forest n.old) (N.forest n.new) (N.beside n.old) (N.beside n.new) }
     ensures later { N.later n.old n.new }
@@ -93,8 +95,8 @@ fn add<N: Sets>(alloc: Global, n: &mut N, at: NodeId, leaf: Ref) -> Result<(), N
 /// Adds a leaf to the tree, or puts it in place of the one with its range, which is answered; None exactly where
 /// there is none. It goes into the set of one node on the path of its key, and a full set is split by the split rule.
 /// The room is at least 63, and is lowered by the number of nodes that are copied and by one for a split, as spare is.
-/// No node is unloaded, none off the path of its key is loaded, and paths to all keys stay loaded. Trouble only where a node on the path of its key isn't
-/// loaded, or no node is spare; nothing but loads took place then.
+/// No node is unloaded, none off the path of its key is loaded, and paths to all keys stay loaded. Trouble only where
+/// a node on the path of its key isn't loaded, or no node is spare; nothing but loads took place then.
 pub fn insert<N: Sets>(
     alloc: Global,
     n: &mut N,
@@ -126,6 +128,6 @@ pub fn insert<N: Sets>(
     if !is_indirect(set.at(i)) {
         return Ok(Some(replace(n, root, i, leaf)));
     }
-    let child = n.child(alloc, root, i)?;
+    let child = load_child(alloc, n, root, i)?;
     insert(alloc, n, child, leaf)
 }

@@ -1,7 +1,8 @@
 ghost use Rattle.std.specs.Prelude.{◌≡◌, ◌⊎◌, ℕ, [], ◌∷◌, ◌++◌, true, List, IfOk, IfErr, OnOk, filter};
 ghost use Rattle.h2_ref.specs.declared.reference.Ref.{Ref};
-ghost use Rattle.h2_set.specs.Forest.{Forest, IsSound, Walks, HasCause, LeavesOf, KeepsBeside};
+ghost use Rattle.h2_set.specs.Forest.{Forest, refs, IsSound, Walks, HasCause, LeavesOf, KeepsBeside};
 ghost use Rattle.h2_tree.specs.Changes.{is_between, touches, RangeUnloaded, LoadsTouched, Lists};
+ghost use Rattle.h2_tree.specs.Listing.{Adds};
 
 use h2_ref::{Ref, Trouble};
 use h2_set::{NodeId, Sets, holds, is_indirect};
@@ -46,6 +47,7 @@ fn collect<N: Sets>(
     requires sound { IsSound (N.forest n.old) }
     requires stands { let f = N.forest n.old in f.stands at.0 ≡ true }
     ensures ok { OnOk result ((l : List Ref) → LeavesOf (N.forest n.old) at.0 l → out.new.items ≡ out.old.items ++ filter (is_between from to) l) }
+    ensures gathers { OnOk result (Adds (N.forest n.new) from to at.0 (refs (N.forest n.new) at.0) out.old.items out.new.items) }
     ensures walks { Walks (N.forest n.old) (N.forest n.new) }
     ensures err { IfErr result (HasCause (N.forest n.old) (N.forest n.new)) }
     ensures touched { LoadsTouched (N.forest n.old) (N.forest n.new) from to }
@@ -68,8 +70,9 @@ fn collect<N: Sets>(
     Ok(())
 }
 
-/// The leaves with keys from `from` to `to`, in order. Afterwards every node that they need is loaded. Only nodes whose ranges have a key from `from` to `to` are
-/// loaded. Trouble only where one of them isn't loaded, or for want of memory.
+/// The leaves with keys from `from` to `to`, in order: exactly those that loaded nodes lead to, and every node whose
+/// range has such a key is loaded then. No other node is loaded. Trouble only where one of them wasn't loaded, or for
+/// want of memory.
 pub fn range<N: Sets>(
     alloc: Global,
     n: &mut N,

@@ -4,6 +4,7 @@ ghost use Rattle.h2_set.specs.Ranges.{at_key, is_indirect};
 ghost use Rattle.h2_set.specs.Forest.{Forest, refs, IsSound, Walks, HasCause, LeavesOf, Reaches, KeepsBeside};
 ghost use Rattle.h2_tree.specs.Changes.{IsFree, LeadsOnly, Removes, KeepsPaths, TakesOut, LacksLeaf, LoadsTouched, PathUnloaded};
 
+use crate::loading::load_child;
 use h2_ref::{Ref, Trouble};
 use h2_set::{NodeId, Sets, is_indirect};
 use std::alloc::Global;
@@ -63,6 +64,7 @@ fn take<N: Sets>(alloc: Global, n: &mut N, at: NodeId, key: u64) -> Result<Taken
     ensures taken { IfOk result (TakesOut (N.forest n.old) (N.forest n.new) at.0 key) }
     ensures walks { OnErr result (Walks (N.forest n.old) (N.forest n.new)) }
     ensures err { IfErr result (HasCause (N.forest n.old) (N.forest n.new)) }
+    ensures touched { OnErr result (LoadsTouched (N.forest n.old) (N.forest n.new) key key) }
     ensures unloaded { OnErr result (PathUnloaded (N.forest n.old) at.0 key) }
     ensures beside { KeepsBeside (N.forest n.old) (N.forest n.new) (N.beside n.old) (N.beside n.new) }
     ensures later { N.later n.old n.new }
@@ -78,7 +80,7 @@ fn take<N: Sets>(alloc: Global, n: &mut N, at: NodeId, key: u64) -> Result<Taken
         }
         return Ok(cut_unless_sole(n, at, i, found));
     }
-    let child = n.child(alloc, at, i)?;
+    let child = load_child(alloc, n, at, i)?;
     match take(alloc, n, child, key)? {
         Taken::Sole(leaf) => Ok(cut_unless_sole(n, at, i, leaf)),
         Taken::Out(leaf) => Ok(Taken::Out(leaf)),
@@ -87,7 +89,8 @@ fn take<N: Sets>(alloc: Global, n: &mut N, at: NodeId, key: u64) -> Result<Taken
 }
 
 /// Takes out the leaf with this key, which is answered; None exactly where there is none, and then nothing but loads
-/// took place. What the leaf names isn't held, and the room is at least 62; it is lowered by the number of nodes that
+/// took place, and the loaded path of the key leads to no leaf of this key. No node off that path is loaded. What the
+/// leaf names isn't held, and the room is at least 62; it is lowered by the number of nodes that
 /// are copied. Of the tree nothing goes but indirect blocks that would be left empty: the reference to the uppermost of
 /// them is cut. Paths to other keys stay loaded. Trouble only where a node on the key's path isn't loaded; nothing but
 /// loads took place then.

@@ -1,15 +1,17 @@
-use Rattle.std.proofs.Common.{◌≡◌, ◌⊎◌, inl, inr, ◌∙◌, sym, arith, ap, refl, true, false, List, ◌++◌, Some, subst, slice_get}
+use Rattle.std.proofs.Common.{◌≡◌, ◌⊎◌, inl, inr, ◌∙◌, sym, arith, ap, refl, true, false, List, ◌++◌, Some, subst, slice_get, length}
 use Rattle.std.specs.Prelude.{filter}
-use Rattle.std.proofs.lemmas.List.{append-nil}
+use Rattle.std.proofs.lemmas.List.{append-nil, take_all}
 use Rattle.h2_ref.specs.declared.reference.Ref.{Ref}
 use Rattle.h2_set.specs.Ranges.{is_indirect}
 use Rattle.h2_set.specs.RefSet.{RefSet}
-use Rattle.h2_set.specs.Forest.{refs}
+use Rattle.h2_set.specs.Forest.{refs, HasLeaves}
 use Rattle.h2_set.specs.StayLaws.{Walks-refl, Walks-trans}
 use Rattle.h2_tree.specs.Changes.{is_between, touches, RangeUnloaded, missing, deeper}
 use Rattle.h2_tree.proofs.Touching.{Touched-refl, Touched-trans, touched_load, unloaded_back, skip_step, always_unloaded, carried_err}
 use Rattle.h2_ref.specs.declared.faults.Trouble.TheVariants.{NoMemory}
+use Rattle.h2_tree.specs.Listing.{Adds}
 use Rattle.h2_tree.proofs.Climb.{next_node}
+use Rattle.h2_tree.proofs.Gathering.{adds_none, adds_more, adds_skipped, adds_taken, adds_entered}
 use Rattle.h2_tree.proofs.Answering.{beside_same, beside_on}
 use Rattle.h2_tree.proofs.Collect.{no_leaves, collected_more, leaf_step, child_step}
 use Rattle.h2_tree.proofs.listing.+collect.Goals as goal
@@ -21,6 +23,7 @@ loop-i-init g t c = record {
   touched = Touched-refl _ _ _;
   beside = beside_same _ _;
   later = g.met.N.Sets.same_later _;
+  gathered = adds_none _ _ _ _ _;
   told = λ front h.
       let none = no_leaves h refl in
       sym (ap (λ (z : List Ref). c.args.out.now.items ++ filter (is_between c.args.from c.args.to) z) none ∙ append-nil c.args.out.now.items);
@@ -63,6 +66,7 @@ loop-i-preserved g t c =
     let at = c.args.at.0 in
     let read : slice_get (refs f at) i ≡ Some r = subst (λ (s : RefSet). slice_get s.refs i ≡ Some r) c.get-in-loop-i.ensures c.at.ensures in
     let read0 : slice_get (refs f0 at) i ≡ Some r = subst (λ (s : RefSet). slice_get s.refs i ≡ Some r) (c.get-in-loop-i.ensures ∙ inv.walks.sets at c.requires.stands) c.at.ensures in
+    let there = (inv.walks.stays at c.requires.stands).place.stands in
     elim c.if-touches.branch [
       | else-touches w ↦
           let off : touches c.args.from c.args.to r ≡ false = sym c.touches.ensures ∙ w.if-touches.false in
@@ -71,6 +75,7 @@ loop-i-preserved g t c =
             touched = inv.touched;
             beside = inv.beside;
             later = inv.later;
+            gathered = adds_more f f c.args.from c.args.to at i (refs f0 at) c.args.out.now.items c.loop-i.out.items c.loop-i.out.items r inv.walks.sound (Walks-refl f inv.walks.sound) there inv.gathered read0 (adds_skipped f c.args.from c.args.to at c.loop-i.out.items r off);
             told = collected_more f0 at i p c.args.out.now.items c.loop-i.out.items c.loop-i.out.items r inv.told read0 (skip_step f0 at c.args.from c.args.to c.loop-i.out.items r off);
           })
       | then-touches+else-is_indirect+in_ok-take_leaf w ↦
@@ -80,6 +85,7 @@ loop-i-preserved g t c =
             touched = inv.touched;
             beside = inv.beside;
             later = inv.later;
+            gathered = adds_more f f c.args.from c.args.to at i (refs f0 at) c.args.out.now.items c.loop-i.out.items w.take_leaf.new.out.items r inv.walks.sound (Walks-refl f inv.walks.sound) there inv.gathered read0 (adds_taken f c.args.from c.args.to at c.loop-i.out.items w.take_leaf.new.out.items r leaf w.in_ok-take_leaf.ensures.ok);
             told = collected_more f0 at i p c.args.out.now.items c.loop-i.out.items w.take_leaf.new.out.items r inv.told read0 (leaf_step f0 at p c.loop-i.out.items w.take_leaf.new.out.items r leaf w.in_ok-take_leaf.ensures.ok);
           })
       | then-touches+then-is_indirect+in_ok-child+in_ok-collect w ↦
@@ -87,7 +93,6 @@ loop-i-preserved g t c =
           let rest = w.in_ok-collect.ensures in
           let ind : is_indirect r ≡ true = sym w.is_indirect.ensures ∙ w.if-is_indirect.true in
           let on : touches c.args.from c.args.to r ≡ true = sym c.touches.ensures ∙ w.if-touches.true in
-          let there = (inv.walks.stays at c.requires.stands).place.stands in
           let loaded_walk = Walks-trans _ _ _ inv.walks child.walks in
           let loaded_touched = Touched-trans _ _ _ _ _ child.walks inv.touched (touched_load _ _ at i r _ _ there read ind on child.walks (child.loads r read)) in
           rw (w.n-is, w.out-is) (record {
@@ -95,9 +100,29 @@ loop-i-preserved g t c =
             touched = Touched-trans _ _ _ _ _ rest.walks loaded_touched rest.touched;
             beside = beside_on _ _ _ _ _ _ (λ m st. (loaded_walk.stays m st).place.stands) (beside_on _ _ _ _ _ _ (λ m st. (inv.walks.stays m st).place.stands) inv.beside child.beside) rest.beside;
             later = g.met.N.Sets.later_later _ _ _ (g.met.N.Sets.later_later _ _ _ inv.later child.later) rest.later;
+            gathered = (let mid = (child.walks.stays at there).place.stands in let link = (rest.walks.stays at mid).near r.key w.in_ok-child.child.0 (child.ok _ read) in adds_more f _ c.args.from c.args.to at i (refs f0 at) c.args.out.now.items c.loop-i.out.items w.collect.new.out.items r inv.walks.sound (Walks-trans _ _ _ child.walks rest.walks) there inv.gathered read0 (adds_entered _ c.args.from c.args.to at w.in_ok-child.child.0 c.loop-i.out.items w.collect.new.out.items r ind link rest.gathers));
             told = collected_more f0 at i p c.args.out.now.items c.loop-i.out.items w.collect.new.out.items r inv.told read0 (child_step f0 _ at _ p c.loop-i.out.items w.collect.new.out.items r c.requires.sound loaded_walk c.requires.stands ind (child.ok _ read) rest.ok);
           })
     ]
+
+pub returns-in_err-collect-clause-later : goal.returns-in_err-collect-clause-later
+returns-in_err-collect-clause-later g t c = g.met.N.Sets.later_later _ _ _ (g.met.N.Sets.later_later _ _ _ c.loop-i.invariant.later c.in_ok-child.ensures.later) c.in_err-collect.ensures.later
+
+pub returns-clause-gathers : goal.returns-clause-gathers
+returns-clause-gathers g t c =
+    let f = g.N.Sets.forest c.args.n.now in
+    let at = c.args.at.0 in
+    let len : c.len-len.result ≡ length (refs f at) = c.len-len.ensures.len ∙ ap (λ (s : RefSet). length s.refs) c.get.ensures in
+    let whole = take_all c.loop-i.i (refs f at) (omega (arith, c.loop-i-test.false, len)) ∙ ap (λ (s : RefSet). s.refs) (sym (c.loop-i.invariant.walks.sets at c.requires.stands)) in
+    subst (λ z. Adds (g.N.Sets.forest c.loop-i.n) c.args.from c.args.to at z c.args.out.now.items c.loop-i.out.items) whole c.loop-i.invariant.gathered
+
+pub returns-clause-ok : goal.returns-clause-ok
+returns-clause-ok g t c = λ l hl.
+    let f = g.N.Sets.forest c.args.n.now in
+    let at = c.args.at.0 in
+    let len : c.len-len.result ≡ length (refs f at) = c.len-len.ensures.len ∙ ap (λ (s : RefSet). length s.refs) c.get.ensures in
+    let whole = take_all c.loop-i.i (refs f at) (omega (arith, c.loop-i-test.false, len)) in
+    c.loop-i.invariant.told l (subst (λ z. HasLeaves f at z l) (sym whole) hl)
 
 pub returns-in_err-child-clause-touched : goal.returns-in_err-child-clause-touched
 returns-in_err-child-clause-touched g t c =

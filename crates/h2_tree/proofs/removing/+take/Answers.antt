@@ -1,10 +1,13 @@
-use Rattle.std.proofs.Common.{◌≡◌, true, false, Some, slice_get, arith, sym, ◌∙◌, subst}
+use Rattle.std.proofs.Common.{◌≡◌, true, false, Some, None, slice_get, arith, ap, sym, ◌∙◌, subst}
+use Rattle.std.proofs.lemmas.Option.{none-some, same_Some}
+use Rattle.h2_ref.specs.declared.reference.Ref.{Ref}
 use Rattle.h2_set.specs.Ranges.{is_indirect}
-use Rattle.h2_set.specs.Forest.{refs}
+use Rattle.h2_set.specs.Forest.{refs, nowhere, here}
 use Rattle.h2_set.specs.StayLaws.{Walks-trans}
 use Rattle.h2_set.specs.LeafLaws.{find_none, find_here, leaves_rising}
 use Rattle.h2_tree.proofs.Answering.{always_err, beside_on}
 use Rattle.h2_tree.proofs.Climb.{reaches_loaded}
+use Rattle.h2_tree.proofs.Touching.{Touched-refl, Touched-trans, touched_load}
 use Rattle.h2_tree.specs.Changes.{TakesOut, itself}
 use Rattle.h2_tree.specs.declared.removing.Taken.TheVariants.{Nothing, Out, Sole}
 use Rattle.h2_tree.proofs.Taking.{under_refl, at_key_none, at_key_other}
@@ -18,6 +21,8 @@ returns-in_default-clause-taken g t c = (
   λ l hl.
       let node = c.requires.sound.node c.args.at.0 c.requires.stands in
       at_key_none c.args.key _ _ l (leaves_rising hl _ _ node.inside) (find_none c.args.key hl (rw c.get-set.ensures at c.in_default.ensures.absent)),
+  Touched-refl _ _ _,
+  record { found = None; path = nowhere (rw c.get-set.ensures at c.in_default.ensures.absent); other = λ r e is. none-some r e },
 )
 
 pub returns-then-found-key-clause-taken : goal.returns-then-found-key-clause-taken
@@ -30,6 +35,12 @@ returns-then-found-key-clause-taken g t c =
       λ l hl.
           let node = c.requires.sound.node c.args.at.0 c.requires.stands in
           at_key_other c.args.key _ _ l c.at.result.now (leaves_rising hl _ _ node.inside) (find_here c.args.key _ _ c.in-Some.i c.at.result.now hl node.inside read in_r leaf) (omega (arith, c.if-found-key.true)),
+      Touched-refl _ _ _,
+      record {
+        found = Some c.at.result.now;
+        path = here c.in-Some.i read in_r leaf;
+        other = λ r e is. let same : c.at.result.now.key ≡ r.key = ap (λ (x : Ref). x.key) (same_Some c.at.result.now r e) in omega (arith, c.if-found-key.true, same, is);
+      },
     )
 
 pub cut_unless_sole-requires-clause-only : goal.cut_unless_sole-requires-clause-only
@@ -47,6 +58,30 @@ returns-in_err-child-clause-unloaded g t c =
     let in_r = c.in-Some.ensures.found.holds _ c.at.ensures in
     let ind : is_indirect c.at.result.now ≡ true = sym c.is_indirect.ensures ∙ c.if-not-is_indirect.false in
     always_err c.from_residual.result (λ o reached. reaches_loaded f c.args.key c.args.at.0 c.in-Some.i c.at.result.now o c.requires.sound c.requires.stands read in_r ind c.in_err-child.ensures.unloaded reached)
+
+pub returns-in_err-child-clause-touched : goal.returns-in_err-child-clause-touched
+returns-in_err-child-clause-touched g t c =
+    let f = g.N.Sets.forest c.args.n.now in
+    let read : slice_get (refs f c.args.at.0) c.in-Some.i ≡ Some c.at.result.now = rw c.get-set.ensures at c.at.ensures in
+    let in_r = c.in-Some.ensures.found.holds _ c.at.ensures in
+    let ind : is_indirect c.at.result.now ≡ true = sym c.is_indirect.ensures ∙ c.if-not-is_indirect.false in
+    let child = c.in_err-child.ensures in
+    always_err c.from_residual.result (touched_load _ _ c.args.at.0 c.in-Some.i c.at.result.now _ _ c.requires.stands read ind in_r child.walks (child.loads _ read))
+
+pub returns-in_err-leaf-clause-touched : goal.returns-in_err-leaf-clause-touched
+returns-in_err-leaf-clause-touched g t c =
+    let f = g.N.Sets.forest c.args.n.now in
+    let read : slice_get (refs f c.args.at.0) c.in-Some.i ≡ Some c.at.result.now = rw c.get-set.ensures at c.at.ensures in
+    let in_r = c.in-Some.ensures.found.holds _ c.at.ensures in
+    let ind : is_indirect c.at.result.now ≡ true = sym c.is_indirect.ensures ∙ c.if-not-is_indirect.false in
+    let child = c.in_ok-child.ensures in
+    always_err c.from_residual-in_err-leaf.result (Touched-trans _ _ _ _ _ c.in_err-leaf.ensures.walks (touched_load _ _ c.args.at.0 c.in-Some.i c.at.result.now _ _ c.requires.stands read ind in_r child.walks (child.loads _ read)) c.in_err-leaf.ensures.touched)
+
+pub returns-in-Sole-clause-later : goal.returns-in-Sole-clause-later
+returns-in-Sole-clause-later g t c = g.met.N.Sets.later_later _ _ _ (g.met.N.Sets.later_later _ _ _ c.in_ok-child.ensures.later c.in_ok-leaf.ensures.later) c.cut_unless_sole-in-Sole.ensures.later
+
+pub returns-in-Out-clause-later : goal.returns-in-Out-clause-later
+returns-in-Out-clause-later g t c = g.met.N.Sets.later_later _ _ _ c.in_ok-child.ensures.later c.in_ok-leaf.ensures.later
 
 pub take-requires : goal.take-requires
 take-requires g t c κs within =
@@ -79,7 +114,7 @@ cut_unless_sole-requires-in-Sole-clause-only g t c =
     let in_r = c.in-Some.ensures.found.holds _ c.at.ensures in
     let ind : is_indirect c.at.result.now ≡ true = sym c.is_indirect.ensures ∙ c.if-not-is_indirect.false in
     let child = c.in_ok-child.ensures in
-    let taken : TakesOut (g.N.Sets.forest c.child.new.self) (g.N.Sets.forest c.take.new.n) c.in_ok-child.child.0 c.args.key (Sole c.in-Sole.leaf) = subst (λ t. TakesOut (g.N.Sets.forest c.child.new.self) (g.N.Sets.forest c.take.new.n) c.in_ok-child.child.0 c.args.key t) c.in-Sole.is c.in_ok-leaf.ensures.taken in
+    let taken : TakesOut (g.N.Sets.forest c.load_child.new.n) (g.N.Sets.forest c.take.new.n) c.in_ok-child.child.0 c.args.key (Sole c.in-Sole.leaf) = subst (λ t. TakesOut (g.N.Sets.forest c.load_child.new.n) (g.N.Sets.forest c.take.new.n) c.in_ok-child.child.0 c.args.key t) c.in-Sole.is c.in_ok-leaf.ensures.taken in
     only_sole _ _ _ _ _ c.args.key c.at.result.now c.requires.sound c.requires.stands read ind in_r child.walks (child.loads _ read) (child.ok _ read) _ c.in-Sole.leaf taken
 
 pub cut_unless_sole-requires-in-Sole-clause-free : goal.cut_unless_sole-requires-in-Sole-clause-free
@@ -89,7 +124,7 @@ cut_unless_sole-requires-in-Sole-clause-free g t c =
     let in_r = c.in-Some.ensures.found.holds _ c.at.ensures in
     let ind : is_indirect c.at.result.now ≡ true = sym c.is_indirect.ensures ∙ c.if-not-is_indirect.false in
     let child = c.in_ok-child.ensures in
-    let taken : TakesOut (g.N.Sets.forest c.child.new.self) (g.N.Sets.forest c.take.new.n) c.in_ok-child.child.0 c.args.key (Sole c.in-Sole.leaf) = subst (λ t. TakesOut (g.N.Sets.forest c.child.new.self) (g.N.Sets.forest c.take.new.n) c.in_ok-child.child.0 c.args.key t) c.in-Sole.is c.in_ok-leaf.ensures.taken in
+    let taken : TakesOut (g.N.Sets.forest c.load_child.new.n) (g.N.Sets.forest c.take.new.n) c.in_ok-child.child.0 c.args.key (Sole c.in-Sole.leaf) = subst (λ t. TakesOut (g.N.Sets.forest c.load_child.new.n) (g.N.Sets.forest c.take.new.n) c.in_ok-child.child.0 c.args.key t) c.in-Sole.is c.in_ok-leaf.ensures.taken in
     free_sole _ _ _ _ _ c.args.key c.at.result.now c.requires.sound c.requires.stands read ind in_r child.walks (child.loads _ read) (child.ok _ read) _ c.in-Sole.leaf taken c.requires.free
 
 pub cut_unless_sole-requires-in-Sole-clause-room : goal.cut_unless_sole-requires-in-Sole-clause-room
@@ -99,7 +134,7 @@ cut_unless_sole-requires-in-Sole-clause-room g t c =
     let in_r = c.in-Some.ensures.found.holds _ c.at.ensures in
     let ind : is_indirect c.at.result.now ≡ true = sym c.is_indirect.ensures ∙ c.if-not-is_indirect.false in
     let child = c.in_ok-child.ensures in
-    let taken : TakesOut (g.N.Sets.forest c.child.new.self) (g.N.Sets.forest c.take.new.n) c.in_ok-child.child.0 c.args.key (Sole c.in-Sole.leaf) = subst (λ t. TakesOut (g.N.Sets.forest c.child.new.self) (g.N.Sets.forest c.take.new.n) c.in_ok-child.child.0 c.args.key t) c.in-Sole.is c.in_ok-leaf.ensures.taken in
+    let taken : TakesOut (g.N.Sets.forest c.load_child.new.n) (g.N.Sets.forest c.take.new.n) c.in_ok-child.child.0 c.args.key (Sole c.in-Sole.leaf) = subst (λ t. TakesOut (g.N.Sets.forest c.load_child.new.n) (g.N.Sets.forest c.take.new.n) c.in_ok-child.child.0 c.args.key t) c.in-Sole.is c.in_ok-leaf.ensures.taken in
     room_sole _ _ _ _ _ c.args.key c.at.result.now c.requires.sound c.requires.stands read ind in_r child.walks (child.loads _ read) (child.ok _ read) _ c.in-Sole.leaf taken c.requires.room
 
 pub cut_unless_sole-requires-in-Sole-clause-stands : goal.cut_unless_sole-requires-in-Sole-clause-stands
@@ -109,7 +144,7 @@ cut_unless_sole-requires-in-Sole-clause-stands g t c =
     let in_r = c.in-Some.ensures.found.holds _ c.at.ensures in
     let ind : is_indirect c.at.result.now ≡ true = sym c.is_indirect.ensures ∙ c.if-not-is_indirect.false in
     let child = c.in_ok-child.ensures in
-    let taken : TakesOut (g.N.Sets.forest c.child.new.self) (g.N.Sets.forest c.take.new.n) c.in_ok-child.child.0 c.args.key (Sole c.in-Sole.leaf) = subst (λ t. TakesOut (g.N.Sets.forest c.child.new.self) (g.N.Sets.forest c.take.new.n) c.in_ok-child.child.0 c.args.key t) c.in-Sole.is c.in_ok-leaf.ensures.taken in
+    let taken : TakesOut (g.N.Sets.forest c.load_child.new.n) (g.N.Sets.forest c.take.new.n) c.in_ok-child.child.0 c.args.key (Sole c.in-Sole.leaf) = subst (λ t. TakesOut (g.N.Sets.forest c.load_child.new.n) (g.N.Sets.forest c.take.new.n) c.in_ok-child.child.0 c.args.key t) c.in-Sole.is c.in_ok-leaf.ensures.taken in
     ((under_sole _ _ _ _ _ c.args.key c.at.result.now c.requires.sound c.requires.stands read ind in_r child.walks (child.loads _ read) (child.ok _ read) _ c.in-Sole.leaf taken).walks.stays c.args.at.0 c.requires.stands).place.stands
 
 pub cut_unless_sole-requires-in-Sole-clause-sound : goal.cut_unless_sole-requires-in-Sole-clause-sound
@@ -119,7 +154,7 @@ cut_unless_sole-requires-in-Sole-clause-sound g t c =
     let in_r = c.in-Some.ensures.found.holds _ c.at.ensures in
     let ind : is_indirect c.at.result.now ≡ true = sym c.is_indirect.ensures ∙ c.if-not-is_indirect.false in
     let child = c.in_ok-child.ensures in
-    let taken : TakesOut (g.N.Sets.forest c.child.new.self) (g.N.Sets.forest c.take.new.n) c.in_ok-child.child.0 c.args.key (Sole c.in-Sole.leaf) = subst (λ t. TakesOut (g.N.Sets.forest c.child.new.self) (g.N.Sets.forest c.take.new.n) c.in_ok-child.child.0 c.args.key t) c.in-Sole.is c.in_ok-leaf.ensures.taken in
+    let taken : TakesOut (g.N.Sets.forest c.load_child.new.n) (g.N.Sets.forest c.take.new.n) c.in_ok-child.child.0 c.args.key (Sole c.in-Sole.leaf) = subst (λ t. TakesOut (g.N.Sets.forest c.load_child.new.n) (g.N.Sets.forest c.take.new.n) c.in_ok-child.child.0 c.args.key t) c.in-Sole.is c.in_ok-leaf.ensures.taken in
     taken.0.walks.sound
 
 pub returns-in-Sole-clause-taken : goal.returns-in-Sole-clause-taken
@@ -129,7 +164,7 @@ returns-in-Sole-clause-taken g t c =
     let in_r = c.in-Some.ensures.found.holds _ c.at.ensures in
     let ind : is_indirect c.at.result.now ≡ true = sym c.is_indirect.ensures ∙ c.if-not-is_indirect.false in
     let child = c.in_ok-child.ensures in
-    let taken : TakesOut (g.N.Sets.forest c.child.new.self) (g.N.Sets.forest c.take.new.n) c.in_ok-child.child.0 c.args.key (Sole c.in-Sole.leaf) = subst (λ t. TakesOut (g.N.Sets.forest c.child.new.self) (g.N.Sets.forest c.take.new.n) c.in_ok-child.child.0 c.args.key t) c.in-Sole.is c.in_ok-leaf.ensures.taken in
+    let taken : TakesOut (g.N.Sets.forest c.load_child.new.n) (g.N.Sets.forest c.take.new.n) c.in_ok-child.child.0 c.args.key (Sole c.in-Sole.leaf) = subst (λ t. TakesOut (g.N.Sets.forest c.load_child.new.n) (g.N.Sets.forest c.take.new.n) c.in_ok-child.child.0 c.args.key t) c.in-Sole.is c.in_ok-leaf.ensures.taken in
     taken_sole _ _ _ _ _ c.args.key c.at.result.now c.requires.sound c.requires.stands read ind in_r child.walks (child.loads _ read) (child.ok _ read) _ _ c.in-Sole.leaf _ taken c.cut_unless_sole-in-Sole.ensures.taken
 
 pub returns-in-Out-clause-taken : goal.returns-in-Out-clause-taken
@@ -139,7 +174,7 @@ returns-in-Out-clause-taken g t c =
     let in_r = c.in-Some.ensures.found.holds _ c.at.ensures in
     let ind : is_indirect c.at.result.now ≡ true = sym c.is_indirect.ensures ∙ c.if-not-is_indirect.false in
     let child = c.in_ok-child.ensures in
-    let taken : TakesOut (g.N.Sets.forest c.child.new.self) (g.N.Sets.forest c.take.new.n) c.in_ok-child.child.0 c.args.key (Out c.in-Out.leaf) = subst (λ t. TakesOut (g.N.Sets.forest c.child.new.self) (g.N.Sets.forest c.take.new.n) c.in_ok-child.child.0 c.args.key t) c.in-Out.is c.in_ok-leaf.ensures.taken in
+    let taken : TakesOut (g.N.Sets.forest c.load_child.new.n) (g.N.Sets.forest c.take.new.n) c.in_ok-child.child.0 c.args.key (Out c.in-Out.leaf) = subst (λ t. TakesOut (g.N.Sets.forest c.load_child.new.n) (g.N.Sets.forest c.take.new.n) c.in_ok-child.child.0 c.args.key t) c.in-Out.is c.in_ok-leaf.ensures.taken in
     out_below _ _ _ _ _ c.args.key c.at.result.now c.requires.sound c.requires.stands read ind in_r child.walks (child.loads _ read) (child.ok _ read) _ c.in-Out.leaf taken
 
 pub returns-in-Nothing-clause-taken : goal.returns-in-Nothing-clause-taken
@@ -149,7 +184,7 @@ returns-in-Nothing-clause-taken g t c =
     let in_r = c.in-Some.ensures.found.holds _ c.at.ensures in
     let ind : is_indirect c.at.result.now ≡ true = sym c.is_indirect.ensures ∙ c.if-not-is_indirect.false in
     let child = c.in_ok-child.ensures in
-    let taken : TakesOut (g.N.Sets.forest c.child.new.self) (g.N.Sets.forest c.take.new.n) c.in_ok-child.child.0 c.args.key (Nothing) = subst (λ t. TakesOut (g.N.Sets.forest c.child.new.self) (g.N.Sets.forest c.take.new.n) c.in_ok-child.child.0 c.args.key t) c.in-Nothing.is c.in_ok-leaf.ensures.taken in
+    let taken : TakesOut (g.N.Sets.forest c.load_child.new.n) (g.N.Sets.forest c.take.new.n) c.in_ok-child.child.0 c.args.key (Nothing) = subst (λ t. TakesOut (g.N.Sets.forest c.load_child.new.n) (g.N.Sets.forest c.take.new.n) c.in_ok-child.child.0 c.args.key t) c.in-Nothing.is c.in_ok-leaf.ensures.taken in
     nothing_below _ _ _ _ _ c.args.key c.at.result.now c.requires.sound c.requires.stands read ind in_r child.walks (child.loads _ read) (child.ok _ read) _ taken
 
 pub returns-in_err-leaf-clause-beside : goal.returns-in_err-leaf-clause-beside
@@ -171,7 +206,7 @@ returns-in-Sole-clause-beside g t c =
     let in_r = c.in-Some.ensures.found.holds _ c.at.ensures in
     let ind : is_indirect c.at.result.now ≡ true = sym c.is_indirect.ensures ∙ c.if-not-is_indirect.false in
     let child = c.in_ok-child.ensures in
-    let taken : TakesOut (g.N.Sets.forest c.child.new.self) (g.N.Sets.forest c.take.new.n) c.in_ok-child.child.0 c.args.key (Sole c.in-Sole.leaf) = subst (λ t. TakesOut (g.N.Sets.forest c.child.new.self) (g.N.Sets.forest c.take.new.n) c.in_ok-child.child.0 c.args.key t) c.in-Sole.is c.in_ok-leaf.ensures.taken in
+    let taken : TakesOut (g.N.Sets.forest c.load_child.new.n) (g.N.Sets.forest c.take.new.n) c.in_ok-child.child.0 c.args.key (Sole c.in-Sole.leaf) = subst (λ t. TakesOut (g.N.Sets.forest c.load_child.new.n) (g.N.Sets.forest c.take.new.n) c.in_ok-child.child.0 c.args.key t) c.in-Sole.is c.in_ok-leaf.ensures.taken in
     let first = beside_on _ _ _ _ _ _ (λ m st. (c.in_ok-child.ensures.walks.stays m st).place.stands) c.in_ok-child.ensures.beside c.in_ok-leaf.ensures.beside in
     let whole = (under_sole _ _ _ _ _ c.args.key c.at.result.now c.requires.sound c.requires.stands read ind in_r child.walks (child.loads _ read) (child.ok _ read) _ c.in-Sole.leaf taken).walks in
     beside_on _ _ _ _ _ _ (λ m st. (whole.stays m st).place.stands) first c.cut_unless_sole-in-Sole.ensures.beside

@@ -1,7 +1,7 @@
-use Rattle.std.proofs.Common.{inl, arith, ◌∙◌, subst}
+use Rattle.std.proofs.Common.{inl, arith, sym, ◌∙◌, subst}
 use Rattle.h2_tree.specs.Changes.{TakesOut}
-use Rattle.h2_tree.specs.declared.removing.Taken.TheVariants.{Out, Sole}
-use Rattle.h2_tree.proofs.Answering.{beside_on}
+use Rattle.h2_tree.specs.declared.removing.Taken.TheVariants.{Nothing, Out, Sole}
+use Rattle.h2_tree.proofs.Answering.{always_err, beside_on}
 use Rattle.h2_tree.proofs.TakeBelow.{root_free, root_room, root_answer, root_removes}
 use Rattle.h2_tree.proofs.Leaving.{removes_paths, removes_path}
 use Rattle.h2_tree.proofs.removing.remove.Goals as goal
@@ -15,6 +15,24 @@ pub returns-in-Out-clause-path : goal.returns-in-Out-clause-path
 returns-in-Out-clause-path g c =
     let taken : TakesOut (g.N.Sets.forest c.args.n.now) (g.N.Sets.forest c.take.new.n) c.args.root.0 c.args.key (Out c.in-Out.leaf) = subst (λ t. TakesOut (g.N.Sets.forest c.args.n.now) (g.N.Sets.forest c.take.new.n) c.args.root.0 c.args.key t) c.in-Out.is c.in_ok-take.ensures.taken in
     removes_path _ _ _ c.in-Out.leaf c.requires.stands taken.0
+
+pub returns-in_err-take-clause-touched : goal.returns-in_err-take-clause-touched
+returns-in_err-take-clause-touched g c = always_err c.from_residual.result c.in_err-take.ensures.touched
+
+pub returns-in-Nothing-clause-none : goal.returns-in-Nothing-clause-none
+returns-in-Nothing-clause-none g c =
+    let taken : TakesOut (g.N.Sets.forest c.args.n.now) (g.N.Sets.forest c.take.new.n) c.args.root.0 c.args.key Nothing = subst (λ t. TakesOut (g.N.Sets.forest c.args.n.now) (g.N.Sets.forest c.take.new.n) c.args.root.0 c.args.key t) c.in-Nothing.is c.in_ok-take.ensures.taken in
+    taken.3
+
+pub returns-in-Nothing-clause-off : goal.returns-in-Nothing-clause-off
+returns-in-Nothing-clause-off g c =
+    let taken : TakesOut (g.N.Sets.forest c.args.n.now) (g.N.Sets.forest c.take.new.n) c.args.root.0 c.args.key Nothing = subst (λ t. TakesOut (g.N.Sets.forest c.args.n.now) (g.N.Sets.forest c.take.new.n) c.args.root.0 c.args.key t) c.in-Nothing.is c.in_ok-take.ensures.taken in
+    taken.2
+
+pub returns-in-Out-clause-answer : goal.returns-in-Out-clause-answer
+returns-in-Out-clause-answer g c =
+    let taken : TakesOut (g.N.Sets.forest c.args.n.now) (g.N.Sets.forest c.take.new.n) c.args.root.0 c.args.key (Out c.in-Out.leaf) = subst (λ t. TakesOut (g.N.Sets.forest c.args.n.now) (g.N.Sets.forest c.take.new.n) c.args.root.0 c.args.key t) c.in-Out.is c.in_ok-take.ensures.taken in
+    λ l hl. sym (taken.2 l hl)
 
 pub take-requires-clause-room : goal.take-requires-clause-room
 take-requires-clause-room g c = let node = c.requires.sound.node c.args.root.0 c.requires.stands in (omega (arith, node.top c.requires.top), c.requires.room)

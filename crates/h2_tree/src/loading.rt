@@ -1,0 +1,29 @@
+ghost use Rattle.std.specs.Prelude.{◌≡◌, ℕ, true, Some, slice_get, IfOk, IfErr, OnErr};
+ghost use Rattle.h2_ref.specs.declared.reference.Ref.{Ref};
+ghost use Rattle.h2_set.specs.Forest.{refs, loaded, IsSound, IsIndirectAt, Walks, Loads, Unchanged, HasCause, KeepsBeside};
+
+use h2_ref::Trouble;
+use h2_set::{NodeId, Sets};
+use std::alloc::Global;
+
+// Loads the node that one reference leads to, and no other.
+pub(crate) fn load_child<N: Sets>(
+    alloc: Global,
+    n: &mut N,
+    at: NodeId,
+    i: usize,
+) -> Result<NodeId, Trouble>
+    requires sound { IsSound (N.forest n.old) }
+    requires stands { let f = N.forest n.old in f.stands at.0 ≡ true }
+    requires indirect { IsIndirectAt (refs (N.forest n.old) at.0) i }
+    ensures walks { Walks (N.forest n.old) (N.forest n.new) }
+    ensures ok { let g = N.forest n.new in IfOk result (λ c. (r : Ref) → slice_get (refs (N.forest n.old) at.0) i ≡ Some r → g.link at.0 r.key ≡ loaded c.0) }
+    ensures loads { (r : Ref) → slice_get (refs (N.forest n.old) at.0) i ≡ Some r → Loads (N.forest n.old) (N.forest n.new) at.0 r.key }
+    ensures same { OnErr result (Unchanged (N.forest n.old) (N.forest n.new)) }
+    ensures err { IfErr result (HasCause (N.forest n.old) (N.forest n.new)) }
+    ensures unloaded { let f = N.forest n.old in OnErr result ((r : Ref) (c : ℕ) → slice_get (refs f at.0) i ≡ Some r → f.link at.0 r.key ≡ loaded c → ⊥) }
+    ensures beside { KeepsBeside (N.forest n.old) (N.forest n.new) (N.beside n.old) (N.beside n.new) }
+    ensures later { N.later n.old n.new }
+{
+    n.child(alloc, at, i)
+}
