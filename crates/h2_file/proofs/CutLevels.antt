@@ -267,3 +267,22 @@ under_refl f at sound = record { walks = Walks-refl f sound; keeps = λ m st out
 -- three changes, of which the first loses no node and the last makes none
 pub beside_over : {B : Type 0} (f h k g : Forest) (a b c d : ℕ → B) → ((m : ℕ) → f.stands m ≡ true → h.stands m ≡ true) → ((m : ℕ) → g.stands m ≡ true → k.stands m ≡ true) → KeepsBeside f h a b → KeepsBeside h k b c → KeepsBeside k g c d → KeepsBeside f g a d
 beside_over f h k g a b c d still none_new first second third = record { same = λ m st st'. let there = still m st in let was = none_new m st' in third.same m was st' ∙ (second.same m there was ∙ first.same m st there) }
+
+-- At a root, where nothing is below the size: all its references go
+
+pub root_cut : (f k g : Forest) (at size : ℕ) (last : Option Ref) → IsSound f → f.stands at ≡ true → f.root at ≡ at → WalksUnder f k at → LoadsTouched f k size size → ((l : List Ref) → LeavesOf f at l → cut_to size last l ≡ []) → KeepsFront k g at 0 None → Cuts f g at size last
+root_cut f k g at size last sound stands top under touched none keeps = cuts_front f k g at size 0 last None ready keeps (λ l hl. subst (λ z. HasLeaves k at (take 0 (refs k at)) z) (sym (none l hl)) done)
+  where
+    ready : Readied f k at size
+    ready = (let walks = under.walks in let copies = walks.copies at stands in let zero_is = (sound.node at stands).top top in let room = walks.room in record {
+      sound = walks.sound;
+      fixed = walks.fixed;
+      place = (walks.stays at stands).place;
+      tree = λ m st root out. under.keeps m st (λ root' u. out u);
+      above = λ m st root. Keeps-Renews f k m (under.keeps m st (λ root' u. root root'));
+      still = λ m st st'. (walks.stays m st).place;
+      touched = touched;
+      room = omega (arith, copies, zero_is, room);
+      room_falls = omega (arith, room);
+      spare = walks.spare;
+    })

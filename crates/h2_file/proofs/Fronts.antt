@@ -137,16 +137,19 @@ module _ (f h : Forest) (at count : ℕ) (last : Option Ref) (sound : IsSound f)
       let bits = is.keybits in
       let aligned : q.key % 2 ^ q.keybits ≡ 0 = rw (is.key, is.keybits) at old.aligned in
       let class : (q.key < 2 ^ 62) ⊎ (2 ^ 63 ≤ q.key) = rw is.key at old.class in
-      subst (λ (y : Ref). Fits h at y × (is_indirect y ≡ false)) it (record {
-        held = is.held;
-        aligned = aligned;
-        class = class;
-        leaf = λ _. sym bits ∙ old.leaf is.leaf_was;
-        allowed = λ _. holds_h.kinds_all q is.kind;
-        wide = λ ind. absurd (no ind);
-        some_bits = λ ind. absurd (no ind);
-        falls = λ ind. absurd (no ind);
-      }, leaf)
+      subst (λ (y : Ref). Fits h at y × (is_indirect y ≡ false)) it (
+        record {
+          held = is.held;
+          aligned = aligned;
+          class = class;
+          leaf = λ _. sym bits ∙ old.leaf is.leaf_was;
+          allowed = λ _. holds_h.kinds_all q is.kind;
+          wide = λ ind. absurd (no ind);
+          some_bits = λ ind. absurd (no ind);
+          falls = λ ind. absurd (no ind);
+        },
+        leaf,
+      )
 
   pub storable : (f.root at ≡ at) ⊎ ((0 < count) × (0 < length (refs f at))) → Storable h at s
   storable some = record {
@@ -202,14 +205,14 @@ module _ (f h : Forest) (at count : ℕ) (last : Option Ref) (sound : IsSound f)
         let apart : (m : ℕ) → Q m → GoesBelow h m at s → ⊥ = λ m p goes.
         let pos = pow_pos (h.bits m) in
         let held = holds_inside (h.low m) goes.loses.lost goes.loses.held in
-        let is : goes.loses.lost.key ≡ r.key = elim (same_or_not goes.loses.place old.0) as (λ _. goes.loses.lost.key ≡ r.key) [
-          | inl e ↦ let there : slice_get (refs h at) old.0 ≡ Some goes.loses.lost = subst (λ z. slice_get (refs h at) z ≡ Some goes.loses.lost) e goes.loses.was in let one : goes.loses.lost ≡ r = (let b = old.1 in cc) in ap (λ (y : Ref). y.key) one
-          | inr ne ↦ elim (apart_places _ _ (refs h at) old.0 goes.loses.place r goes.loses.lost node.inside old.1 goes.loses.was ne) as (λ _. goes.loses.lost.key ≡ r.key) [
+        let is : goes.loses.lost ≡ r = elim (same_or_not goes.loses.place old.0) as (λ _. goes.loses.lost ≡ r) [
+          | inl e ↦ let there : slice_get (refs h at) old.0 ≡ Some goes.loses.lost = subst (λ z. slice_get (refs h at) z ≡ Some goes.loses.lost) e goes.loses.was in let b = old.1 in cc
+          | inr ne ↦ elim (apart_places _ _ (refs h at) old.0 goes.loses.place r goes.loses.lost node.inside old.1 goes.loses.was ne) as (λ _. goes.loses.lost ≡ r) [
             | inl lower ↦ absurd (omega (arith, lower, held.1, p.2))
             | inr upper ↦ absurd (omega (arith, upper, held.0, p.3, pos))
           ]
         ] in
-        goes.loses.lacks i r read (sym is) in
+        goes.loses.lacks i r read (ap (λ (y : Ref). y.key) (sym is)) (ap (λ (y : Ref). is_indirect y) (sym is)) in
         let stay : (m : ℕ) → Q m → Stays h g m = λ m p. Keeps-Stays h g m (others m p.0 (λ e. let same_bits = ap h.bits e in omega (arith, p.4, same_bits)) (apart m p)) in
         let start : Q d = (kid.stands, kid.root, omega (arith, kid.low), omega (arith, kid.low, ap (λ z. 2 ^ z) bits_d), kid.fewer) in
         leaves_stay h g Q closed stay start hl (refs g d) (stay d start).alike

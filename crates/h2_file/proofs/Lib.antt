@@ -3,3 +3,4 @@ mod Parts
 mod Fronts
 mod CutLevels
 mod CutChild
+mod Sized

@@ -86,3 +86,25 @@ pub record Cuts (f g : Forest) (at size : ℕ) (last : Option Ref) : Type 0 wher
 abbrev pub Remains : Forest → Forest → ℕ → ℕ → Option Ref → Left → Type 0
 Remains f g at size last Nothing = WalksUnder f g at × LoadsTouched f g size size × ((l : List Ref) → LeavesOf f at l → cut_to size last l ≡ [])
 Remains f g at size last Something = Cuts f g at size last
+
+-- The references at or past the size are out of the file's list, and the last one is in it in place of the one with its
+-- key. What stands before and after stands where it stood; in other trees references to what changed name other blocks.
+pub record CutsFile (f g : Forest) (at size : ℕ) (last : Option Ref) : Type 0 where
+  pub sound : IsSound g
+  pub leaves : (l : List Ref) → LeavesOf f at l → LeavesOf g at (cut_to size last l)
+  pub place : InPlace f g at
+  pub others : (m : ℕ) → f.stands m ≡ true → (f.root m ≡ at → ⊥) → Renews f g m
+  pub still : (m : ℕ) → f.stands m ≡ true → g.stands m ≡ true → InPlace f g m
+  -- no node off the path of the size was loaded
+  pub touched : LoadsTouched f g size size
+  pub leaf_bits : (m : ℕ) → g.stands m ≡ true → g.leaf_bits m ≡ f.leaf_bits m
+  pub allows : (m : ℕ) (r : Ref) → g.stands m ≡ true → g.allows m r ≡ f.allows m r
+  pub held : (m : ℕ) → g.held m ≡ f.held m
+  pub name : (r : Ref) → g.name r ≡ f.name r
+  pub epoch : g.epoch ≡ f.epoch
+  pub failed : f.failed ≤ g.failed
+  pub bad : f.bad ≤ g.bad
+  pub writable : g.writable at ≡ true
+  pub room : f.room ≤ g.room + 62
+  pub room_falls : g.room ≤ f.room
+  pub spare : g.spare ≡ f.spare

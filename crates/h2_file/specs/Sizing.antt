@@ -1,8 +1,8 @@
 -- What giving a file another size does.
-use Rattle.std.specs.Prelude.{◌≡◌, ℕ, true, List, Option, slice_get}
+use Rattle.std.specs.Prelude.{◌≡◌, ℕ, true, Option}
 use Rattle.h2_ref.specs.declared.reference.Ref.{Ref}
 use Rattle.h2_set.specs.RefSet.{RefSet}
-use Rattle.h2_set.specs.Forest.{Forest, KeepsLeaves, IsSound, Fixed, InPlace, Same, Reaches}
+use Rattle.h2_set.specs.Forest.{Forest, KeepsLeaves, IsSound, InPlace, Same, Reaches}
 use Rattle.h2_inode.specs.declared.inode.Body.TheVariants.{Refs}
 use Rattle.h2_inode.specs.declared.inode.Inode.{Inode}
 use Rattle.h2_inode.specs.Nodes.{Fields, HasInode}
@@ -11,7 +11,7 @@ use Rattle.h2_inode.specs.Nodes.{Fields, HasInode}
 pub record IsResized (old new : Inode) (size : ℕ) (set : RefSet) : Type 0 where
   pub kind : new.kind ≡ old.kind
   pub number : new.number ≡ old.number
-  pub size : new.size ≡ size
+  pub size_is : new.size ≡ size
   pub links : new.links ≡ old.links
   pub next : new.next ≡ old.next
   pub name : new.name ≡ old.name
@@ -26,7 +26,13 @@ pub record HasResized (g : Forest) (holds : ℕ → Option Fields) (at : ℕ) (o
 -- the inode of root at was given another size, and no set changed
 pub record Sizes (f g : Forest) (at : ℕ) : Type 0 where
   pub sound : IsSound g
-  pub fixed : Fixed f g
+  pub leaf_bits : (m : ℕ) → f.stands m ≡ true → g.leaf_bits m ≡ f.leaf_bits m
+  pub allows : (m : ℕ) (r : Ref) → f.stands m ≡ true → g.allows m r ≡ f.allows m r
+  pub held : (m : ℕ) → g.held m ≡ f.held m
+  pub name : (r : Ref) → g.name r ≡ f.name r
+  pub epoch : g.epoch ≡ f.epoch
+  pub failed : g.failed ≡ f.failed
+  pub bad : g.bad ≡ f.bad
   pub place : InPlace f g at
   pub set : g.set at ≡ f.set at
   pub copies : g.copies at ≡ f.copies at

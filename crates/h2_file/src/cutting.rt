@@ -8,7 +8,7 @@ ghost use Rattle.h2_tree.specs.Changes.{LoadsTouched, PathUnloaded, WalksUnder};
 ghost use Rattle.h2_inode.specs.Nodes.{held_by, KeepsOthersBeside};
 ghost use Rattle.h2_file.specs.Blocks.{IsFileOfRefs, HasContents};
 ghost use Rattle.h2_file.specs.Sizing.{HasResized};
-ghost use Rattle.h2_file.specs.Cutting.{IsCutBlock, cut_to, front, FitsLast, KeepsFront, Cuts, Remains};
+ghost use Rattle.h2_file.specs.Cutting.{IsCutBlock, cut_to, front, FitsLast, KeepsFront, Cuts, CutsFile, Remains};
 ghost use Rattle.h2_file.specs.declared.cutting.Left.{Left};
 
 use crate::sizing::set_size;
@@ -175,7 +175,7 @@ pub fn cut_blocks<N: Nodes>(
     requires file { IsFileOfRefs (N.forest n.old) (held_by N.fields (N.beside n.old)) inode.0 }
     requires room { let f = N.forest n.old in 62 ≤ f.room }
     requires last { IfSome last (IsCutBlock size) }
-    ensures cuts { OnOk result (Cuts (N.forest n.old) (N.forest n.new) inode.0 size last) }
+    ensures cuts { OnOk result (CutsFile (N.forest n.old) (N.forest n.new) inode.0 size last) }
     ensures inode { OnOk result ((file : IsFileOfRefs (N.forest n.old) (held_by N.fields (N.beside n.old)) inode.0) → HasResized (N.forest n.new) (held_by N.fields (N.beside n.new)) inode.0 file.inode size) }
     ensures walks { OnErr result (Walks (N.forest n.old) (N.forest n.new)) }
     ensures err { IfErr result (HasCause (N.forest n.old) (N.forest n.new)) }

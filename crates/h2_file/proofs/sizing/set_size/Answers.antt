@@ -1,0 +1,12 @@
+use Rattle.std.proofs.Common.{◌≡◌, ◌∙◌, sym}
+use Rattle.h2_file.proofs.Sized.{old_kind, replaceable, sizes, has_resized}
+use Rattle.h2_file.proofs.sizing.set_size.Goals as goal
+
+pub set_inode-requires-clause-replaceable : goal.set_inode-requires-clause-replaceable
+set_inode-requires-clause-replaceable g c = replaceable _ _ _ c.args.size c.requires.sound c.requires.file _ _ c.inode.ensures _ (c.copy-set.ensures.same ∙ c.get.ensures) c.resized-inode.ensures
+
+pub returns-clause-sizes : goal.returns-clause-sizes
+returns-clause-sizes g c = sizes _ _ _ c.args.size c.requires.sound c.requires.file _ _ c.inode.ensures _ (c.copy-set.ensures.same ∙ c.get.ensures) c.resized-inode.ensures _ _ c.set_inode.ensures.replaces c.set_inode.ensures.inode
+
+pub returns-clause-inode : goal.returns-clause-inode
+returns-clause-inode g c = λ file. has_resized _ _ _ c.args.size c.requires.sound file _ _ c.inode.ensures _ (c.copy-set.ensures.same ∙ c.get.ensures) c.resized-inode.ensures _ _ c.set_inode.ensures.replaces c.set_inode.ensures.inode
