@@ -1,5 +1,5 @@
 -- What a cut below a node is to the node.
-use Rattle.std.proofs.Common.{◌≡◌, ℕ, ◌+◌, ◌-◌, ◌<◌, ◌≤◌, ◌^◌, true, false, arith, refl, sym, ◌∙◌, ap, List, [], ◌∷◌, ◌++◌, length, Option, Some, None, subst, ◌⊎◌, inl, inr, slice_get, take, suc, zero}
+use Rattle.std.proofs.Common.{◌≡◌, ℕ, ◌+◌, ◌-◌, ◌<◌, ◌≤◌, ◌^◌, Bool, true, false, arith, refl, sym, ◌∙◌, ap, List, [], ◌∷◌, ◌++◌, length, Option, Some, None, subst, ◌⊎◌, inl, inr, slice_get, take, suc, zero}
 use Rattle.std.specs.Prelude.{IfSome}
 use Rattle.std.proofs.lemmas.Nat.{pow_pos, pow_below}
 use Rattle.std.proofs.lemmas.Option.{slice_get_within}
@@ -11,13 +11,13 @@ use Rattle.h2_set.specs.Forest.{Forest, refs, loaded, HasLeaves, done, near, Lea
 use Rattle.h2_set.specs.StayLaws.{Alike-refl, Fixed-trans, InPlace-trans, Walks-trans, Walks-leaves, Reaches-walks, leaves_stay, stands_below}
 use Rattle.h2_set.specs.LeafLaws.{holds_inside, leaves_rising}
 use Rattle.h2_set.specs.ChangeLaws.{Keeps-Stays, Keeps-trans, leaves_move, same_or_not, apart_places}
-use Rattle.h2_set.specs.RenewLaws.{Keeps-Renews, Renews-trans, Alike-length, like_at}
+use Rattle.h2_set.specs.RenewLaws.{Keeps-Renews, Renews-trans, Alike-length, LikeAt, like_at}
 use Rattle.h2_tree.specs.Changes.{Under, LoadsTouched, WalksUnder, PathUnloaded}
 use Rattle.h2_file.specs.Blocks.{HasContents}
-use Rattle.h2_file.specs.Cutting.{IsCutBlock, cut_to, front, KeepsFront, Cuts}
-use Rattle.h2_file.proofs.Parts.{cut_append, Parted, leaves_parted, leaves_join, take_from, take_next, in_order}
+use Rattle.h2_file.specs.Cutting.{IsCutBlock, cut_to, front, leads, Cuts}
+use Rattle.h2_file.proofs.Parts.{cut_append, Parted, leaves_parted, leaves_join, take_from, taken_at, take_next, in_order}
 use Rattle.h2_file.proofs.Fronts.{contents_keep}
-use Rattle.h2_file.proofs.CutLevels.{Touched-on, Readied, cuts_front, none_of, own_below, cut_parts}
+use Rattle.h2_file.proofs.CutLevels.{Touched-on, Readied, FrontLeft, nothing_left, none_before, none_upto, none_of, own_below, cut_parts}
 
 Alike-take : (n : ℕ) (rs qs : List Ref) → Alike rs qs → Alike (take n rs) (take n qs)
 Alike-take zero rs qs a = tt
@@ -269,6 +269,32 @@ module _ (f h : Forest) (at count size : ℕ) (last : Option Ref) (r : Ref) (sou
       let next : count ≡ suc (count - 1) = omega (arith, pos) in
       let refs_are : take count (refs k at) ≡ take (count - 1) (refs k at) ++ (q.ref ∷ []) = ap (λ n. take n (refs k at)) next ∙ take_next (refs k at) (count - 1) q.ref q.read in
       subst (λ z. HasLeaves k at z (F l)) (sym refs_are) (subst (λ z. HasLeaves k at (take (count - 1) (refs k at) ++ (q.ref ∷ [])) z) (sym now) all)
+
+  pub past_cut : (k : Forest) → Cuts h k c size last → (key : ℕ) → size ≤ key → FrontLeft k at (front count None (refs k at)) size last key
+  past_cut k cuts key le = by (holds key q.ref) refl
+    where
+      keeps : Keeps h k at
+      keeps = kept f h at (count - 1) size r sound stands read ind in_r walks loads c link k last cuts
+
+      q : LikeAt (refs k at) (count - 1) r
+      q = like_at (refs h at) (refs k at) keeps.alike (count - 1) r read_at_h
+
+      next : count ≡ suc (count - 1)
+      next = omega (arith, pos)
+
+      by : (b : Bool) → holds key q.ref ≡ b → FrontLeft k at (take count (refs k at)) size last key
+      by true e =
+          let it = cuts.past key le in
+          let link_q : k.link at q.ref.key ≡ loaded c = ap (λ z. k.link at z) q.like.key ∙ (keeps.link r.key ∙ link) in
+          record {
+            found = it.found;
+            path = leads {c = c} {r = q.ref} (count - 1) (taken_at count (refs k at) (count - 1) q.ref q.read (omega (arith, pos))) e (ap leads_on q.like.kind ∙ ind) link_q it.path;
+            left = it.left;
+          }
+      by false e = nothing_left k at (take count (refs k at)) size last key (none_upto _ _ (refs k at) (count - 1) count size key q.ref next (cuts.sound.node at keeps.place.stands).inside q.read (let same = q.like.key in omega (arith, same, low)) le e)
+
+  pub past_front : (k : Forest) → Walks h k → (key : ℕ) → size ≤ key → FrontLeft k at (front (count - 1) None (refs k at)) size last key
+  past_front k after key le = nothing_left k at (take (count - 1) (refs k at)) size last key (none_before _ _ (refs k at) (count - 1) size key r (after.sound.node at (after.stays at stands_h).place.stands).inside (ap (λ (s : RefSet). slice_get s.refs (count - 1)) (after.sets at stands_h) ∙ read_at_h) low le)
 
   module _ (none : (b : List Ref) → LeavesOf h c b → cut_to size last b ≡ []) where
     front_alone : (l : List Ref) (p : Parted h at (count - 1) (refs h at) r l) → cut_to size last l ≡ p.before

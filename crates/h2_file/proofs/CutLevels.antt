@@ -1,23 +1,20 @@
 -- A cut at a node, and what one below it is to the node.
-use Rattle.std.proofs.Common.{◌≡◌, ℕ, ◌+◌, ◌-◌, ◌%◌, ◌<◌, ◌≤◌, ◌^◌, true, false, arith, refl, sym, ◌∙◌, ap, List, [], ◌∷◌, ◌++◌, length, Option, Some, None, subst, ◌⊎◌, inl, inr, Result, Ok, Err, nat_eq, slice_get, slice_set, take, drop, suc, zero, Bool, if◌then◌else◌}
+use Rattle.std.proofs.Common.{◌≡◌, ℕ, ◌+◌, ◌-◌, ◌%◌, ◌<◌, ◌≤◌, ◌^◌, true, false, arith, refl, sym, ◌∙◌, ap, List, [], ◌∷◌, ◌++◌, length, Option, Some, None, subst, ◌⊎◌, inl, inr, Result, Ok, Err, nat_eq, slice_get, slice_set, take, drop, suc, zero, Bool}
 use Rattle.std.specs.Prelude.{IfSome, OnErr}
 use Rattle.std.proofs.lemmas.Bool.Decides.{nat_tests}
-use Rattle.std.proofs.lemmas.Nat.{pow_pos, pow_below}
-use Rattle.std.proofs.lemmas.Option.{none-some, slice_get_within}
+use Rattle.std.proofs.lemmas.Option.{none-some}
 use Rattle.std.proofs.lemmas.List.{append-nil}
 use Rattle.h2_ref.specs.declared.reference.Ref.{Ref}
-use Rattle.h2_set.specs.Ranges.{Rising, limit, holds, is_indirect, leads_on}
-use Rattle.h2_set.specs.RefSet.{RefSet}
-use Rattle.h2_set.specs.Forest.{Forest, refs, loaded, told, HasLeaves, done, one, near, far, LeavesOf, KeepsLeaves, Alike, Fits, IsChild, IsSoundNode, IsSound, InPlace, Stays, Keeps, Renews, Fixed, Walks, Loads, KeepsBeside, Reaches, nowhere, here, below}
-use Rattle.h2_set.specs.StayLaws.{Alike-refl, Fixed-refl, Fixed-trans, InPlace-refl, InPlace-trans, Walks-refl, Walks-trans, Walks-leaves, Reaches-walks, leaves_stay, stands_below}
-use Rattle.h2_set.specs.LeafLaws.{holds_inside, holds_outside, leaves_rising}
-use Rattle.h2_set.specs.ChangeLaws.{Keeps-Stays, Keeps-refl, Keeps-trans, leaves_move, same_or_not, apart_places}
-use Rattle.h2_set.specs.RenewLaws.{Keeps-Renews, Renews-trans, like_at}
-use Rattle.h2_tree.specs.Changes.{Under, LoadsTouched, WalksUnder, PathUnloaded}
+use Rattle.h2_set.specs.Ranges.{Rising, limit, holds, NoneHolds, is_indirect, leads_on}
+use Rattle.h2_set.specs.Forest.{Forest, refs, loaded, told, HasLeaves, done, one, near, far, LeavesOf, Fits, IsSoundNode, IsSound, InPlace, Keeps, Renews, Fixed, KeepsBeside}
+use Rattle.h2_set.specs.StayLaws.{Fixed-refl, Fixed-trans, InPlace-refl, InPlace-trans, Walks-refl}
+use Rattle.h2_set.specs.LeafLaws.{holds_inside, holds_outside, outside_holds}
+use Rattle.h2_set.specs.ChangeLaws.{Keeps-refl, Keeps-trans, same_or_not}
+use Rattle.h2_set.specs.RenewLaws.{Keeps-Renews, Renews-trans}
+use Rattle.h2_tree.specs.Changes.{Under, LoadsTouched, WalksUnder}
 use Rattle.h2_file.specs.Blocks.{HasContents}
-use Rattle.h2_file.specs.Cutting.{cut_block, IsCutBlock, in_place, cut_to, front, FitsLast, KeepsFront, Cuts}
+use Rattle.h2_file.specs.Cutting.{cut_block, IsCutBlock, in_place, cut_to, front, FitsLast, ReachesBy, misses, arrives, IsLeft, KeepsFront, Cuts}
 use Rattle.h2_file.proofs.Parts.{cut_append, cut_one, cut_key, end_block, Parted, leaves_parted, leaves_join, behind_gone, before_stays, take_from, drop_from, take_next, set_next, in_order}
-use Rattle.h2_file.proofs.Fronts.{contents_keep}
 
 pub always_err : {T E P : Type 0} (r : Result T E) → P → OnErr r P
 always_err (Ok o) p = tt
@@ -78,12 +75,47 @@ readied_here f at size sound stands copies = record {
   spare = refl;
 }
 
-pub cuts_front : (f k g : Forest) (at size count : ℕ) (last last' : Option Ref) → Readied f k at size → KeepsFront k g at count last' → ((l : List Ref) → LeavesOf f at l → HasLeaves k at (front count last' (refs k at)) (cut_to size last l)) → Cuts f g at size last
-cuts_front f k g at size count last last' mid keeps leaves = record {
+-- the path of a key through the first references of a node leads to what the cut leaves
+pub record FrontLeft (k : Forest) (at : ℕ) (rs : List Ref) (size : ℕ) (last : Option Ref) (key : ℕ) : Type 0 where
+  pub found : Option Ref
+  pub path : ReachesBy k key at rs found
+  pub left : IsLeft size last found
+
+pub nothing_left : (k : Forest) (at : ℕ) (rs : List Ref) (size : ℕ) (last : Option Ref) (key : ℕ) → NoneHolds key rs → FrontLeft k at rs size last key
+nothing_left k at rs size last key miss = record { found = None; path = misses miss; left = record { low = λ r e. absurd (none-some r e); put = λ r q e e'. absurd (none-some r e) } }
+
+-- no reference before one that is below the size holds a key past it
+pub none_before : (low high : ℕ) (rs : List Ref) (n size key : ℕ) (r : Ref) → Rising low high rs → slice_get rs n ≡ Some r → r.key < size → size ≤ key → NoneHolds key (take n rs)
+none_before low high rs n size key r rising read lt le i q read' =
+    let it = take_from n rs i q read' in
+    let order = in_order low high rs i n q r rising it.1 read it.0 in
+    outside_holds key q (inr (omega (arith, order, lt, le)))
+
+pub none_upto : (low high : ℕ) (rs : List Ref) (n count size key : ℕ) (r : Ref) → count ≡ suc n → Rising low high rs → slice_get rs n ≡ Some r → r.key < size → size ≤ key → holds key r ≡ false → NoneHolds key (take count rs)
+none_upto low high rs n count size key r next rising read lt le out i q read' =
+    let it = take_from count rs i q read' in
+    elim (same_or_not i n) as (λ _. holds key q ≡ false) [
+      | inl e ↦ let there : slice_get rs n ≡ Some q = subst (λ z. slice_get rs z ≡ Some q) e it.1 in let one : r ≡ q = (cc) in subst (λ (y : Ref). holds key y ≡ false) one out
+      | inr ne ↦ let order = in_order low high rs i n q r rising it.1 read (let b = it.0 in omega (arith, b, next, ne)) in outside_holds key q (inr (omega (arith, order, lt, le)))
+    ]
+
+at_end : (xs : List Ref) (x : Ref) → slice_get (xs ++ (x ∷ [])) (length xs) ≡ Some x
+at_end [] x = refl
+at_end (y ∷ xs) x = at_end xs x
+
+in_append : (xs : List Ref) (x : Ref) (i : ℕ) (y : Ref) → slice_get (xs ++ (x ∷ [])) i ≡ Some y → (slice_get xs i ≡ Some y) ⊎ (x ≡ y)
+in_append [] x zero y e = inr (cc)
+in_append [] x (suc i) y e = absurd (none-some y e)
+in_append (z ∷ xs) x zero y e = inl e
+in_append (z ∷ xs) x (suc i) y e = in_append xs x i y e
+
+pub cuts_front : (f k g : Forest) (at size count : ℕ) (last last' : Option Ref) → Readied f k at size → KeepsFront k g at count last' → ((l : List Ref) → LeavesOf f at l → HasLeaves k at (front count last' (refs k at)) (cut_to size last l)) → ((key : ℕ) → size ≤ key → FrontLeft k at (front count last' (refs k at)) size last key) → Cuts f g at size last
+cuts_front f k g at size count last last' mid keeps leaves past = record {
   sound = keeps.sound;
   fixed = Fixed-trans f k g mid.fixed keeps.fixed;
   place = InPlace-trans f k g at mid.place keeps.place;
   leaves = λ l hl. keeps.leaves (cut_to size last l) (leaves l hl);
+  past = λ key le. let it = past key le in record { found = it.found; path = keeps.paths key it.found it.path; left = it.left };
   tree = λ m st root out.
       let first = mid.tree m st root out in
       Keeps-trans f k g m first (keeps.tree m first.place.stands (first.place.root ∙ root ∙ sym mid.place.root) (λ u. out (record {
@@ -202,6 +234,14 @@ module _ (f : Forest) (at count size : ℕ) (last : Option Ref) (r : Ref) (sound
       only_first : (j : ℕ) (q : Ref) → slice_get (r ∷ []) j ≡ Some q → slice_get (take 1 (r ∷ [])) j ≡ Some q
       only_first j q e = e
 
+  pub past_here : holds size r ≡ false → (key : ℕ) → size ≤ key → FrontLeft f at (front count None (refs f at)) size last key
+  past_here out key le =
+      let high : limit r ≤ size = elim (holds_outside size r out) as (λ _. limit r ≤ size) [
+        | inl lt ↦ absurd (omega (arith, lt, low))
+        | inr ends ↦ ends
+      ] in
+      nothing_left f at (take count (refs f at)) size last key (none_upto _ _ (refs f at) (count - 1) count size key r next node.inside read low le (outside_holds key r (inr (omega (arith, high, le)))))
+
   -- the reference is the leaf in which the cut ends
   module _ (leaf : is_indirect r ≡ false) (in_r : holds size r ≡ true) where
     fits_r : Fits f at r
@@ -261,6 +301,37 @@ module _ (f : Forest) (at count size : ℕ) (last : Option Ref) (r : Ref) (sound
         let all : HasLeaves f at (take (count - 1) (refs f at) ++ (in_place last r ∷ [])) (p.before ++ (in_place last r ∷ [])) = leaves_join p.has_before single in
         subst (λ z. HasLeaves f at z (cut_to size last l)) (sym (placed last is)) (subst (λ z. HasLeaves f at (take (count - 1) (refs f at) ++ (in_place last r ∷ [])) z) (sym now) all)
 
+    in_place_low : (last' : Option Ref) → IfSome last' (IsCutBlock size) → (let x = in_place last' r in x.key) < size
+    in_place_low None it = low
+    in_place_low (Some q) it =
+        let same : nat_eq r.key q.key ≡ true = (let e = same_key q it in grind (arith, nat_tests)) in
+        let q_low = it.low in
+        rw same q_low
+
+    in_place_put : (last' : Option Ref) → IfSome last' (IsCutBlock size) → (q : Ref) → last' ≡ Some q → in_place last' r ≡ q
+    in_place_put None it q e = absurd (none-some q e)
+    in_place_put (Some p) it q e =
+        let same : nat_eq r.key p.key ≡ true = (let e' = same_key p it in grind (arith, nat_tests)) in
+        let one : p ≡ q = (cc) in
+        rw same one
+
+    pub past_in : (key : ℕ) → size ≤ key → FrontLeft f at (front count last (refs f at)) size last key
+    past_in key le = subst (λ rs. FrontLeft f at rs size last key) (sym (placed last is)) (by (holds key (in_place last r)) refl)
+      where
+        by : (b : Bool) → holds key (in_place last r) ≡ b → FrontLeft f at (take (count - 1) (refs f at) ++ (in_place last r ∷ [])) size last key
+        by true e = record {
+          found = Some (in_place last r);
+          path = arrives {r = in_place last r} (length (take (count - 1) (refs f at))) (at_end (take (count - 1) (refs f at)) (in_place last r)) e (in_place_leaf last is);
+          left = record {
+            low = λ y eq. let one : in_place last r ≡ y = (cc) in subst (λ (z : Ref). z.key < size) one (in_place_low last is);
+            put = λ y q eq eq'. let one : in_place last r ≡ y = (cc) in sym one ∙ in_place_put last is q eq';
+          };
+        }
+        by false e = nothing_left f at (take (count - 1) (refs f at) ++ (in_place last r ∷ [])) size last key (λ i q read'. elim (in_append (take (count - 1) (refs f at)) (in_place last r) i q read') as (λ _. holds key q ≡ false) [
+          | inl there ↦ none_before _ _ (refs f at) (count - 1) size key r node.inside read low le i q there
+          | inr it ↦ subst (λ (z : Ref). holds key z ≡ false) it e
+        ])
+
 pub under_refl : (f : Forest) (at : ℕ) → IsSound f → WalksUnder f f at
 under_refl f at sound = record { walks = Walks-refl f sound; keeps = λ m st out. Keeps-refl f m st }
 
@@ -271,7 +342,7 @@ beside_over f h k g a b c d still none_new first second third = record { same = 
 -- At a root, where nothing is below the size: all its references go
 
 pub root_cut : (f k g : Forest) (at size : ℕ) (last : Option Ref) → IsSound f → f.stands at ≡ true → f.root at ≡ at → WalksUnder f k at → LoadsTouched f k size size → ((l : List Ref) → LeavesOf f at l → cut_to size last l ≡ []) → KeepsFront k g at 0 None → Cuts f g at size last
-root_cut f k g at size last sound stands top under touched none keeps = cuts_front f k g at size 0 last None ready keeps (λ l hl. subst (λ z. HasLeaves k at (take 0 (refs k at)) z) (sym (none l hl)) done)
+root_cut f k g at size last sound stands top under touched none keeps = cuts_front f k g at size 0 last None ready keeps (λ l hl. subst (λ z. HasLeaves k at (take 0 (refs k at)) z) (sym (none l hl)) done) (λ key le. nothing_left k at (take 0 (refs k at)) size last key (λ i r read. absurd (none-some r read)))
   where
     ready : Readied f k at size
     ready = (let walks = under.walks in let copies = walks.copies at stands in let zero_is = (sound.node at stands).top top in let room = walks.room in record {

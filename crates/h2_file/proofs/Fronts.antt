@@ -1,24 +1,24 @@
 -- A node whose set is cut to its first references.
-use Rattle.std.proofs.Common.{◌≡◌, ℕ, ◌+◌, ◌-◌, ◌%◌, ◌<◌, ◌≤◌, ◌^◌, true, false, arith, refl, sym, ◌∙◌, ap, List, [], ◌∷◌, length, Option, Some, None, subst, ◌⊎◌, inl, inr, slice_get, slice_set, take, suc, min}
+use Rattle.std.proofs.Common.{◌≡◌, ℕ, ◌+◌, ◌-◌, ◌%◌, ◌<◌, ◌≤◌, ◌^◌, Bool, true, false, arith, refl, sym, ◌∙◌, ap, List, [], ◌∷◌, length, Option, Some, None, subst, ◌⊎◌, inl, inr, slice_get, take, suc, min}
 use Rattle.std.specs.Prelude.{IfSome}
 use Rattle.std.proofs.lemmas.Nat.{pow_pos}
 use Rattle.std.proofs.lemmas.Option.{none-some}
-use Rattle.std.proofs.lemmas.List.{length-take, length-take-le}
+use Rattle.std.proofs.lemmas.List.{length-take}
 use Rattle.h2_ref.specs.declared.reference.Ref.{Ref}
 use Rattle.h2_ref.specs.declared.reference.Kind.{Kind}
 use Rattle.h2_ref.specs.declared.reference.Kind.TheVariants.{Inode, Content}
-use Rattle.h2_set.specs.Ranges.{Rising, limit, holds, is_indirect, leads_on, IsAligned}
-use Rattle.h2_set.specs.RefSet.{RefSet, IsRefSet}
-use Rattle.h2_set.specs.Forest.{Forest, refs, loaded, HasLeaves, LeavesOf, KeepsLeaves, Fits, IsSoundNode, IsSound, InPlace, Stays, Keeps, Alters, Stores, Storable, GoesBelow, GoesWith, OnWay, inside, across, Reaches, nowhere, here, below}
+use Rattle.h2_set.specs.Ranges.{Rising, limit, holds, is_indirect, leads_on}
+use Rattle.h2_set.specs.RefSet.{RefSet}
+use Rattle.h2_set.specs.Forest.{Forest, refs, loaded, HasLeaves, KeepsLeaves, Fits, IsSoundNode, IsSound, InPlace, Stays, Keeps, IsAlike, Alters, Stores, Storable, GoesBelow, GoesWith, OnWay, inside, across, Reaches, nowhere, here, below}
 use Rattle.h2_set.specs.StayLaws.{Alike-refl, Fixed-trans, InPlace-trans, leaves_stay}
 use Rattle.h2_set.specs.LeafLaws.{holds_inside, place_above}
 use Rattle.h2_set.specs.EditLaws.{Rising-set, length-slice_set}
 use Rattle.h2_set.specs.ChangeLaws.{Keeps-Stays, Keeps-trans, Same-Keeps, leaves_move, same_or_not, apart_places}
 use Rattle.h2_set.specs.SplitLaws.{nested, below_high}
-use Rattle.h2_set.specs.RenewLaws.{Keeps-Renews, Renews-trans, Alike-length}
+use Rattle.h2_set.specs.RenewLaws.{Keeps-Renews, Renews-trans, Alike-length, Alike-sym, like_at}
 use Rattle.h2_tree.specs.Changes.{Under}
 use Rattle.h2_file.specs.Blocks.{HasContents}
-use Rattle.h2_file.specs.Cutting.{front, FitsLast, KeepsFront}
+use Rattle.h2_file.specs.Cutting.{front, FitsLast, ReachesBy, misses, arrives, leads, KeepsFront}
 use Rattle.h2_file.proofs.Parts.{take_from, set_from, taken_at, Rising-take}
 
 -- The set of a node that is altered
@@ -85,6 +85,24 @@ contents_keep f g at root bits allows h = record {
   kinds_all = λ r e. subst (λ m. g.allows m r ≡ true) root (allows (f.root at) r ∙ h.kinds_all r e);
   keybits = ap g.leaf_bits (sym root) ∙ (bits (f.root at) ∙ h.keybits);
 }
+
+-- Loaded paths through nodes that keep what they have
+
+same_holds : (key : ℕ) (r q : Ref) (b : Bool) → IsAlike r q → holds key r ≡ b → holds key q ≡ b
+same_holds key r q b like e = rw (like.key, like.keybits) e
+
+same_holds_back : (key : ℕ) (r q : Ref) (b : Bool) → IsAlike r q → holds key q ≡ b → holds key r ≡ b
+same_holds_back key r q b like e = rw (like.key, like.keybits) at e
+
+pub reaches_keeps : (f g : Forest) (P : ℕ → Type 0) → ((m k c : ℕ) → P m → f.link m k ≡ loaded c → P c) → ((m : ℕ) → P m → Keeps f g m) → {key n : ℕ} {o : Option Ref} → P n → Reaches f key n o → Reaches g key n o
+reaches_keeps f g P closed keep {key = key} p (nowhere {at = n} miss) = nowhere (λ i r read. let it = like_at (refs g n) (refs f n) (Alike-sym (refs f n) (refs g n) (keep n p).alike) i r read in same_holds_back key r it.ref false it.like (miss i it.ref it.read))
+reaches_keeps f g P closed keep p (here {at = n} {r = r} i read in_r k) =
+    let it = like_at (refs f n) (refs g n) (keep n p).alike i r read in
+    here {r = r} i (subst (λ (y : Ref). slice_get (refs g n) i ≡ Some y) (it.like.leaf k) it.read) in_r k
+reaches_keeps f g P closed keep {key = key} p (below {at = n} {c = c} {r = r} i read in_r ind link rest) =
+    let it = like_at (refs f n) (refs g n) (keep n p).alike i r read in
+    let link' : g.link n it.ref.key ≡ loaded c = ap (λ z. g.link n z) it.like.key ∙ ((keep n p).link r.key ∙ link) in
+    below {r = it.ref} i it.read (same_holds key r it.ref true it.like in_r) (ap leads_on it.like.kind ∙ ind) link' (reaches_keeps f g P closed keep (closed n r.key c p link) rest)
 
 -- Its first references
 
@@ -194,15 +212,23 @@ module _ (f h : Forest) (at count : ℕ) (last : Option Ref) (sound : IsSound f)
     others : (m : ℕ) → h.stands m ≡ true → (m ≡ at → ⊥) → (GoesBelow h m at s → ⊥) → Keeps h g m
     others m st ne not_below = Same-Keeps h g m (stores.others m st ne not_below (nothing_goes h at s alters.sound holds_h m st))
 
-    -- what is below a reference that stays, stays
-    below_stays : (i d : ℕ) (r : Ref) → slice_get s.refs i ≡ Some r → is_indirect r ≡ true → h.link at r.key ≡ loaded d → KeepsLeaves h g d
-    below_stays i d r read ind link l hl =
-        let old = (storable_stood i r read ind) in
-        let kid = node.child r.key d link in
-        let bits_d = node.bits old.0 d r old.1 ind link in
-        let Q : ℕ → Type 0 = λ m. (h.stands m ≡ true) × (h.root m ≡ h.root at) × (r.key ≤ h.low m) × (h.low m + 2 ^ h.bits m ≤ limit r) × (h.bits m < h.bits at) in
-        let closed : (m k e : ℕ) → Q m → h.link m k ≡ loaded e → Q e = λ m k e p link'. let kid' = (alters.sound.node m p.0).child k e link' in (kid'.stands, kid'.root ∙ p.1, omega (arith, kid'.above, p.2), omega (arith, kid'.within, p.3), omega (arith, kid'.fewer, p.4)) in
-        let apart : (m : ℕ) → Q m → GoesBelow h m at s → ⊥ = λ m p goes.
+    -- the nodes below a reference
+    abbrev BelowRef : Ref → ℕ → Type 0
+    BelowRef r m = (h.stands m ≡ true) × (h.root m ≡ h.root at) × (r.key ≤ h.low m) × (h.low m + 2 ^ h.bits m ≤ limit r) × (h.bits m < h.bits at)
+
+    closed_below : (r : Ref) (m k e : ℕ) → BelowRef r m → h.link m k ≡ loaded e → BelowRef r e
+    closed_below r m k e p link = let kid = (alters.sound.node m p.0).child k e link in (kid.stands, kid.root ∙ p.1, omega (arith, kid.above, p.2), omega (arith, kid.within, p.3), omega (arith, kid.fewer, p.4))
+
+    stood : (i : ℕ) (r : Ref) → slice_get s.refs i ≡ Some r → is_indirect r ≡ true → (j : ℕ) × (slice_get (refs h at) j ≡ Some r)
+    stood i r read ind = elim (front_from count last (refs h at) i r read) as (λ _. (j : ℕ) × (slice_get (refs h at) j ≡ Some r)) [
+      | inl is ↦ absurd (let clash : true ≡ false = sym ind ∙ (last_fits last fits_h r is).1 in cc)
+      | inr there ↦ (i, there)
+    ]
+
+    -- of one that stays, they stay
+    keeps_below : (i : ℕ) (r : Ref) → slice_get s.refs i ≡ Some r → is_indirect r ≡ true → (m : ℕ) → BelowRef r m → Keeps h g m
+    keeps_below i r read ind m p = others m p.0 (λ e. let same_bits = ap h.bits e in omega (arith, p.4, same_bits)) (λ goes.
+        let old = stood i r read ind in
         let pos = pow_pos (h.bits m) in
         let held = holds_inside (h.low m) goes.loses.lost goes.loses.held in
         let is : goes.loses.lost ≡ r = elim (same_or_not goes.loses.place old.0) as (λ _. goes.loses.lost ≡ r) [
@@ -212,16 +238,32 @@ module _ (f h : Forest) (at count : ℕ) (last : Option Ref) (sound : IsSound f)
             | inr upper ↦ absurd (omega (arith, upper, held.0, p.3, pos))
           ]
         ] in
-        goes.loses.lacks i r read (ap (λ (y : Ref). y.key) (sym is)) (ap (λ (y : Ref). is_indirect y) (sym is)) in
-        let stay : (m : ℕ) → Q m → Stays h g m = λ m p. Keeps-Stays h g m (others m p.0 (λ e. let same_bits = ap h.bits e in omega (arith, p.4, same_bits)) (apart m p)) in
-        let start : Q d = (kid.stands, kid.root, omega (arith, kid.low), omega (arith, kid.low, ap (λ z. 2 ^ z) bits_d), kid.fewer) in
-        leaves_stay h g Q closed stay start hl (refs g d) (stay d start).alike
-      where
-        storable_stood : (i : ℕ) (r : Ref) → slice_get s.refs i ≡ Some r → is_indirect r ≡ true → (j : ℕ) × (slice_get (refs h at) j ≡ Some r)
-        storable_stood i r read ind = elim (front_from count last (refs h at) i r read) as (λ _. (j : ℕ) × (slice_get (refs h at) j ≡ Some r)) [
-          | inl is ↦ absurd (let clash : true ≡ false = sym ind ∙ (last_fits last fits_h r is).1 in cc)
-          | inr there ↦ (i, there)
-        ]
+        goes.loses.lacks i r read (ap (λ (y : Ref). y.key) (sym is)) (ap (λ (y : Ref). is_indirect y) (sym is)))
+
+    starts_below : (i d : ℕ) (r : Ref) → slice_get s.refs i ≡ Some r → is_indirect r ≡ true → h.link at r.key ≡ loaded d → BelowRef r d
+    starts_below i d r read ind link =
+        let old = stood i r read ind in
+        let kid = node.child r.key d link in
+        let bits_d = node.bits old.0 d r old.1 ind link in
+        (kid.stands, kid.root, omega (arith, kid.low), omega (arith, kid.low, ap (λ z. 2 ^ z) bits_d), kid.fewer)
+
+    below_stays : (i d : ℕ) (r : Ref) → slice_get s.refs i ≡ Some r → is_indirect r ≡ true → h.link at r.key ≡ loaded d → KeepsLeaves h g d
+    below_stays i d r read ind link l hl =
+        let stay : (m : ℕ) → BelowRef r m → Stays h g m = λ m p. Keeps-Stays h g m (keeps_below i r read ind m p) in
+        let start = starts_below i d r read ind link in
+        leaves_stay h g (BelowRef r) (closed_below r) stay start hl (refs g d) (stay d start).alike
+
+    paths_front : (key : ℕ) (o : Option Ref) → ReachesBy f key at s.refs o → Reaches g key at o
+    paths_front key o (misses miss) = nowhere (λ i r read. miss i r (subst (λ (t : RefSet). slice_get t.refs i ≡ Some r) stores.set read))
+    paths_front key o (arrives {r = r} i read in_r k) = here {r = r} i (subst (λ (t : RefSet). slice_get t.refs i ≡ Some r) (sym stores.set) read) in_r k
+    paths_front key o (leads {c = c} {r = r} i read in_r ind link rest) =
+        let P : ℕ → Type 0 = λ m. (f.stands m ≡ true) × (f.root m ≡ f.root at) in
+        let closed : (m k e : ℕ) → P m → f.link m k ≡ loaded e → P e = λ m k e p link'. let kid = (sound.node m p.0).child k e link' in (kid.stands, kid.root ∙ p.1) in
+        let kid = (sound.node at stands).child r.key c link in
+        let in_h : Reaches h key c o = reaches_keeps f h P closed (λ m p. alters.tree m p.0 p.1) (kid.stands, kid.root) rest in
+        let link_h : h.link at r.key ≡ loaded c = here_at.link r.key ∙ link in
+        let in_g : Reaches g key c o = reaches_keeps h g (BelowRef r) (closed_below r) (keeps_below i r read ind) (starts_below i c r read ind link_h) in_h in
+        below {r = r} i (subst (λ (t : RefSet). slice_get t.refs i ≡ Some r) (sym stores.set) read) in_r ind (stores.link i r read ind ∙ link_h) in_g
 
     pub keeps_front : KeepsFront f g at count last
     keeps_front = record {
@@ -237,6 +279,7 @@ module _ (f h : Forest) (at count : ℕ) (last : Option Ref) (sound : IsSound f)
           let in_h : HasLeaves h at s.refs l = leaves_stay f h P closed stay (stands, refl) in_f s.refs (Alike-refl s.refs) in
           let in_g : HasLeaves g at s.refs l = leaves_move in_h s.refs (Alike-refl s.refs) (λ j r read ind. stores.link j r read ind) below_stays in
           subst (λ (t : RefSet). HasLeaves g at t.refs l) (sym stores.set) in_g;
+      paths = λ key o reached. paths_front key o (subst (λ rs. ReachesBy f key at rs o) (ap (λ (t : RefSet). front count last t.refs) (sym same)) reached);
       tree = λ m st root out.
           let k = alters.tree m st root in
           let ne : m ≡ at → ⊥ = λ e. out (subst (λ z. Under f z at) (sym e) (record { low = omega arith; high = omega arith })) in

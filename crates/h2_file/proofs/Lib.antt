@@ -4,3 +4,4 @@ mod Fronts
 mod CutLevels
 mod CutChild
 mod Sized
+mod Held

@@ -1,5 +1,5 @@
 -- References cut to a size, and their leaves.
-use Rattle.std.proofs.Common.{◌≡◌, ℕ, ◌+◌, ◌-◌, ◌*◌, ◌/◌, ◌%◌, ◌<◌, ◌≤◌, ◌^◌, nat_lt, nat_eq, true, false, arith, refl, sym, ◌∙◌, ap, List, [], ◌∷◌, ◌++◌, length, Option, Some, None, subst, ◌⊎◌, inl, inr, slice_get, slice_set, take, drop, suc, zero}
+use Rattle.std.proofs.Common.{◌≡◌, ℕ, ◌+◌, ◌*◌, ◌/◌, ◌%◌, ◌<◌, ◌≤◌, ◌^◌, nat_lt, nat_eq, true, false, arith, refl, sym, ◌∙◌, ap, List, [], ◌∷◌, ◌++◌, Option, Some, None, subst, ◌⊎◌, inl, inr, slice_get, slice_set, take, drop, suc, zero}
 use Rattle.std.specs.Prelude.{filter, map, IfSome}
 use Rattle.std.proofs.lemmas.Bool.Decides.{nat_tests}
 use Rattle.std.proofs.lemmas.Nat.{pow_pos}
@@ -7,13 +7,13 @@ use Rattle.std.proofs.lemmas.Option.{none-some}
 use Rattle.std.proofs.lemmas.List.{append-nil, append_assoc, map-append}
 use Rattle.std.proofs.lemmas.List.Elements.{filter-append}
 use Rattle.h2_ref.specs.declared.reference.Ref.{Ref}
-use Rattle.h2_set.specs.Ranges.{Rising, limit, holds, is_indirect, IsAligned}
-use Rattle.h2_set.specs.Forest.{Forest, HasLeaves, done, one, near, far, LeavesOf, loaded, told}
-use Rattle.h2_set.specs.LeafLaws.{Rising-le, Rising-low, place_above, holds_outside}
+use Rattle.h2_set.specs.Ranges.{Rising, limit, IsAligned}
+use Rattle.h2_set.specs.Forest.{Forest, HasLeaves, done, one, near, far}
+use Rattle.h2_set.specs.LeafLaws.{Rising-le, place_above}
 use Rattle.h2_set.specs.ChangeLaws.{multiple_add, lower_power, same_or_not}
 use Rattle.h2_set.specs.RefSet.{RefSet, IsRefSet}
 use Rattle.std.proofs.Math.Nat.{mod_self}
-use Rattle.h2_file.specs.Cutting.{cut_block, IsCutBlock, in_place, cut_to, front, FitsLast}
+use Rattle.h2_file.specs.Cutting.{cut_block, IsCutBlock, in_place, cut_to}
 
 -- Lists of references that are cut
 

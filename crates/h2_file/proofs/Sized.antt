@@ -1,23 +1,20 @@
 -- A file that is given another size.
-use Rattle.std.proofs.Common.{◌≡◌, ℕ, ◌+◌, ◌<◌, ◌≤◌, ◌^◌, Bool, true, false, arith, refl, sym, ◌∙◌, ap, List, Option, Some, None, subst, ◌⊎◌, inl, inr, slice_get}
+use Rattle.std.proofs.Common.{◌≡◌, ℕ, ◌<◌, Bool, true, false, arith, refl, sym, ◌∙◌, ap, Option, Some, None, subst, inl, inr, slice_get}
 use Rattle.std.specs.Prelude.{◌↔◌}
-use Rattle.std.proofs.lemmas.Option.{none-some}
 use Rattle.h2_ref.specs.declared.reference.Ref.{Ref}
 use Rattle.h2_ref.specs.declared.reference.Kind.TheVariants.{Content}
-use Rattle.h2_set.specs.Ranges.{is_indirect, limit}
+use Rattle.h2_set.specs.Ranges.{is_indirect}
 use Rattle.h2_set.specs.RefSet.{RefSet}
-use Rattle.h2_set.specs.Forest.{Forest, refs, loaded, HasLeaves, LeavesOf, KeepsLeaves, IsSoundNode, IsSound, InPlace, Stays, Fixed, Same, Keeps, Loses, GoesBelow, GoesWith, Storable, Walks, KeepsBeside, Reaches, nowhere, here, below}
-use Rattle.h2_set.specs.StayLaws.{Alike-refl, Fixed-trans, InPlace-trans, Same-Stays, leaves_stay, stands_below}
-use Rattle.h2_set.specs.ChangeLaws.{leaves_move, same_or_not, Same-Keeps, Keeps-trans}
+use Rattle.h2_set.specs.Forest.{Forest, refs, loaded, HasLeaves, KeepsLeaves, IsSound, InPlace, Stays, Same, Loses, Storable, KeepsBeside, Reaches, nowhere, here, below}
+use Rattle.h2_set.specs.StayLaws.{Alike-refl, InPlace-trans, Same-Stays, leaves_stay}
+use Rattle.h2_set.specs.ChangeLaws.{leaves_move, same_or_not, Same-Keeps}
 use Rattle.h2_set.specs.RenewLaws.{Keeps-Renews, Renews-trans}
 use Rattle.h2_inode.specs.declared.kind.InodeKind.{InodeKind}
 use Rattle.h2_inode.specs.declared.kind.InodeKind.TheVariants.{File}
-use Rattle.h2_inode.specs.declared.inode.Body.{Body}
-use Rattle.h2_inode.specs.declared.inode.Body.TheVariants.{Refs, Bytes}
+use Rattle.h2_inode.specs.declared.inode.Body.TheVariants.{Refs}
 use Rattle.h2_inode.specs.declared.inode.Inode.{Inode}
-use Rattle.h2_inode.specs.Nodes.{Fields, fields_of, set_of, bytes_of, leaf_kind, leaf_keybits, MayHave, IsTreeOf, HasInode, Replaceable, Replaces, KeepsOthersBeside}
+use Rattle.h2_inode.specs.Nodes.{Fields, fields_of, set_of, bytes_of, leaf_kind, leaf_keybits, MayHave, HasInode, Replaceable, Replaces, KeepsOthersBeside}
 use Rattle.h2_inode.specs.NodeLaws.{storable_replaceable}
-use Rattle.h2_tree.specs.Changes.{Under, LoadsTouched}
 use Rattle.h2_file.specs.Blocks.{IsFileOfRefs, HasContents}
 use Rattle.h2_file.specs.Sizing.{IsResized, HasResized, Sizes}
 use Rattle.h2_file.specs.Cutting.{Cuts, CutsFile, cut_to}
@@ -189,6 +186,7 @@ pub cuts_file : (f k g : Forest) (at size : ℕ) (last : Option Ref) → IsSound
 cuts_file f k g at size last sound stands top cuts sizes = record {
   sound = sizes.sound;
   leaves = λ l hl. sizes.leaves (cut_to size last l) (cuts.leaves l hl);
+  past = λ key le. let it = cuts.past key le in record { found = it.found; path = sizes.paths key it.found it.path; left = it.left };
   place = InPlace-trans f k g at cuts.place sizes.place;
   others = λ m st root.
       let first = cuts.above m st (λ e. root (e ∙ top)) in

@@ -2,9 +2,9 @@
 use Rattle.std.specs.Prelude.{◌≡◌, ◌<◌, ◌≤◌, ◌+◌, ◌-◌, ◌*◌, ◌/◌, ◌==◌, nat_lt, ℕ, true, false, List, [], Option, Some, None, filter, map, take, slice_get, slice_set, if◌then◌else◌}
 use Rattle.h2_ref.specs.declared.reference.Ref.{Ref}
 use Rattle.h2_ref.specs.declared.reference.Kind.TheVariants.{Content}
-use Rattle.h2_set.specs.Ranges.{limit, IsAligned, is_indirect}
+use Rattle.h2_set.specs.Ranges.{limit, holds, NoneHolds, IsAligned, is_indirect}
 use Rattle.h2_set.specs.SetBytes.{IsHeld}
-use Rattle.h2_set.specs.Forest.{Forest, refs, IsSound, HasLeaves, LeavesOf, Fixed, InPlace, Keeps, Renews}
+use Rattle.h2_set.specs.Forest.{Forest, refs, loaded, IsSound, HasLeaves, LeavesOf, Fixed, InPlace, Keeps, Renews, Reaches}
 use Rattle.h2_tree.specs.Changes.{Under, LoadsTouched, WalksUnder}
 use Rattle.h2_file.specs.declared.cutting.Left.{Left}
 use Rattle.h2_file.specs.declared.cutting.Left.TheVariants.{Nothing, Something}
@@ -47,6 +47,23 @@ pub record FitsLast (rs : List Ref) (count : ℕ) (q : Ref) : Type 0 where
   pub kind : q.kind ≡ Content
   pub held : IsHeld q
 
+-- by these references of node at, and then by loaded nodes, the key's path leads to this leaf, or to none
+pub data ReachesBy (f : Forest) (key at : ℕ) (rs : List Ref) : Option Ref → Type 0 where
+  misses : NoneHolds key rs → ReachesBy f key at rs None
+  arrives : {r : Ref} → (i : ℕ) → slice_get rs i ≡ Some r → holds key r ≡ true → is_indirect r ≡ false → ReachesBy f key at rs (Some r)
+  leads : {c : ℕ} {r : Ref} {o : Option Ref} → (i : ℕ) → slice_get rs i ≡ Some r → holds key r ≡ true → is_indirect r ≡ true → f.link at r.key ≡ loaded c → Reaches f key c o → ReachesBy f key at rs o
+
+-- what a path leads to after a cut: nothing at or past the size, and where a last one was given, no other
+pub record IsLeft (size : ℕ) (last : Option Ref) (found : Option Ref) : Type 0 where
+  pub low : (r : Ref) → found ≡ Some r → r.key < size
+  pub put : (r q : Ref) → found ≡ Some r → last ≡ Some q → r ≡ q
+
+-- the path of the key is loaded, and leads to nothing but what the cut leaves
+pub record LeadsLeft (f : Forest) (at size : ℕ) (last : Option Ref) (key : ℕ) : Type 0 where
+  pub found : Option Ref
+  pub path : Reaches f key at found
+  pub left : IsLeft size last found
+
 -- Node at has its first references alone, and the last one; other nodes of its tree keep theirs, but for what is below
 -- those that it lost.
 pub record KeepsFront (f g : Forest) (at count : ℕ) (last : Option Ref) : Type 0 where
@@ -54,6 +71,7 @@ pub record KeepsFront (f g : Forest) (at count : ℕ) (last : Option Ref) : Type
   pub fixed : Fixed f g
   pub place : InPlace f g at
   pub leaves : (l : List Ref) → HasLeaves f at (front count last (refs f at)) l → LeavesOf g at l
+  pub paths : (key : ℕ) (o : Option Ref) → ReachesBy f key at (front count last (refs f at)) o → Reaches g key at o
   pub tree : (m : ℕ) → f.stands m ≡ true → f.root m ≡ f.root at → (Under f m at → ⊥) → Keeps f g m
   pub above : (m : ℕ) → f.stands m ≡ true → (f.root m ≡ f.root at → ⊥) → Renews f g m
   pub none_new : (m : ℕ) → g.stands m ≡ true → f.stands m ≡ true
@@ -70,6 +88,8 @@ pub record Cuts (f g : Forest) (at size : ℕ) (last : Option Ref) : Type 0 wher
   pub fixed : Fixed f g
   pub place : InPlace f g at
   pub leaves : (l : List Ref) → LeavesOf f at l → LeavesOf g at (cut_to size last l)
+  -- all paths from the size on are loaded now
+  pub past : (key : ℕ) → size ≤ key → LeadsLeft g at size last key
   pub tree : (m : ℕ) → f.stands m ≡ true → f.root m ≡ f.root at → (Under f m at → ⊥) → Keeps f g m
   pub above : (m : ℕ) → f.stands m ≡ true → (f.root m ≡ f.root at → ⊥) → Renews f g m
   -- what stands before and after stands where it stood
@@ -92,6 +112,8 @@ Remains f g at size last Something = Cuts f g at size last
 pub record CutsFile (f g : Forest) (at size : ℕ) (last : Option Ref) : Type 0 where
   pub sound : IsSound g
   pub leaves : (l : List Ref) → LeavesOf f at l → LeavesOf g at (cut_to size last l)
+  -- all paths from the size on are loaded now
+  pub past : (key : ℕ) → size ≤ key → LeadsLeft g at size last key
   pub place : InPlace f g at
   pub others : (m : ℕ) → f.stands m ≡ true → (f.root m ≡ at → ⊥) → Renews f g m
   pub still : (m : ℕ) → f.stands m ≡ true → g.stands m ≡ true → InPlace f g m

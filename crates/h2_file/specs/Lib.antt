@@ -2,3 +2,4 @@ pub mod Touching
 pub mod Blocks
 pub mod Cutting
 pub mod Sizing
+pub mod FileContents

@@ -1,4 +1,4 @@
-ghost use Rattle.std.specs.Prelude.{◌≡◌, ◌<◌, ◌≤◌, ◌⊎◌, ◌-◌, ◌↔◌, true, false, ℕ, List, [], Some, slice_get, length, take, IfOk, IfErr, IfSome, OnOk, OnErr};
+ghost use Rattle.std.specs.Prelude.{◌≡◌, ◌<◌, ◌≤◌, ◌⊎◌, ◌-◌, ◌↔◌, true, false, ℕ, List, [], Option, Some, slice_get, length, take, IfOk, IfErr, IfSome, OnOk, OnErr};
 ghost use Rattle.h2_ref.specs.declared.reference.Ref.{Ref};
 ghost use Rattle.h2_ref.specs.declared.reference.Kind.{Kind};
 ghost use Rattle.h2_set.specs.Ranges.{is_indirect, limit};
@@ -6,7 +6,10 @@ ghost use Rattle.h2_set.specs.RefSet.{RefSet};
 ghost use Rattle.h2_set.specs.Forest.{Forest, refs, IsSound, Walks, HasCause, LeavesOf, HasLeaves, KeepsBeside};
 ghost use Rattle.h2_tree.specs.Changes.{LoadsTouched, PathUnloaded, WalksUnder};
 ghost use Rattle.h2_inode.specs.Nodes.{held_by, KeepsOthersBeside};
+ghost use Rattle.h2_num.specs.Places.{Places};
+ghost use Rattle.h2_contents.specs.Bytes.{cut_to as bytes_to};
 ghost use Rattle.h2_file.specs.Blocks.{IsFileOfRefs, HasContents};
+ghost use Rattle.h2_file.specs.FileContents.{FileHas, EndsIn};
 ghost use Rattle.h2_file.specs.Sizing.{HasResized};
 ghost use Rattle.h2_file.specs.Cutting.{IsCutBlock, cut_to, front, FitsLast, KeepsFront, Cuts, CutsFile, Remains};
 ghost use Rattle.h2_file.specs.declared.cutting.Left.{Left};
@@ -176,6 +179,7 @@ pub fn cut_blocks<N: Nodes>(
     requires room { let f = N.forest n.old in 62 ≤ f.room }
     requires last { IfSome last (IsCutBlock size) }
     ensures cuts { OnOk result (CutsFile (N.forest n.old) (N.forest n.new) inode.0 size last) }
+    ensures contents { (blocks : Ref → Option Places) (old : ℕ) (bytes : List ℕ) → FileHas (N.forest n.old) (held_by N.fields (N.beside n.old)) (N.told n.old) blocks inode.0 old bytes → EndsIn blocks size bytes last → OnOk result (FileHas (N.forest n.new) (held_by N.fields (N.beside n.new)) (N.told n.new) blocks inode.0 size (bytes_to bytes size)) }
     ensures inode { OnOk result ((file : IsFileOfRefs (N.forest n.old) (held_by N.fields (N.beside n.old)) inode.0) → HasResized (N.forest n.new) (held_by N.fields (N.beside n.new)) inode.0 file.inode size) }
     ensures walks { OnErr result (Walks (N.forest n.old) (N.forest n.new)) }
     ensures err { IfErr result (HasCause (N.forest n.old) (N.forest n.new)) }

@@ -5,6 +5,8 @@ ghost use Rattle.h2_set.specs.Forest.{IsSound, Walks, HasCause, LeavesOf, Reache
 ghost use Rattle.h2_tree.specs.Changes.{LoadsTouched, PathUnloaded};
 ghost use Rattle.h2_inode.specs.Nodes.{held_by};
 ghost use Rattle.h2_file.specs.Blocks.{IsFileOfRefs};
+ghost use Rattle.h2_file.specs.FileContents.{FileHas, IsBlockOf};
+ghost use Rattle.h2_num.specs.Places.{Places};
 
 use h2_inode::Nodes;
 use h2_ref::{Ref, Trouble};
@@ -24,6 +26,7 @@ pub fn read_block<N: Nodes>(
     requires sound { IsSound (N.forest n.old) }
     requires file { IsFileOfRefs (N.forest n.old) (held_by N.fields (N.beside n.old)) inode.0 }
     ensures found { IfOk result (λ o. (l : List Ref) → LeavesOf (N.forest n.old) inode.0 l → o ≡ find start l) }
+    ensures contents { (blocks : Ref → Option Places) (size : ℕ) (bytes : List ℕ) → FileHas (N.forest n.old) (held_by N.fields (N.beside n.old)) (N.told n.old) blocks inode.0 size bytes → IfOk result (IsBlockOf (N.forest n.old) (held_by N.fields (N.beside n.old)) (N.told n.old) blocks inode.0 size bytes start) }
     ensures path { IfOk result (Reaches (N.forest n.new) start inode.0) }
     ensures walks { Walks (N.forest n.old) (N.forest n.new) }
     ensures touched { LoadsTouched (N.forest n.old) (N.forest n.new) start start }

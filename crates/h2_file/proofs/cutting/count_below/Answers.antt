@@ -1,4 +1,4 @@
-use Rattle.std.proofs.Common.{◌≡◌, length, Some, slice_get, arith}
+use Rattle.std.proofs.Common.{arith}
 use Rattle.std.proofs.lemmas.Option.{slice_get_within}
 use Rattle.h2_file.proofs.Parts.{past_place}
 use Rattle.h2_file.proofs.cutting.count_below.Goals as goal

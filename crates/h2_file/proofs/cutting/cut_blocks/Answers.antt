@@ -1,3 +1,4 @@
+use Rattle.h2_file.proofs.Held.{cut_has}
 use Rattle.h2_file.proofs.Sized.{cuts_file, cut_file, cut_resized}
 use Rattle.h2_file.proofs.cutting.cut_blocks.Goals as goal
 
@@ -9,3 +10,6 @@ returns-clause-cuts g c = cuts_file _ _ _ _ _ _ c.requires.sound c.requires.file
 
 pub returns-clause-inode : goal.returns-clause-inode
 returns-clause-inode g c = λ file. cut_resized g.N.Nodes.fields _ _ _ _ _ c.args.size c.args.last c.in_ok-cut_tree.ensures.cuts c.in_ok-cut_tree.ensures.beside _ _ file (c.set_size.ensures.inode (cut_file g.N.Nodes.fields _ _ _ _ _ c.args.size c.args.last c.in_ok-cut_tree.ensures.cuts c.in_ok-cut_tree.ensures.beside file))
+
+pub returns-clause-contents : goal.returns-clause-contents
+returns-clause-contents g c = λ blocks old bytes has ends. cut_has _ _ _ _ _ _ blocks _ old c.args.size bytes c.args.last c.requires.last ends (returns-clause-cuts g c) has

@@ -1,4 +1,4 @@
-use Rattle.std.proofs.Common.{◌≡◌, subst}
+use Rattle.std.proofs.Common.{subst}
 use Rattle.h2_file.specs.Cutting.{Remains}
 use Rattle.h2_file.specs.declared.cutting.Left.TheVariants.{Nothing}
 use Rattle.h2_file.proofs.CutLevels.{root_cut}

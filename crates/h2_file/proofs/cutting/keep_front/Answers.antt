@@ -1,4 +1,3 @@
-use Rattle.std.proofs.Common.{◌≡◌, sym}
 use Rattle.h2_file.proofs.Fronts.{fits_h, storable_made, keeps_made}
 use Rattle.h2_file.proofs.cutting.keep_front.Goals as goal
 

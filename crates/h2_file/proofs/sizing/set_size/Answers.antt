@@ -1,5 +1,5 @@
-use Rattle.std.proofs.Common.{◌≡◌, ◌∙◌, sym}
-use Rattle.h2_file.proofs.Sized.{old_kind, replaceable, sizes, has_resized}
+use Rattle.std.proofs.Common.{◌∙◌}
+use Rattle.h2_file.proofs.Sized.{replaceable, sizes, has_resized}
 use Rattle.h2_file.proofs.sizing.set_size.Goals as goal
 
 pub set_inode-requires-clause-replaceable : goal.set_inode-requires-clause-replaceable
