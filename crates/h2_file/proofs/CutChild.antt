@@ -1,4 +1,5 @@
 -- What a cut below a node is to the node.
+use Rattle.std.proofs.lemmas.Bool.{cases_lt}
 use Rattle.std.proofs.Common.{◌≡◌, ℕ, ◌+◌, ◌-◌, ◌<◌, ◌≤◌, ◌^◌, Bool, true, false, arith, refl, sym, ◌∙◌, ap, List, [], ◌∷◌, ◌++◌, length, Option, Some, None, subst, ◌⊎◌, inl, inr, slice_get, take, suc, zero}
 use Rattle.std.specs.Prelude.{IfSome}
 use Rattle.std.proofs.lemmas.Nat.{pow_pos, pow_below}
@@ -9,15 +10,15 @@ use Rattle.h2_set.specs.Ranges.{Rising, limit, holds, is_indirect, leads_on}
 use Rattle.h2_set.specs.RefSet.{RefSet}
 use Rattle.h2_set.specs.Forest.{Forest, refs, loaded, HasLeaves, done, near, LeavesOf, KeepsLeaves, Alike, IsChild, IsSoundNode, IsSound, InPlace, Stays, Keeps, Renews, Fixed, Walks, Loads, Reaches, nowhere, here, below}
 use Rattle.h2_set.specs.StayLaws.{Alike-refl, Fixed-trans, InPlace-trans, Walks-trans, Walks-leaves, Reaches-walks, leaves_stay, stands_below}
-use Rattle.h2_set.specs.LeafLaws.{holds_inside, leaves_rising}
+use Rattle.h2_set.specs.LeafLaws.{holds_inside, leaves_rising, outside_holds}
 use Rattle.h2_set.specs.ChangeLaws.{Keeps-Stays, Keeps-trans, leaves_move, same_or_not, apart_places}
-use Rattle.h2_set.specs.RenewLaws.{Keeps-Renews, Renews-trans, Alike-length, LikeAt, like_at}
+use Rattle.h2_set.specs.RenewLaws.{Keeps-Renews, Renews-trans, Alike-length, LikeAt, like_at, Alike-sym}
 use Rattle.h2_tree.specs.Changes.{Under, LoadsTouched, WalksUnder, PathUnloaded}
 use Rattle.h2_file.specs.Blocks.{HasContents}
-use Rattle.h2_file.specs.Cutting.{IsCutBlock, cut_to, front, leads, Cuts}
+use Rattle.h2_file.specs.Cutting.{IsCutBlock, cut_to, front, leads, Cuts, cut_block, ReachesBy, misses, arrives}
 use Rattle.h2_file.proofs.Parts.{cut_append, Parted, leaves_parted, leaves_join, take_from, taken_at, take_next, in_order}
-use Rattle.h2_file.proofs.Fronts.{contents_keep}
-use Rattle.h2_file.proofs.CutLevels.{Touched-on, Readied, FrontLeft, nothing_left, none_before, none_upto, none_of, own_below, cut_parts}
+use Rattle.h2_file.proofs.Fronts.{contents_keep, reaches_keeps, same_holds, same_holds_back}
+use Rattle.h2_file.proofs.CutLevels.{Touched-on, Readied, FrontLeft, nothing_left, none_before, none_upto, none_of, own_below, cut_parts, block_le}
 
 Alike-take : (n : ℕ) (rs qs : List Ref) → Alike rs qs → Alike (take n rs) (take n qs)
 Alike-take zero rs qs a = tt
@@ -193,6 +194,19 @@ module _ (f h : Forest) (at i size : ℕ) (r : Ref) (sound : IsSound f) (stands 
           let start : P d = (kid.stands, kid.root, omega (arith, kid.low), omega (arith, kid.low, ap (λ z. 2 ^ z) bits_d)) in
           leaves_stay h k P closed stay start hl (refs k d) (stay d start).alike
 
+      -- and loaded paths through them
+      pub reach_before : {key d : ℕ} {o : Option Ref} (j : ℕ) (x : Ref) → slice_get (refs h at) j ≡ Some x → j < i → is_indirect x ≡ true → h.link at x.key ≡ loaded d → Reaches h key d o → Reaches k key d o
+      reach_before {key} {d} {o} j x read' lt ind' link' reached =
+          let order = in_order _ _ (refs h at) j i x r node.inside read' read_h lt in
+          let kid = node.child x.key d link' in
+          let bits_d = node.bits j d x read' ind' link' in
+          let P : ℕ → Type 0 = λ m. (h.stands m ≡ true) × (h.root m ≡ h.root at) × (x.key ≤ h.low m) × (h.low m + 2 ^ h.bits m ≤ limit x) in
+          let closed : (m n e : ℕ) → P m → h.link m n ≡ loaded e → P e = λ m n e p link''. let kid' = (walks.sound.node m p.0).child n e link'' in (kid'.stands, kid'.root ∙ p.1, omega (arith, kid'.above, p.2), omega (arith, kid'.within, p.3)) in
+          let out : (m : ℕ) → P m → (Under h m c → ⊥) = λ m p u. let pos = pow_pos (h.bits m) in let lo = child.low in omega (arith, order, p.3, u.low, lo, pos) in
+          let keep : (m : ℕ) → P m → Keeps h k m = λ m p. cuts.tree m p.0 (p.1 ∙ sym child.root) (out m p) in
+          let start : P d = (kid.stands, kid.root, omega (arith, kid.low), omega (arith, kid.low, ap (λ z. 2 ^ z) bits_d)) in
+          reaches_keeps h k P closed keep start reached
+
     -- the child has nothing below the size
     module _ (k : Forest) (last : Option Ref) (under : WalksUnder h k c) (touched : LoadsTouched h k size size) where
       whole : Walks f k
@@ -295,6 +309,100 @@ module _ (f h : Forest) (at count size : ℕ) (last : Option Ref) (r : Ref) (sou
 
   pub past_front : (k : Forest) → Walks h k → (key : ℕ) → size ≤ key → FrontLeft k at (front (count - 1) None (refs k at)) size last key
   past_front k after key le = nothing_left k at (take (count - 1) (refs k at)) size last key (none_before _ _ (refs k at) (count - 1) size key r (after.sound.node at (after.stays at stands_h).place.stands).inside (ap (λ (s : RefSet). slice_get s.refs (count - 1)) (after.sets at stands_h) ∙ read_at_h) low le)
+
+  key_at : (key j : ℕ) (q : Ref) → key < cut_block size → slice_get (refs h at) j ≡ Some q → holds key q ≡ true → j < count
+  key_at key j q lt read' in_q = elim (cases_lt j count) as (λ _. j < count) [
+    | inl less ↦ less
+    | inr le ↦ absurd (let a = past_h j q read' le in let b = (holds_inside key q in_q).0 in let d = block_le size in omega (arith, a, b, d, lt))
+  ]
+
+  -- the child's own reference and node, by its place
+  own_place : (j e : ℕ) (q : Ref) → j ≡ count - 1 → slice_get (refs h at) j ≡ Some q → h.link at q.key ≡ loaded e → (q ≡ r) × (e ≡ c)
+  own_place j e q same read' link' =
+      let there : slice_get (refs h at) (count - 1) ≡ Some q = subst (λ z. slice_get (refs h at) z ≡ Some q) same read' in
+      let first = read_at_h in
+      let it : q ≡ r = (cc) in
+      let link_r : h.link at r.key ≡ loaded e = subst (λ (y : Ref). h.link at y.key ≡ loaded e) it link' in
+      (it, loaded_same (sym link_r ∙ link))
+    where
+      loaded_same : {a b : ℕ} → loaded a ≡ loaded b → a ≡ b
+      loaded_same e = (cc)
+
+  module _ (k : Forest) (cuts : Cuts h k c size last) where
+    keeps_at : Keeps h k at
+    keeps_at = kept f h at (count - 1) size r sound stands read ind in_r walks loads c link k last cuts
+
+    go : {key : ℕ} {o : Option Ref} → Reaches h key at o → key < cut_block size → ReachesBy k key at (take count (refs k at)) o
+    go {key} (nowhere miss) lt = misses (λ i q read'.
+        let there = (take_from count (refs k at) i q read').1 in
+        let back = like_at (refs k at) (refs h at) (Alike-sym (refs h at) (refs k at) keeps_at.alike) i q there in
+        same_holds_back key q back.ref false back.like (miss i back.ref back.read))
+    go {key} (here {r = x} i read' in_x k') lt =
+        let it = like_at (refs h at) (refs k at) keeps_at.alike i x read' in
+        let same : slice_get (refs k at) i ≡ Some x = subst (λ (y : Ref). slice_get (refs k at) i ≡ Some y) (it.like.leaf k') it.read in
+        arrives {r = x} i (taken_at count (refs k at) i x same (key_at key i x lt read' in_x)) in_x k'
+    go {key} {o} (below {c = d} {r = x} i read' in_x ind_x link_x rest) lt =
+        let it = like_at (refs h at) (refs k at) keeps_at.alike i x read' in
+        let less = key_at key i x lt read' in_x in
+        let link_k : k.link at it.ref.key ≡ loaded d = ap (λ z. k.link at z) it.like.key ∙ (keeps_at.link x.key ∙ link_x) in
+        let rest_k : Reaches k key d o = elim (same_or_not i (count - 1)) as (λ _. Reaches k key d o) [
+          | inl same ↦ let own = own_place i d x same read' link_x in subst (λ z. Reaches k key z o) (sym own.1) (cuts.before key o lt (subst (λ z. Reaches h key z o) own.1 rest))
+          | inr ne ↦ reach_before f h at (count - 1) size r sound stands read ind in_r walks loads c link k last cuts i x read' (omega (arith, less, ne)) ind_x link_x rest
+        ] in
+        leads {c = d} {r = it.ref} i (taken_at count (refs k at) i it.ref it.read less) (same_holds key x it.ref true it.like in_x) (ap leads_on it.like.kind ∙ ind_x) link_k rest_k
+
+    pub before_cut : (key : ℕ) (o : Option Ref) → key < cut_block size → Reaches f key at o → ReachesBy k key at (front count None (refs k at)) o
+    before_cut key o lt reached = go (Reaches-walks sound walks stands reached) lt
+
+  module _ (clear : (key : ℕ) (o : Option Ref) → key < size → Reaches h key c o → o ≡ None) where
+    module _ (k : Forest) (after : Walks h k) where
+      same_refs : take (count - 1) (refs h at) ≡ take (count - 1) (refs k at)
+      same_refs = ap (λ (s : RefSet). take (count - 1) s.refs) (sym (after.sets at stands_h))
+
+      go_front : {key : ℕ} {o : Option Ref} → Reaches h key at o → key < cut_block size → ReachesBy k key at (take (count - 1) (refs h at)) o
+      go_front (nowhere miss) lt = misses (λ i q read'. miss i q ((take_from (count - 1) (refs h at) i q read').1))
+      go_front {key} (here {r = x} i read' in_x k') lt = elim (same_or_not i (count - 1)) as (λ _. ReachesBy k key at (take (count - 1) (refs h at)) (Some x)) [
+        | inl same ↦
+            let there : slice_get (refs h at) (count - 1) ≡ Some x = subst (λ z. slice_get (refs h at) z ≡ Some x) same read' in
+            let first = read_at_h in
+            let it : x ≡ r = (cc) in
+            absurd (let clash : false ≡ true = sym k' ∙ (ap (λ (y : Ref). is_indirect y) it ∙ ind) in cc)
+        | inr ne ↦ let less = key_at key i x lt read' in_x in arrives {r = x} i (taken_at (count - 1) (refs h at) i x read' (omega (arith, less, ne))) in_x k'
+      ]
+      go_front {key} {o} (below {c = d} {r = x} i read' in_x ind_x link_x rest) lt = elim (same_or_not i (count - 1)) as (λ _. ReachesBy k key at (take (count - 1) (refs h at)) o) [
+        | inl same ↦
+            let own = own_place i d x same read' link_x in
+            let none = clear key o (let b = block_le size in omega (arith, b, lt)) (subst (λ z. Reaches h key z o) own.1 rest) in
+            let inside = holds_inside key x in_x in
+            subst (λ y. ReachesBy k key at (take (count - 1) (refs h at)) y) (sym none) (misses (λ j q read''.
+            let it = take_from (count - 1) (refs h at) j q read'' in
+            let order = in_order _ _ (refs h at) j i q x (walks.sound.node at stands_h).inside it.1 read' (let b = it.0 in omega (arith, same, b)) in
+            outside_holds key q (inr (omega (arith, order, inside.0)))))
+        | inr ne ↦
+            let less = key_at key i x lt read' in_x in
+            leads {c = d} {r = x} i (taken_at (count - 1) (refs h at) i x read' (omega (arith, less, ne))) in_x ind_x ((after.stays at stands_h).near x.key d link_x) (Reaches-walks walks.sound after (stands_below h walks.sound at x.key d stands_h link_x) rest)
+      ]
+
+      pub before_front : (key : ℕ) (o : Option Ref) → key < cut_block size → Reaches f key at o → ReachesBy k key at (front (count - 1) None (refs k at)) o
+      before_front key o lt reached = subst (λ rs. ReachesBy k key at rs o) same_refs (go_front (Reaches-walks sound walks stands reached) lt)
+
+    go_none : {key : ℕ} {o : Option Ref} → Reaches h key at o → count ≡ 1 → key < size → o ≡ None
+    go_none (nowhere miss) one_is lt = refl
+    go_none {key} (here {r = x} i read' in_x k') one_is lt = elim (same_or_not i (count - 1)) as (λ _. Some x ≡ None) [
+      | inl same ↦
+          let there : slice_get (refs h at) (count - 1) ≡ Some x = subst (λ z. slice_get (refs h at) z ≡ Some x) same read' in
+          let first = read_at_h in
+          let it : x ≡ r = (cc) in
+          absurd (let clash : false ≡ true = sym k' ∙ (ap (λ (y : Ref). is_indirect y) it ∙ ind) in cc)
+      | inr ne ↦ absurd (let a = past_h i x read' (omega (arith, one_is, ne)) in let b = (holds_inside key x in_x).0 in omega (arith, a, b, lt))
+    ]
+    go_none {key} {o} (below {c = d} {r = x} i read' in_x ind_x link_x rest) one_is lt = elim (same_or_not i (count - 1)) as (λ _. o ≡ None) [
+      | inl same ↦ let own = own_place i d x same read' link_x in clear key o lt (subst (λ z. Reaches h key z o) own.1 rest)
+      | inr ne ↦ absurd (let a = past_h i x read' (omega (arith, one_is, ne)) in let b = (holds_inside key x in_x).0 in omega (arith, a, b, lt))
+    ]
+
+    pub clear_none : count ≡ 1 → (key : ℕ) (o : Option Ref) → key < size → Reaches f key at o → o ≡ None
+    clear_none one_is key o lt reached = go_none (Reaches-walks sound walks stands reached) one_is lt
 
   module _ (none : (b : List Ref) → LeavesOf h c b → cut_to size last b ≡ []) where
     front_alone : (l : List Ref) (p : Parted h at (count - 1) (refs h at) r l) → cut_to size last l ≡ p.before

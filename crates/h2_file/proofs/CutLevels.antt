@@ -1,4 +1,5 @@
 -- A cut at a node, and what one below it is to the node.
+use Rattle.std.proofs.lemmas.Bool.{cases_lt}
 use Rattle.std.proofs.Common.{◌≡◌, ℕ, ◌+◌, ◌-◌, ◌%◌, ◌<◌, ◌≤◌, ◌^◌, true, false, arith, refl, sym, ◌∙◌, ap, List, [], ◌∷◌, ◌++◌, length, Option, Some, None, subst, ◌⊎◌, inl, inr, Result, Ok, Err, nat_eq, slice_get, slice_set, take, drop, suc, zero, Bool}
 use Rattle.std.specs.Prelude.{IfSome, OnErr}
 use Rattle.std.proofs.lemmas.Bool.Decides.{nat_tests}
@@ -6,15 +7,15 @@ use Rattle.std.proofs.lemmas.Option.{none-some}
 use Rattle.std.proofs.lemmas.List.{append-nil}
 use Rattle.h2_ref.specs.declared.reference.Ref.{Ref}
 use Rattle.h2_set.specs.Ranges.{Rising, limit, holds, NoneHolds, is_indirect, leads_on}
-use Rattle.h2_set.specs.Forest.{Forest, refs, loaded, told, HasLeaves, done, one, near, far, LeavesOf, Fits, IsSoundNode, IsSound, InPlace, Keeps, Renews, Fixed, KeepsBeside}
+use Rattle.h2_set.specs.Forest.{Forest, refs, loaded, told, HasLeaves, done, one, near, far, LeavesOf, Fits, IsSoundNode, IsSound, InPlace, Keeps, Renews, Fixed, KeepsBeside, Reaches, nowhere, here, below}
 use Rattle.h2_set.specs.StayLaws.{Fixed-refl, Fixed-trans, InPlace-refl, InPlace-trans, Walks-refl}
 use Rattle.h2_set.specs.LeafLaws.{holds_inside, holds_outside, outside_holds}
 use Rattle.h2_set.specs.ChangeLaws.{Keeps-refl, Keeps-trans, same_or_not}
 use Rattle.h2_set.specs.RenewLaws.{Keeps-Renews, Renews-trans}
 use Rattle.h2_tree.specs.Changes.{Under, LoadsTouched, WalksUnder}
 use Rattle.h2_file.specs.Blocks.{HasContents}
-use Rattle.h2_file.specs.Cutting.{cut_block, IsCutBlock, in_place, cut_to, front, FitsLast, ReachesBy, misses, arrives, IsLeft, KeepsFront, Cuts}
-use Rattle.h2_file.proofs.Parts.{cut_append, cut_one, cut_key, end_block, Parted, leaves_parted, leaves_join, behind_gone, before_stays, take_from, drop_from, take_next, set_next, in_order}
+use Rattle.h2_file.specs.Cutting.{cut_block, IsCutBlock, in_place, cut_to, front, FitsLast, ReachesBy, misses, arrives, IsLeft, KeepsFront, Cuts, leads}
+use Rattle.h2_file.proofs.Parts.{cut_append, cut_one, cut_key, end_block, Parted, leaves_parted, leaves_join, behind_gone, before_stays, take_from, drop_from, take_next, set_next, in_order, taken_at}
 
 pub always_err : {T E P : Type 0} (r : Result T E) → P → OnErr r P
 always_err (Ok o) p = tt
@@ -109,12 +110,13 @@ in_append [] x (suc i) y e = absurd (none-some y e)
 in_append (z ∷ xs) x zero y e = inl e
 in_append (z ∷ xs) x (suc i) y e = in_append xs x i y e
 
-pub cuts_front : (f k g : Forest) (at size count : ℕ) (last last' : Option Ref) → Readied f k at size → KeepsFront k g at count last' → ((l : List Ref) → LeavesOf f at l → HasLeaves k at (front count last' (refs k at)) (cut_to size last l)) → ((key : ℕ) → size ≤ key → FrontLeft k at (front count last' (refs k at)) size last key) → Cuts f g at size last
-cuts_front f k g at size count last last' mid keeps leaves past = record {
+pub cuts_front : (f k g : Forest) (at size count : ℕ) (last last' : Option Ref) → Readied f k at size → KeepsFront k g at count last' → ((l : List Ref) → LeavesOf f at l → HasLeaves k at (front count last' (refs k at)) (cut_to size last l)) → ((key : ℕ) → size ≤ key → FrontLeft k at (front count last' (refs k at)) size last key) → ((key : ℕ) (o : Option Ref) → key < cut_block size → Reaches f key at o → ReachesBy k key at (front count last' (refs k at)) o) → Cuts f g at size last
+cuts_front f k g at size count last last' mid keeps leaves past before = record {
   sound = keeps.sound;
   fixed = Fixed-trans f k g mid.fixed keeps.fixed;
   place = InPlace-trans f k g at mid.place keeps.place;
   leaves = λ l hl. keeps.leaves (cut_to size last l) (leaves l hl);
+  before = λ key o lt reached. keeps.paths key o (before key o lt reached);
   past = λ key le. let it = past key le in record { found = it.found; path = keeps.paths key it.found it.path; left = it.left };
   tree = λ m st root out.
       let first = mid.tree m st root out in
@@ -182,6 +184,40 @@ own_below {f} {at} r c (far {r = x} {rs = rs} {below = b} ind link' inside rest)
     let same : x ≡ r = (cc) in
     absurd (let clash : told b ≡ loaded c = sym link' ∙ ap (λ (y : Ref). f.link at y.key) same ∙ link in cc)
 
+-- a loaded path of a key below the references from place n on goes by those before it
+pub front_before : {f : Forest} {key at : ℕ} {o : Option Ref} → Reaches f key at o → (n : ℕ) → ((j : ℕ) (q : Ref) → slice_get (refs f at) j ≡ Some q → n ≤ j → key < q.key) → ReachesBy f key at (take n (refs f at)) o
+front_before {f} (nowhere {at = at} miss) n above = misses (λ i r read. miss i r ((take_from n (refs f at) i r read).1))
+front_before {f} {key} (here {at = at} {r = r} i read in_r k) n above = elim (cases_lt i n) as (λ _. ReachesBy f key at (take n (refs f at)) (Some r)) [
+  | inl lt ↦ arrives {r = r} i (taken_at n (refs f at) i r read lt) in_r k
+  | inr le ↦ absurd (let a = above i r read le in let b = (holds_inside key r in_r).0 in omega (arith, a, b))
+]
+front_before {f} {key} (below {at = at} {c = c} {r = r} {o = o} i read in_r ind link rest) n above = elim (cases_lt i n) as (λ _. ReachesBy f key at (take n (refs f at)) o) [
+  | inl lt ↦ leads {c = c} {r = r} i (taken_at n (refs f at) i r read lt) in_r ind link rest
+  | inr le ↦ absurd (let a = above i r read le in let b = (holds_inside key r in_r).0 in omega (arith, a, b))
+]
+
+append_at : (xs : List Ref) (x : Ref) (i : ℕ) (y : Ref) → slice_get xs i ≡ Some y → slice_get (xs ++ (x ∷ [])) i ≡ Some y
+append_at [] x i y e = absurd (none-some y e)
+append_at (z ∷ xs) x zero y e = e
+append_at (z ∷ xs) x (suc i) y e = append_at xs x i y e
+
+by_append : {f : Forest} {key at : ℕ} {xs : List Ref} {o : Option Ref} (x : Ref) → ReachesBy f key at xs o → holds key x ≡ false → ReachesBy f key at (xs ++ (x ∷ [])) o
+by_append {key = key} {xs = xs} x (misses miss) out = misses (λ i q read. elim (in_append xs x i q read) as (λ _. holds key q ≡ false) [
+  | inl there ↦ miss i q there
+  | inr it ↦ subst (λ (z : Ref). holds key z ≡ false) it out
+])
+by_append {xs = xs} x (arrives {r = r} i read in_r k) out = arrives {r = r} i (append_at xs x i r read) in_r k
+by_append {xs = xs} x (leads {c = c} {r = r} i read in_r ind link rest) out = leads {c = c} {r = r} i (append_at xs x i r read) in_r ind link rest
+
+-- where no reference is below the size, no loaded path to a key below it leads to a leaf
+pub clear_here : {f : Forest} {key at : ℕ} {o : Option Ref} (size : ℕ) → Reaches f key at o → ((i : ℕ) (r : Ref) → slice_get (refs f at) i ≡ Some r → size ≤ r.key) → key < size → o ≡ None
+clear_here size (nowhere miss) past lt = refl
+clear_here {key = key} size (here {r = r} i read in_r k) past lt = absurd (let a = past i r read in let b = (holds_inside key r in_r).0 in omega (arith, a, b, lt))
+clear_here {key = key} size (below {r = r} i read in_r ind link rest) past lt = absurd (let a = past i r read in let b = (holds_inside key r in_r).0 in omega (arith, a, b, lt))
+
+pub block_le : (size : ℕ) → cut_block size ≤ size
+block_le size = omega arith
+
 -- A node of which the reference at place count - 1 is the last below the size
 module _ (f : Forest) (at count size : ℕ) (last : Option Ref) (r : Ref) (sound : IsSound f) (stands : f.stands at ≡ true) (is : IfSome last (IsCutBlock size)) (holds_contents : HasContents f at) (pos : 0 < count) (read : slice_get (refs f at) (count - 1) ≡ Some r) (low : r.key < size) (past : (j : ℕ) (q : Ref) → slice_get (refs f at) j ≡ Some q → count ≤ j → size ≤ q.key) where
   node : IsSoundNode f at
@@ -241,6 +277,9 @@ module _ (f : Forest) (at count size : ℕ) (last : Option Ref) (r : Ref) (sound
         | inr ends ↦ ends
       ] in
       nothing_left f at (take count (refs f at)) size last key (none_upto _ _ (refs f at) (count - 1) count size key r next node.inside read low le (outside_holds key r (inr (omega (arith, high, le)))))
+
+  pub before_here : (key : ℕ) (o : Option Ref) → key < cut_block size → Reaches f key at o → ReachesBy f key at (front count None (refs f at)) o
+  before_here key o lt reached = front_before reached count (λ j q read' le. let a = past j q read' le in let b = block_le size in omega (arith, a, b, lt))
 
   -- the reference is the leaf in which the cut ends
   module _ (leaf : is_indirect r ≡ false) (in_r : holds size r ≡ true) where
@@ -315,6 +354,29 @@ module _ (f : Forest) (at count size : ℕ) (last : Option Ref) (r : Ref) (sound
         let one : p ≡ q = (cc) in
         rw same one
 
+    start_r : r.key ≡ cut_block size
+    start_r = by r.key r.keybits bits_r fits_r.aligned low ((holds_inside size r in_r).1)
+      where
+        by : (key bits : ℕ) → bits ≡ 14 → key % 2 ^ bits ≡ 0 → key < size → size < key + 2 ^ bits → key ≡ cut_block size
+        by key bits e aligned lo hi = let a : key % 16384 ≡ 0 = rw e at aligned in let h : size < key + 16384 = rw e at hi in omega (arith, a, h, lo)
+
+    in_place_key : (last' : Option Ref) → IfSome last' (IsCutBlock size) → (let x = in_place last' r in x.key) ≡ r.key
+    in_place_key None it = refl
+    in_place_key (Some q) it =
+        let same : nat_eq r.key q.key ≡ true = (let e = same_key q it in grind (arith, nat_tests)) in
+        let key : q.key ≡ r.key = sym (same_key q it) in
+        rw same key
+
+    pub before_in : (key : ℕ) (o : Option Ref) → key < cut_block size → Reaches f key at o → ReachesBy f key at (front count last (refs f at)) o
+    before_in key o lt reached =
+        let start = start_r in
+        let first : ReachesBy f key at (take (count - 1) (refs f at)) o = front_before reached (count - 1) (λ j q read' le. elim (same_or_not j (count - 1)) as (λ _. key < q.key) [
+          | inl e ↦ let there : slice_get (refs f at) (count - 1) ≡ Some q = subst (λ z. slice_get (refs f at) z ≡ Some q) e read' in let it : r ≡ q = (cc) in subst (λ (y : Ref). key < y.key) it (omega (arith, start, lt))
+          | inr ne ↦ let a = past j q read' (omega (arith, le, ne, pos)) in let b = block_le size in omega (arith, a, b, lt)
+        ]) in
+        let out : holds key (in_place last r) ≡ false = outside_holds key (in_place last r) (inl (let k = in_place_key last is in omega (arith, k, start, lt))) in
+        subst (λ rs. ReachesBy f key at rs o) (sym (placed last is)) (by_append (in_place last r) first out)
+
     pub past_in : (key : ℕ) → size ≤ key → FrontLeft f at (front count last (refs f at)) size last key
     past_in key le = subst (λ rs. FrontLeft f at rs size last key) (sym (placed last is)) (by (holds key (in_place last r)) refl)
       where
@@ -341,8 +403,8 @@ beside_over f h k g a b c d still none_new first second third = record { same = 
 
 -- At a root, where nothing is below the size: all its references go
 
-pub root_cut : (f k g : Forest) (at size : ℕ) (last : Option Ref) → IsSound f → f.stands at ≡ true → f.root at ≡ at → WalksUnder f k at → LoadsTouched f k size size → ((l : List Ref) → LeavesOf f at l → cut_to size last l ≡ []) → KeepsFront k g at 0 None → Cuts f g at size last
-root_cut f k g at size last sound stands top under touched none keeps = cuts_front f k g at size 0 last None ready keeps (λ l hl. subst (λ z. HasLeaves k at (take 0 (refs k at)) z) (sym (none l hl)) done) (λ key le. nothing_left k at (take 0 (refs k at)) size last key (λ i r read. absurd (none-some r read)))
+pub root_cut : (f k g : Forest) (at size : ℕ) (last : Option Ref) → IsSound f → f.stands at ≡ true → f.root at ≡ at → WalksUnder f k at → LoadsTouched f k size size → ((l : List Ref) → LeavesOf f at l → cut_to size last l ≡ []) → ((key : ℕ) (o : Option Ref) → key < size → Reaches f key at o → o ≡ None) → KeepsFront k g at 0 None → Cuts f g at size last
+root_cut f k g at size last sound stands top under touched none clear keeps = cuts_front f k g at size 0 last None ready keeps (λ l hl. subst (λ z. HasLeaves k at (take 0 (refs k at)) z) (sym (none l hl)) done) (λ key le. nothing_left k at (take 0 (refs k at)) size last key (λ i r read. absurd (none-some r read))) (λ key o lt reached. subst (λ x. ReachesBy k key at (take 0 (refs k at)) x) (sym (clear key o (let b = block_le size in omega (arith, b, lt)) reached)) (misses (λ i r read. absurd (none-some r read))))
   where
     ready : Readied f k at size
     ready = (let walks = under.walks in let copies = walks.copies at stands in let zero_is = (sound.node at stands).top top in let room = walks.room in record {

@@ -88,10 +88,10 @@ contents_keep f g at root bits allows h = record {
 
 -- Loaded paths through nodes that keep what they have
 
-same_holds : (key : ℕ) (r q : Ref) (b : Bool) → IsAlike r q → holds key r ≡ b → holds key q ≡ b
+pub same_holds : (key : ℕ) (r q : Ref) (b : Bool) → IsAlike r q → holds key r ≡ b → holds key q ≡ b
 same_holds key r q b like e = rw (like.key, like.keybits) e
 
-same_holds_back : (key : ℕ) (r q : Ref) (b : Bool) → IsAlike r q → holds key q ≡ b → holds key r ≡ b
+pub same_holds_back : (key : ℕ) (r q : Ref) (b : Bool) → IsAlike r q → holds key q ≡ b → holds key r ≡ b
 same_holds_back key r q b like e = rw (like.key, like.keybits) at e
 
 pub reaches_keeps : (f g : Forest) (P : ℕ → Type 0) → ((m k c : ℕ) → P m → f.link m k ≡ loaded c → P c) → ((m : ℕ) → P m → Keeps f g m) → {key n : ℕ} {o : Option Ref} → P n → Reaches f key n o → Reaches g key n o

@@ -186,6 +186,7 @@ pub cuts_file : (f k g : Forest) (at size : ℕ) (last : Option Ref) → IsSound
 cuts_file f k g at size last sound stands top cuts sizes = record {
   sound = sizes.sound;
   leaves = λ l hl. sizes.leaves (cut_to size last l) (cuts.leaves l hl);
+  before = λ key o lt reached. sizes.paths key o (cuts.before key o lt reached);
   past = λ key le. let it = cuts.past key le in record { found = it.found; path = sizes.paths key it.found it.path; left = it.left };
   place = InPlace-trans f k g at cuts.place sizes.place;
   others = λ m st root.

@@ -88,6 +88,8 @@ pub record Cuts (f g : Forest) (at size : ℕ) (last : Option Ref) : Type 0 wher
   pub fixed : Fixed f g
   pub place : InPlace f g at
   pub leaves : (l : List Ref) → LeavesOf f at l → LeavesOf g at (cut_to size last l)
+  -- loaded paths to blocks before the one in which the cut ends stay, and lead to what they led to
+  pub before : (key : ℕ) (o : Option Ref) → key < cut_block size → Reaches f key at o → Reaches g key at o
   -- all paths from the size on are loaded now
   pub past : (key : ℕ) → size ≤ key → LeadsLeft g at size last key
   pub tree : (m : ℕ) → f.stands m ≡ true → f.root m ≡ f.root at → (Under f m at → ⊥) → Keeps f g m
@@ -104,7 +106,7 @@ pub record Cuts (f g : Forest) (at size : ℕ) (last : Option Ref) : Type 0 wher
 
 -- what a cut leaves of the tree below a node: the references below the size, or, where there is none, all as it was
 abbrev pub Remains : Forest → Forest → ℕ → ℕ → Option Ref → Left → Type 0
-Remains f g at size last Nothing = WalksUnder f g at × LoadsTouched f g size size × ((l : List Ref) → LeavesOf f at l → cut_to size last l ≡ [])
+Remains f g at size last Nothing = WalksUnder f g at × LoadsTouched f g size size × ((l : List Ref) → LeavesOf f at l → cut_to size last l ≡ []) × ((key : ℕ) (o : Option Ref) → key < size → Reaches f key at o → o ≡ None)
 Remains f g at size last Something = Cuts f g at size last
 
 -- The references at or past the size are out of the file's list, and the last one is in it in place of the one with its
@@ -112,6 +114,8 @@ Remains f g at size last Something = Cuts f g at size last
 pub record CutsFile (f g : Forest) (at size : ℕ) (last : Option Ref) : Type 0 where
   pub sound : IsSound g
   pub leaves : (l : List Ref) → LeavesOf f at l → LeavesOf g at (cut_to size last l)
+  -- loaded paths to blocks before the one in which the cut ends stay, and lead to what they led to
+  pub before : (key : ℕ) (o : Option Ref) → key < cut_block size → Reaches f key at o → Reaches g key at o
   -- all paths from the size on are loaded now
   pub past : (key : ℕ) → size ≤ key → LeadsLeft g at size last key
   pub place : InPlace f g at

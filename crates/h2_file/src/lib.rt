@@ -3,6 +3,11 @@
 //! A file of at most 512 bytes lies in its inode, and a longer one in blocks of 16 KiB, of which those that
 //! no write reached are missing. Which blocks a write touches, and what it makes of the bytes of one of
 //! them, is arithmetic and lists of bytes (`specs/Touching`, `LaysInto` in `h2_contents`).
+//!
+//! The blocks are named by content references in the file's tree, over any [`Nodes`](h2_inode::Nodes). `read_block`
+//! finds the one that holds a byte, and `cut_blocks` takes out those from a size on. What they say of a file's list of
+//! references, where it is known, is `find` and `cut_to` (`specs/Cutting`), of its bytes `FileHas`
+//! (`specs/FileContents`), and of loaded paths, whatever is known of others, `Reaches`.
 #![tactic(auto)]
 
 mod blocks;

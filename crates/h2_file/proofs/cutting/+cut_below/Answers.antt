@@ -7,15 +7,15 @@ use Rattle.h2_file.specs.Cutting.{Remains}
 use Rattle.h2_file.specs.declared.cutting.Left.TheVariants.{Nothing, Something}
 use Rattle.h2_file.proofs.Fronts.{contents_keep}
 use Rattle.h2_file.proofs.Parts.{all_past}
-use Rattle.h2_file.proofs.CutLevels.{always_err, beside_over, Touched-refl, Touched-on, readied_here, under_refl, cuts_front, ends_here, past_here, ends_in, past_in, last_fits}
-use Rattle.h2_file.proofs.CutChild.{load_touched, unloaded_child, child_stands, child_fewer, child_room, child_contents, unloaded_below, ready_cut, stands_cut, copies_cut, length_cut, ready_none, under_none, touched_none, leaves_cut, past_cut, leaves_front, past_front, leaves_none}
+use Rattle.h2_file.proofs.CutLevels.{always_err, beside_over, Touched-refl, Touched-on, readied_here, under_refl, cuts_front, ends_here, past_here, ends_in, past_in, last_fits, before_here, before_in, clear_here}
+use Rattle.h2_file.proofs.CutChild.{load_touched, unloaded_child, child_stands, child_fewer, child_room, child_contents, unloaded_below, ready_cut, stands_cut, copies_cut, length_cut, ready_none, under_none, touched_none, leaves_cut, past_cut, leaves_front, past_front, leaves_none, before_cut, before_front, clear_none}
 use Rattle.h2_file.proofs.cutting.+cut_below.Goals as goal
 
 pub returns-then-count-eq0-clause-left : goal.returns-then-count-eq0-clause-left
 returns-then-count-eq0-clause-left g t c =
     let f = g.N.Sets.forest c.args.n.now in
     let none = c.if-count-eq0.true in
-    (under_refl f c.args.at.0 c.requires.sound, Touched-refl _ _ _, λ l hl. all_past c.args.size c.args.last hl (λ i r read. rw c.get-set.ensures at c.count_below-count.ensures.past i r read (omega (arith, none))))
+    (under_refl f c.args.at.0 c.requires.sound, Touched-refl _ _ _, λ l hl. all_past c.args.size c.args.last hl (λ i r read. rw c.get-set.ensures at c.count_below-count.ensures.past i r read (omega (arith, none))), λ key o lt reached. clear_here c.args.size reached (λ i r read. rw c.get-set.ensures at c.count_below-count.ensures.past i r read (omega (arith, none))) lt)
 
 pub returns-then-not-holds-clause-left : goal.returns-then-not-holds-clause-left
 returns-then-not-holds-clause-left g t c =
@@ -26,7 +26,7 @@ returns-then-not-holds-clause-left g t c =
     let low : c.at.result.now.key < c.args.size = c.count_below-count.ensures.below (count - 1) c.at.result.now c.at.ensures (omega (arith, pos)) in
     let past : (j : ℕ) (q : Ref) → slice_get (refs f c.args.at.0) j ≡ Some q → count ≤ j → c.args.size ≤ q.key = rw c.get-set.ensures at c.count_below-count.ensures.past in
     let out : holds c.args.size c.at.result.now ≡ false = sym c.holds.ensures ∙ c.if-not-holds.true in
-    cuts_front _ _ _ _ _ _ _ _ (readied_here f _ _ c.requires.sound c.requires.stands c.requires.room.0) c.keep_front.ensures.kept (ends_here f c.args.at.0 count c.args.size c.args.last c.at.result.now c.requires.sound c.requires.stands c.requires.last c.requires.contents pos read low past out) (past_here f c.args.at.0 count c.args.size c.args.last c.at.result.now c.requires.sound c.requires.stands c.requires.last c.requires.contents pos read low past out)
+    cuts_front _ _ _ _ _ _ _ _ (readied_here f _ _ c.requires.sound c.requires.stands c.requires.room.0) c.keep_front.ensures.kept (ends_here f c.args.at.0 count c.args.size c.args.last c.at.result.now c.requires.sound c.requires.stands c.requires.last c.requires.contents pos read low past out) (past_here f c.args.at.0 count c.args.size c.args.last c.at.result.now c.requires.sound c.requires.stands c.requires.last c.requires.contents pos read low past out) (before_here f c.args.at.0 count c.args.size c.args.last c.at.result.now c.requires.sound c.requires.stands c.requires.last c.requires.contents pos read low past)
 
 pub keep_front-requires-then-not-is_indirect-clause-last : goal.keep_front-requires-then-not-is_indirect-clause-last
 keep_front-requires-then-not-is_indirect-clause-last g t c =
@@ -50,7 +50,7 @@ returns-then-not-is_indirect-clause-left g t c =
     let past : (j : ℕ) (q : Ref) → slice_get (refs f c.args.at.0) j ≡ Some q → count ≤ j → c.args.size ≤ q.key = rw c.get-set.ensures at c.count_below-count.ensures.past in
     let in_r : holds c.args.size c.at.result.now ≡ true = sym c.holds.ensures ∙ c.if-not-holds.false in
     let leaf : is_indirect c.at.result.now ≡ false = sym c.is_indirect.ensures ∙ c.if-not-is_indirect.true in
-    cuts_front _ _ _ _ _ _ _ _ (readied_here f _ _ c.requires.sound c.requires.stands c.requires.room.0) c.keep_front-then-not-is_indirect.ensures.kept (ends_in f c.args.at.0 count c.args.size c.args.last c.at.result.now c.requires.sound c.requires.stands c.requires.last c.requires.contents pos read low past leaf in_r) (past_in f c.args.at.0 count c.args.size c.args.last c.at.result.now c.requires.sound c.requires.stands c.requires.last c.requires.contents pos read low past leaf in_r)
+    cuts_front _ _ _ _ _ _ _ _ (readied_here f _ _ c.requires.sound c.requires.stands c.requires.room.0) c.keep_front-then-not-is_indirect.ensures.kept (ends_in f c.args.at.0 count c.args.size c.args.last c.at.result.now c.requires.sound c.requires.stands c.requires.last c.requires.contents pos read low past leaf in_r) (past_in f c.args.at.0 count c.args.size c.args.last c.at.result.now c.requires.sound c.requires.stands c.requires.last c.requires.contents pos read low past leaf in_r) (before_in f c.args.at.0 count c.args.size c.args.last c.at.result.now c.requires.sound c.requires.stands c.requires.last c.requires.contents pos read low past leaf in_r)
 
 pub returns-in_err-child-clause-touched : goal.returns-in_err-child-clause-touched
 returns-in_err-child-clause-touched g t c =
@@ -191,7 +191,7 @@ returns-then-count-eq1-clause-left g t c =
     let ind : is_indirect c.at.result.now ≡ true = sym c.is_indirect.ensures ∙ c.if-not-is_indirect.false in
     let child = c.in_ok-child.ensures in
     let left : Remains (g.N.Sets.forest c.child.new.self) (g.N.Sets.forest c.cut_below.new.n) c.in_ok-child.child.0 c.args.size c.args.last Nothing = subst (λ t. Remains (g.N.Sets.forest c.child.new.self) (g.N.Sets.forest c.cut_below.new.n) c.in_ok-child.child.0 c.args.size c.args.last t) c.in-Nothing.is c.in_ok-cut_below.ensures.left in
-    (under_none _ _ c.args.at.0 (count - 1) c.args.size c.at.result.now c.requires.sound c.requires.stands read ind in_r child.walks (child.loads _ read) c.in_ok-child.child.0 (child.ok _ read) _ c.args.last left.0 left.1, touched_none _ _ c.args.at.0 (count - 1) c.args.size c.at.result.now c.requires.sound c.requires.stands read ind in_r child.walks (child.loads _ read) c.in_ok-child.child.0 (child.ok _ read) _ c.args.last left.0 left.1, leaves_none _ _ c.args.at.0 count c.args.size c.args.last c.at.result.now c.requires.sound c.requires.stands c.requires.last c.requires.contents pos read low past ind in_r child.walks (child.loads _ read) c.in_ok-child.child.0 (child.ok _ read) left.2 (omega (arith, c.if-count-eq1.true)))
+    (under_none _ _ c.args.at.0 (count - 1) c.args.size c.at.result.now c.requires.sound c.requires.stands read ind in_r child.walks (child.loads _ read) c.in_ok-child.child.0 (child.ok _ read) _ c.args.last left.0 left.1, touched_none _ _ c.args.at.0 (count - 1) c.args.size c.at.result.now c.requires.sound c.requires.stands read ind in_r child.walks (child.loads _ read) c.in_ok-child.child.0 (child.ok _ read) _ c.args.last left.0 left.1, leaves_none _ _ c.args.at.0 count c.args.size c.args.last c.at.result.now c.requires.sound c.requires.stands c.requires.last c.requires.contents pos read low past ind in_r child.walks (child.loads _ read) c.in_ok-child.child.0 (child.ok _ read) left.2 (omega (arith, c.if-count-eq1.true)), clear_none _ _ c.args.at.0 count c.args.size c.args.last c.at.result.now c.requires.sound c.requires.stands c.requires.last c.requires.contents pos read low past ind in_r child.walks (child.loads _ read) c.in_ok-child.child.0 (child.ok _ read) left.3 (omega (arith, c.if-count-eq1.true)))
 
 pub keep_front-requires-in-Nothing-clause-contents : goal.keep_front-requires-in-Nothing-clause-contents
 keep_front-requires-in-Nothing-clause-contents g t c =
@@ -220,7 +220,7 @@ returns-in-Something-clause-left g t c =
     let ind : is_indirect c.at.result.now ≡ true = sym c.is_indirect.ensures ∙ c.if-not-is_indirect.false in
     let child = c.in_ok-child.ensures in
     let left : Remains (g.N.Sets.forest c.child.new.self) (g.N.Sets.forest c.cut_below.new.n) c.in_ok-child.child.0 c.args.size c.args.last Something = subst (λ t. Remains (g.N.Sets.forest c.child.new.self) (g.N.Sets.forest c.cut_below.new.n) c.in_ok-child.child.0 c.args.size c.args.last t) c.in-Something.is c.in_ok-cut_below.ensures.left in
-    cuts_front _ _ _ _ _ _ _ _ (ready_cut _ _ c.args.at.0 (count - 1) c.args.size c.at.result.now c.requires.sound c.requires.stands read ind in_r child.walks (child.loads _ read) c.in_ok-child.child.0 (child.ok _ read) _ _ left) c.keep_front-in-Something.ensures.kept (leaves_cut _ _ c.args.at.0 count c.args.size c.args.last c.at.result.now c.requires.sound c.requires.stands c.requires.last c.requires.contents pos read low past ind in_r child.walks (child.loads _ read) c.in_ok-child.child.0 (child.ok _ read) _ left) (past_cut _ _ c.args.at.0 count c.args.size c.args.last c.at.result.now c.requires.sound c.requires.stands c.requires.last c.requires.contents pos read low past ind in_r child.walks (child.loads _ read) c.in_ok-child.child.0 (child.ok _ read) _ left)
+    cuts_front _ _ _ _ _ _ _ _ (ready_cut _ _ c.args.at.0 (count - 1) c.args.size c.at.result.now c.requires.sound c.requires.stands read ind in_r child.walks (child.loads _ read) c.in_ok-child.child.0 (child.ok _ read) _ _ left) c.keep_front-in-Something.ensures.kept (leaves_cut _ _ c.args.at.0 count c.args.size c.args.last c.at.result.now c.requires.sound c.requires.stands c.requires.last c.requires.contents pos read low past ind in_r child.walks (child.loads _ read) c.in_ok-child.child.0 (child.ok _ read) _ left) (past_cut _ _ c.args.at.0 count c.args.size c.args.last c.at.result.now c.requires.sound c.requires.stands c.requires.last c.requires.contents pos read low past ind in_r child.walks (child.loads _ read) c.in_ok-child.child.0 (child.ok _ read) _ left) (before_cut _ _ c.args.at.0 count c.args.size c.args.last c.at.result.now c.requires.sound c.requires.stands c.requires.last c.requires.contents pos read low past ind in_r child.walks (child.loads _ read) c.in_ok-child.child.0 (child.ok _ read) _ left)
 
 pub returns-in-Something-clause-beside : goal.returns-in-Something-clause-beside
 returns-in-Something-clause-beside g t c =
@@ -242,7 +242,7 @@ returns-else-count-eq1-clause-left g t c =
     let ind : is_indirect c.at.result.now ≡ true = sym c.is_indirect.ensures ∙ c.if-not-is_indirect.false in
     let child = c.in_ok-child.ensures in
     let left : Remains (g.N.Sets.forest c.child.new.self) (g.N.Sets.forest c.cut_below.new.n) c.in_ok-child.child.0 c.args.size c.args.last Nothing = subst (λ t. Remains (g.N.Sets.forest c.child.new.self) (g.N.Sets.forest c.cut_below.new.n) c.in_ok-child.child.0 c.args.size c.args.last t) c.in-Nothing.is c.in_ok-cut_below.ensures.left in
-    cuts_front _ _ _ _ _ _ _ _ (ready_none _ _ c.args.at.0 (count - 1) c.args.size c.at.result.now c.requires.sound c.requires.stands read ind in_r child.walks (child.loads _ read) c.in_ok-child.child.0 (child.ok _ read) _ c.args.last left.0 left.1 c.requires.room.0) c.keep_front-in-Nothing.ensures.kept (leaves_front _ _ c.args.at.0 count c.args.size c.args.last c.at.result.now c.requires.sound c.requires.stands c.requires.last c.requires.contents pos read low past ind in_r child.walks (child.loads _ read) c.in_ok-child.child.0 (child.ok _ read) left.2 _ left.0.walks) (past_front _ _ c.args.at.0 count c.args.size c.args.last c.at.result.now c.requires.sound c.requires.stands c.requires.last c.requires.contents pos read low past ind in_r child.walks (child.loads _ read) c.in_ok-child.child.0 (child.ok _ read) _ left.0.walks)
+    cuts_front _ _ _ _ _ _ _ _ (ready_none _ _ c.args.at.0 (count - 1) c.args.size c.at.result.now c.requires.sound c.requires.stands read ind in_r child.walks (child.loads _ read) c.in_ok-child.child.0 (child.ok _ read) _ c.args.last left.0 left.1 c.requires.room.0) c.keep_front-in-Nothing.ensures.kept (leaves_front _ _ c.args.at.0 count c.args.size c.args.last c.at.result.now c.requires.sound c.requires.stands c.requires.last c.requires.contents pos read low past ind in_r child.walks (child.loads _ read) c.in_ok-child.child.0 (child.ok _ read) left.2 _ left.0.walks) (past_front _ _ c.args.at.0 count c.args.size c.args.last c.at.result.now c.requires.sound c.requires.stands c.requires.last c.requires.contents pos read low past ind in_r child.walks (child.loads _ read) c.in_ok-child.child.0 (child.ok _ read) _ left.0.walks) (before_front _ _ c.args.at.0 count c.args.size c.args.last c.at.result.now c.requires.sound c.requires.stands c.requires.last c.requires.contents pos read low past ind in_r child.walks (child.loads _ read) c.in_ok-child.child.0 (child.ok _ read) left.3 _ left.0.walks)
 
 pub returns-else-count-eq1-clause-beside : goal.returns-else-count-eq1-clause-beside
 returns-else-count-eq1-clause-beside g t c =

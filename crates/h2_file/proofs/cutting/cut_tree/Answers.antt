@@ -7,4 +7,4 @@ use Rattle.h2_file.proofs.cutting.cut_tree.Goals as goal
 pub returns-in-Nothing-clause-cuts : goal.returns-in-Nothing-clause-cuts
 returns-in-Nothing-clause-cuts g c =
     let left : Remains (g.N.Sets.forest c.args.n.now) (g.N.Sets.forest c.cut_below.new.n) c.args.root.0 c.args.size c.args.last Nothing = subst (λ t. Remains (g.N.Sets.forest c.args.n.now) (g.N.Sets.forest c.cut_below.new.n) c.args.root.0 c.args.size c.args.last t) c.in-Nothing.is c.in_ok-cut_below.ensures.left in
-    root_cut _ _ _ _ _ _ c.requires.sound c.requires.stands c.requires.top left.0 left.1 left.2 c.keep_front.ensures.kept
+    root_cut _ _ _ _ _ _ c.requires.sound c.requires.stands c.requires.top left.0 left.1 left.2 left.3 c.keep_front.ensures.kept
