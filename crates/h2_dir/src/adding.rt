@@ -1,15 +1,13 @@
-ghost use Rattle.std.specs.Prelude.{◌≡◌, ◌≤◌, ◌+◌, ℕ, Bool, true, List, Some, None};
-ghost use Rattle.std.specs.FinMap.{get, insert};
+ghost use Rattle.std.specs.Prelude.{◌≡◌, ◌≤◌, ◌+◌, true, List, Some, None};
+ghost use Rattle.std.specs.FinMap.{insert};
 ghost use Rattle.h2_ref.specs.Ref.{IsValid};
 ghost use Rattle.h2_ref.specs.declared.reference.Ref.{Ref};
 ghost use Rattle.h2_set.specs.Ranges.{put};
-ghost use Rattle.h2_set.specs.Forest.{Forest, IsSound, LeavesOf, Reaches, KeepsBeside};
+ghost use Rattle.h2_set.specs.Forest.{IsSound, LeavesOf, Reaches, KeepsBeside};
 ghost use Rattle.h2_tree.specs.Changes.{Takes, Inserts, KeepsPaths};
 ghost use Rattle.h2_dirkey.specs.Key.{IsNameUnder};
 ghost use Rattle.h2_inode.specs.declared.inode.Inode.{Inode};
 ghost use Rattle.h2_inode.specs.Nodes.{held_by, HasInode, KeepsOthersBeside};
-ghost use Rattle.h2_inode.specs.Directory.{Entries};
-ghost use Rattle.h2_dir.specs.Finding.{HoldsEntries};
 ghost use Rattle.h2_dir.specs.Changing.{HasRoom, Adds, entry_ref, with_entries};
 
 use crate::entry::entry_ref;

@@ -1,5 +1,5 @@
 ghost use Rattle.std.specs.Prelude.{◌≡◌, ◌≤◌, ◌-◌, ◌++◌, replicate, length, Some, None};
-ghost use Rattle.h2_dir.specs.Changing.{entry_ref, short_entry, long_entry};
+ghost use Rattle.h2_dir.specs.Changing.{entry_ref};
 
 use h2_num::{Block, put_bytes};
 use h2_ref::{Check, Dirent, Kind, Ref};

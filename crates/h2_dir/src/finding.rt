@@ -1,11 +1,7 @@
-ghost use Rattle.std.specs.Prelude.{◌≡◌, ◌≤◌, ◌↔◌, ◌+◌, ℕ, Bool, IsTrue, IfOk, IfErr, IfNone, IfSome, List, All, Some, None, Err, slice_get, length};
-ghost use Rattle.std.specs.FinMap.{get};
-ghost use Rattle.std.specs.Ordering.{nat_cmp};
-ghost use Rattle.std.specs.Cmp.Lexicographic.{slice_cmp};
-ghost use Rattle.h2_ref.specs.Ref.{IsValid};
+ghost use Rattle.std.specs.Prelude.{◌≡◌, ◌↔◌, ℕ, Bool, IsTrue, IfOk, IfErr, Some, None, Err, slice_get, length};
 ghost use Rattle.h2_ref.specs.declared.reference.Ref.{Ref};
 ghost use Rattle.h2_ref.specs.declared.reference.Dirent.{Dirent};
-ghost use Rattle.h2_set.specs.Forest.{Forest, IsSound, Walks, KeepsBeside};
+ghost use Rattle.h2_set.specs.Forest.{IsSound, Walks, KeepsBeside};
 ghost use Rattle.h2_tree.specs.Changes.{LoadsTouched};
 ghost use Rattle.h2_dirkey.specs.Key.{least_key};
 ghost use Rattle.h2_inode.specs.declared.inode.Inode.{Inode};

@@ -1,4 +1,12 @@
-//! Directories: entries of names and numbers in the tree of an inode, over any forest with inodes.
+//! Directories: entries of names and numbers in the tree of an inode, over any [`Nodes`](h2_inode::Nodes).
+//!
+//! A directory is what its tree stands for: a finite map from names to inode numbers (`HoldsEntries` in
+//! `specs/Finding`), where all its leaves and their names are told. Each call also says what it answers where they
+//! aren't, by the loaded paths of keys: an entry that was found, or that none is known to have the name, is tied to them.
+//!
+//! `find` looks a name up, `spot` gives the key that a new entry gets, `add_at` and `remove_at` put an entry in and take
+//! one out, with the directory's size, and `walk` follows a path. The first two and the last load what they need and
+//! change nothing. The other two can't be refused: what they need is loaded and reserved before.
 #![tactic(auto)]
 
 mod adding;

@@ -1,7 +1,7 @@
-ghost use Rattle.std.specs.Prelude.{◌≡◌, ◌≤◌, ◌⊎◌, ℕ, true, false, Some, IfOk, IfErr, List, All, take, length};
+ghost use Rattle.std.specs.Prelude.{◌≡◌, ◌≤◌, ◌⊎◌, true, false, Some, IfOk, IfErr, All, take, length};
 ghost use Rattle.h2_ref.specs.Ref.{IsValid};
 ghost use Rattle.h2_ref.specs.declared.reference.Ref.{Ref};
-ghost use Rattle.h2_set.specs.Forest.{Forest, IsSound, Unchanged, HasCause, KeepsBeside};
+ghost use Rattle.h2_set.specs.Forest.{IsSound, Unchanged, HasCause, KeepsBeside};
 ghost use Rattle.h2_dir.specs.Names.{IsNamed, MayBeNamed, Scanned};
 
 use h2_ref::{Dirent, Ref, Trouble};

@@ -1,6 +1,6 @@
-ghost use Rattle.std.specs.Prelude.{◌≡◌, ◌%◌, ℕ, Bool, IfOk, IfErr, List, map};
+ghost use Rattle.std.specs.Prelude.{◌≡◌, ◌%◌, ℕ, Bool, IfOk, IfErr, map};
 ghost use Rattle.h2_ref.specs.declared.reference.Ref.{Ref};
-ghost use Rattle.h2_set.specs.Forest.{Forest, IsSound, Walks, KeepsBeside};
+ghost use Rattle.h2_set.specs.Forest.{IsSound, Walks, KeepsBeside};
 ghost use Rattle.h2_tree.specs.Changes.{LoadsTouched};
 ghost use Rattle.h2_dirkey.specs.Name.{IsName};
 ghost use Rattle.h2_dirkey.specs.Key.{least_key, IsPicked};

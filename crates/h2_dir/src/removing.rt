@@ -1,12 +1,10 @@
-ghost use Rattle.std.specs.Prelude.{◌≡◌, ◌≤◌, ◌-◌, ℕ, Bool, true, List, Some, None, IsSome};
+ghost use Rattle.std.specs.Prelude.{◌≡◌, ◌≤◌, ◌-◌, true, List, Some, None, IsSome};
 ghost use Rattle.h2_ref.specs.declared.reference.Ref.{Ref};
 ghost use Rattle.h2_set.specs.Ranges.{without};
-ghost use Rattle.h2_set.specs.Forest.{Forest, IsSound, LeavesOf, Reaches, KeepsBeside};
+ghost use Rattle.h2_set.specs.Forest.{IsSound, LeavesOf, Reaches, KeepsBeside};
 ghost use Rattle.h2_tree.specs.Changes.{IsFree, Removes, KeepsPaths};
 ghost use Rattle.h2_inode.specs.declared.inode.Inode.{Inode};
 ghost use Rattle.h2_inode.specs.Nodes.{held_by, HasInode, KeepsOthersBeside};
-ghost use Rattle.h2_inode.specs.Directory.{Entries};
-ghost use Rattle.h2_dir.specs.Finding.{HoldsEntries};
 ghost use Rattle.h2_dir.specs.Changing.{IsDirectoryRoot, TakesAway, with_entries};
 
 use crate::resizing::resize;

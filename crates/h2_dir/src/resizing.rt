@@ -1,5 +1,5 @@
-ghost use Rattle.std.specs.Prelude.{◌≡◌, ℕ, true};
-ghost use Rattle.h2_set.specs.Forest.{Forest, IsSound};
+ghost use Rattle.std.specs.Prelude.{◌≡◌, true};
+ghost use Rattle.h2_set.specs.Forest.{IsSound};
 ghost use Rattle.h2_inode.specs.declared.inode.Inode.{Inode};
 ghost use Rattle.h2_inode.specs.Nodes.{held_by, HasInode, Replaces, KeepsOthersBeside};
 ghost use Rattle.h2_dir.specs.Changing.{HasRefs, with_entries, with_size};

@@ -1,6 +1,6 @@
-ghost use Rattle.std.specs.Prelude.{◌≡◌, ℕ, true, IfOk, IfErr, List, filter};
+ghost use Rattle.std.specs.Prelude.{◌≡◌, true, IfOk, IfErr, List, filter};
 ghost use Rattle.h2_ref.specs.declared.reference.Ref.{Ref};
-ghost use Rattle.h2_set.specs.Forest.{Forest, IsSound, Walks, HasCause, KeepsBeside, LeavesOf};
+ghost use Rattle.h2_set.specs.Forest.{IsSound, Walks, HasCause, KeepsBeside, LeavesOf};
 ghost use Rattle.h2_tree.specs.Changes.{LoadsTouched, Lists, is_between};
 ghost use Rattle.h2_dirkey.specs.Key.{least_key};
 ghost use Rattle.h2_dir.specs.Names.{Scanned};

@@ -1,8 +1,6 @@
-ghost use Rattle.std.specs.Prelude.{◌≡◌, ◌≤◌, ℕ, List, drop, length, OnErr};
-ghost use Rattle.h2_set.specs.Forest.{Forest, IsSound, KeepsBeside};
-ghost use Rattle.h2_inode.specs.declared.inode.Inode.{Inode};
-ghost use Rattle.h2_inode.specs.declared.kind.InodeKind.TheVariants.{Pfs};
-ghost use Rattle.h2_inode.specs.Nodes.{held_by, HasInode, Visits};
+ghost use Rattle.std.specs.Prelude.{drop};
+ghost use Rattle.h2_set.specs.Forest.{IsSound, KeepsBeside};
+ghost use Rattle.h2_inode.specs.Nodes.{held_by, Visits};
 ghost use Rattle.h2_dir.specs.Walking.{IsPfsRoot, WalkEnds, StepEnds};
 
 use crate::fault::DirFault;
