@@ -1,4 +1,4 @@
-ghost use Rattle.std.specs.Prelude.{◌≡◌, ◌≤◌, ◌⊎◌, ◌-◌, ◌^◌, ℕ, Bool, true, IfOk, IfErr, List, All, Some, length};
+ghost use Rattle.std.specs.Prelude.{◌≡◌, ◌≤◌, ◌⊎◌, ◌-◌, ◌^◌, ℕ, Bool, true, IfOk, IfErr, List, All, Some, IsPermutation, IsSorted};
 ghost use Rattle.h2_ref.specs.declared.reference.Ref.{Ref};
 ghost use Rattle.h2_set.specs.Forest.{Forest, IsSound, Walks, Unchanged, HasCause, KeepsBeside};
 ghost use Rattle.h2_inode.specs.declared.inode.Inode.{Inode};
@@ -7,7 +7,7 @@ ghost use Rattle.h2_inode.specs.Access.{OneByOne};
 ghost use Rattle.h2_inode.specs.Nodes.{held_by, HasInode};
 ghost use Rattle.h2_inode.specs.Directory.{Entries};
 ghost use Rattle.h2_dir.specs.Finding.{HoldsEntries};
-ghost use Rattle.h2_dir.specs.Listing.{IsEntryLeaf, SaysEntry, HasLongName, AnyLongName, IsListing, ListFails, entries_of};
+ghost use Rattle.h2_dir.specs.Listing.{IsEntryLeaf, SaysEntry, HasLongName, AnyLongName, IsListing, ListFails, by_name, entries_of};
 
 use crate::fault::DirFault;
 use crate::finding::is_directory;
@@ -16,7 +16,7 @@ use h2_num::{Name, NoMemory};
 use h2_ref::{Ref, Trouble};
 use h2_set::{NodeId, Sets};
 use h2_tree::range;
-use std::alloc::Global;
+use std::alloc::{AllocError, Global};
 
 /// The least key of an entry.
 const FIRST_KEY: u64 = 1 << 63;
@@ -64,6 +64,14 @@ fn all_named<N: Sets>(alloc: Global, n: &mut N, leaves: &[Ref]) -> Result<Vec<(N
     Ok(all)
 }
 
+// Puts entries in byte order of their names, and those of one name in order of their numbers.
+fn sort_by_name(all: &mut Vec<(Name, u64)>) -> Result<(), AllocError>
+    ensures same { let old = all.old in let new = all.new in IsPermutation old.items new.items }
+    ensures sorted { let new = all.new in IfOk result (λ done. IsSorted by_name new.items) }
+{
+    all.sort()
+}
+
 /// The names and the numbers of a directory's entries, in byte order of the names. Each block of the tree is loaded,
 /// and the name of each entry with more than 64 bytes is read.
 ///
@@ -85,7 +93,7 @@ pub fn list<N: Nodes>(alloc: Global, n: &mut N, dir: NodeId) -> Result<Vec<(Name
     }
     let leaves = range(alloc, n, dir, FIRST_KEY, u64::MAX)?;
     let mut all = all_named(alloc, n, &leaves)?;
-    match all.sort() {
+    match sort_by_name(&mut all) {
         Ok(()) => Ok(all),
         Err(_) => Err(DirFault::Trouble(Trouble::NoMemory)),
     }

@@ -44,7 +44,7 @@ returns-in-Ok-clause-listing g c =
       all = lists_same _ _ _ _ _ _ walks.sound stands c.in_ok-all.ensures.same c.in_ok-leaves.ensures.lists;
       named = c.in_ok-all.all.items;
       each = each_stays (g.N.Sets.forest c.range.new.n) (g.N.Sets.forest c.all_named.new.n) _ _ c.in_ok-all.ensures.same.fixed.name (subst (λ (xs : List Ref). OneByOne (SaysEntry (g.N.Sets.forest c.range.new.n)) xs c.in_ok-all.all.items) c.deref.ensures.value c.in_ok-all.ensures.each);
-      same = c.sort.ensures.permutation;
+      same = c.sort_by_name.ensures.same;
       sorted = c.in-Ok.ensures.sorted;
     }
 
@@ -55,7 +55,7 @@ returns-in-Ok-clause-entries g c may size es h =
     let items = c.in_ok-leaves.leaves.items in
     let each : OneByOne (SaysEntry middle) items c.in_ok-all.all.items = subst (λ (xs : List Ref). OneByOne (SaysEntry middle) xs c.in_ok-all.all.items) c.deref.ensures.value c.in_ok-all.ensures.each in
     let told = each_stays middle f items c.in_ok-all.all.items (λ r. sym (c.in_ok-leaves.ensures.walks.fixed.name r)) each in
-    lists_entries f _ _ may c.args.dir.0 size es h items c.in_ok-all.all.items c.sort.new.self.items c.in_ok-leaves.ensures.found told c.sort.ensures.permutation c.in-Ok.ensures.sorted
+    lists_entries f _ _ may c.args.dir.0 size es h items c.in_ok-all.all.items c.sort_by_name.new.all.items c.in_ok-leaves.ensures.found told c.sort_by_name.ensures.same c.in-Ok.ensures.sorted
 
 pub returns-in_err-all-clause-err : goal.returns-in_err-all-clause-err
 returns-in_err-all-clause-err g c i h =
