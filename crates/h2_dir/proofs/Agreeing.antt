@@ -37,7 +37,7 @@ module _ (f : Forest) (holds : ℕ → Option Fields) (tells : Ref → Option To
   one_named leaf named one = record { entry = one.entry; entry_is = one.entry_is; length_is = one.length_is; name_is = one.name_is }
 
   -- a leaf that may have another name than it is told doesn't
-  told_once : (leaf : Ref) (name other : List ℕ) → IsNamed f leaf other → MayBeNamed f leaf name → other ≡ name
+  pub told_once : (leaf : Ref) (name other : List ℕ) → IsNamed f leaf other → MayBeNamed f leaf name → other ≡ name
   told_once leaf name other is maybe =
       let e : maybe.entry ≡ is.entry = same_Some maybe.entry is.entry (sym maybe.entry_is ∙ is.entry_is) in
       elim is.name_is [

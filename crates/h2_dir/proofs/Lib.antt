@@ -11,3 +11,6 @@ pub mod Resized
 pub mod Growing
 pub mod Areas
 pub mod Walked
+pub mod Listed
+pub mod Ordered
+pub mod Told

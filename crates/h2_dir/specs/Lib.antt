@@ -3,3 +3,4 @@ pub mod Finding
 pub mod Placing
 pub mod Changing
 pub mod Walking
+pub mod Listing

@@ -5,14 +5,15 @@
 //! aren't, by the loaded paths of keys: an entry that was found, or that none is known to have the name, is tied to them.
 //!
 //! `find` looks a name up, `spot` gives the key that a new entry gets, `add_at` and `remove_at` put an entry in and take
-//! one out, with the directory's size, and `walk` follows a path. The first two and the last load what they need and
-//! change nothing. The other two can't be refused: what they need is loaded and reserved before.
+//! one out, with the directory's size, `list` gives all entries, and `walk` follows a path. `add_at` and `remove_at` can't
+//! be refused: what they need is loaded and reserved before. The others load what they need and change nothing.
 #![tactic(auto)]
 
 mod adding;
 mod entry;
 mod fault;
 mod finding;
+mod listing;
 mod naming;
 mod placing;
 mod removing;
@@ -23,6 +24,7 @@ mod walking;
 pub use adding::add_at;
 pub use fault::DirFault;
 pub use finding::find;
+pub use listing::list;
 pub use placing::spot;
 pub use removing::remove_at;
 pub use walking::walk;
