@@ -1,7 +1,8 @@
 -- Which nodes a cut changes.
 use Rattle.std.proofs.Common.{◌≡◌, ℕ, ◌+◌, ◌-◌, ◌%◌, ◌<◌, ◌≤◌, ◌^◌, true, false, arith, refl, sym, ◌∙◌, ap, List, length, Option, Some, None, subst, ◌⊎◌, inl, inr, slice_get, take, min}
 use Rattle.std.proofs.lemmas.Nat.{pow_pos}
-use Rattle.std.proofs.lemmas.Option.{none-some}
+use Rattle.std.proofs.lemmas.Bool.{cases_lt}
+use Rattle.std.proofs.lemmas.Option.{none-some, slice_get_within}
 use Rattle.std.proofs.lemmas.List.{length-take, take_all}
 use Rattle.h2_ref.specs.declared.reference.Ref.{Ref}
 use Rattle.h2_set.specs.Ranges.{limit, holds, is_indirect, leads_on}
@@ -19,6 +20,7 @@ use Rattle.h2_file.specs.declared.cutting.Left.TheVariants.{Nothing, All, Someth
 use Rattle.h2_file.specs.Cutting.{cut_block, cut_to, front, ReachesBy, misses, arrives, leads, IsChanged, KeepsFront, Shortens, Cuts, CutsNodes, Remains}
 use Rattle.h2_file.specs.Sizing.{Sizes}
 use Rattle.h2_file.proofs.Parts.{taken_at}
+use Rattle.h2_file.proofs.Fronts.{front_length}
 use Rattle.h2_file.proofs.CutLevels.{Touched-on, Readied, FrontLeft, cuts_front, root_ready}
 
 -- A node that a walk down from another leads to
@@ -43,10 +45,30 @@ descends_within sound (onward {at = at} {c = d} {r = r} i read in_r ind link res
       belongs = λ top key. it.belongs top key ∙ kid.belongs top key;
     }
 
+-- Which references of a node end by the size
+
+pub ends_before : (rs : List Ref) (count size : ℕ) → ((j : ℕ) (q : Ref) → slice_get rs j ≡ Some q → count ≤ j → size ≤ q.key) → (i : ℕ) (x : Ref) → slice_get rs i ≡ Some x → limit x ≤ size → i < count
+ends_before rs count size past i x read ends = elim (cases_lt i count) as (λ _. i < count) [
+  | inl lt ↦ lt
+  | inr le ↦ let a = past i x read le in let pos = pow_pos x.keybits in absurd (omega (arith, a, pos, ends))
+]
+
+pub ends_below : (rs : List Ref) (count size : ℕ) (r : Ref) → slice_get rs (count - 1) ≡ Some r → holds size r ≡ true → ((j : ℕ) (q : Ref) → slice_get rs j ≡ Some q → count ≤ j → size ≤ q.key) → (i : ℕ) (x : Ref) → slice_get rs i ≡ Some x → limit x ≤ size → i < count - 1
+ends_below rs count size r read_r in_r past i x read ends =
+    let less = ends_before rs count size past i x read ends in
+    elim (same_or_not i (count - 1)) as (λ _. i < count - 1) [
+      | inl e ↦
+          let there : slice_get rs (count - 1) ≡ Some x = subst (λ z. slice_get rs z ≡ Some x) e read in
+          let same : r ≡ x = (cc) in
+          let high : size < limit x = subst (λ (y : Ref). size < limit y) same ((holds_inside size r in_r).1) in
+          absurd (omega (arith, high, ends))
+      | inr ne ↦ omega (arith, less, ne)
+    ]
+
 -- Where the node itself is cut, or all goes at a root
 
-pub nodes_here : (f k g : Forest) (at size count : ℕ) (last last' : Option Ref) → Walks f k → LoadsTouched f k size size → k.stands at ≡ true → KeepsFront k g at count last' → (k.root at ≡ at) ⊎ IsChanged (refs k at) count last' → ((q : Ref) → last' ≡ Some q → last ≡ Some q) → CutsNodes f g at size last
-nodes_here f k g at size count last last' walks touched stands keeps changes given = record {
+pub nodes_here : (f k g : Forest) (at size count : ℕ) (last last' : Option Ref) → Walks f k → LoadsTouched f k size size → k.stands at ≡ true → KeepsFront k g at count last' → (k.root at ≡ at) ⊎ IsChanged (refs k at) count last' → ((q : Ref) → last' ≡ Some q → last ≡ Some q) → ((i : ℕ) (x : Ref) → slice_get (refs k at) i ≡ Some x → limit x ≤ size → i < count) → CutsNodes f g at size last
+nodes_here f k g at size count last last' walks touched stands keeps changes given stay = record {
   walked = k;
   walks = walks;
   touched = touched;
@@ -60,6 +82,10 @@ nodes_here f k g at size count last last' walks touched stands keeps changes giv
   set = keeps.set;
   changes = changes;
   none_new = keeps.none_new;
+  left = λ m i x st st' read ends. elim (same_or_not m at) as (λ _. i < length (refs g m)) [
+    | inl e ↦ subst (λ z. slice_get (refs k z) i ≡ Some x → i < length (refs g z)) (sym e) (λ read'. at_left i x read' ends) read
+    | inr ne ↦ let n = keeps.lengths m st st' ne in let w = slice_get_within (refs k m) i x read in omega (arith, n, w)
+  ];
   still = λ m st st'. keeps.still m st';
   exact = λ m i r st st' ne read lt off. keeps.exact m i r st st' ne read off;
   others = keeps.others;
@@ -68,10 +94,17 @@ nodes_here f k g at size count last last' walks touched stands keeps changes giv
   copies = keeps.copies;
   room = (let a = keeps.room in let b = walks.room in omega (arith, a, b));
 }
+  where
+    at_left : (i : ℕ) (x : Ref) → slice_get (refs k at) i ≡ Some x → limit x ≤ size → i < length (refs g at)
+    at_left i x read ends =
+        let n : length (refs g at) ≡ min count (length (refs k at)) = ap (λ (s : RefSet). length s.refs) keeps.set ∙ front_length count last' (refs k at) in
+        let w = slice_get_within (refs k at) i x read in
+        let less = stay i x read ends in
+        omega (arith, n, w, less)
 
 -- A node of which the child below one reference was cut, which is left its references up to that one
 
-module _ (f h k g : Forest) (at count c size : ℕ) (last : Option Ref) (r : Ref) (walks : Walks f h) (touched : LoadsTouched f h size size) (stands : h.stands at ≡ true) (pos : 0 < count) (read : slice_get (refs h at) (count - 1) ≡ Some r) (ind : is_indirect r ≡ true) (in_r : holds size r ≡ true) (link : h.link at r.key ≡ loaded c) (nodes : CutsNodes h k c size last) (at_k : Keeps h k at) (sound_k : IsSound k) (copies_k : k.copies at ≡ 0) (keeps : KeepsFront k g at count None) where
+module _ (f h k g : Forest) (at count c size : ℕ) (last : Option Ref) (r : Ref) (walks : Walks f h) (touched : LoadsTouched f h size size) (stands : h.stands at ≡ true) (pos : 0 < count) (read : slice_get (refs h at) (count - 1) ≡ Some r) (ind : is_indirect r ≡ true) (in_r : holds size r ≡ true) (link : h.link at r.key ≡ loaded c) (nodes : CutsNodes h k c size last) (at_k : Keeps h k at) (sound_k : IsSound k) (copies_k : k.copies at ≡ 0) (keeps : KeepsFront k g at count None) (stay : (i : ℕ) (x : Ref) → slice_get (refs h at) i ≡ Some x → limit x ≤ size → i < count) where
   abbrev t : Forest
   t = nodes.walked
 
@@ -197,6 +230,23 @@ module _ (f h k g : Forest) (at count c size : ℕ) (last : Option Ref) (r : Ref
         keeps.exact m i x there st' nm in_k (λ way. off (way_down m i x st there read_x way))
   ]
 
+  at_left : (i : ℕ) (x : Ref) → slice_get (refs t at) i ≡ Some x → limit x ≤ size → i < length (refs g at)
+  at_left i x read_x ends =
+      let n : length (refs g at) ≡ min count (length (refs k at)) = ap (λ (s : RefSet). length s.refs) keeps.set ∙ length-take count (refs k at) in
+      let a = nodes.left at i x at_t.stands at_k.place.stands read_x ends in
+      let b = stay i x (ap (λ (s : RefSet). slice_get s.refs i) (sym (nodes.walks.sets at stands)) ∙ read_x) ends in
+      omega (arith, n, a, b)
+
+  left_on : (m i : ℕ) (x : Ref) → t.stands m ≡ true → g.stands m ≡ true → slice_get (refs t m) i ≡ Some x → limit x ≤ size → i < length (refs g m)
+  left_on m i x st st' read_x ends = elim (same_or_not m at) as (λ _. i < length (refs g m)) [
+    | inl e ↦ subst (λ z. slice_get (refs t z) i ≡ Some x → i < length (refs g z)) (sym e) (λ read'. at_left i x read' ends) read_x
+    | inr nm ↦
+        let there = keeps.none_new m st' in
+        let n = keeps.lengths m there st' nm in
+        let a = nodes.left m i x st there read_x ends in
+        omega (arith, n, a)
+  ]
+
   pub nodes_over : CutsNodes f g at size last
   nodes_over = record {
     walked = t;
@@ -212,6 +262,7 @@ module _ (f h k g : Forest) (at count c size : ℕ) (last : Option Ref) (r : Ref
     set = (keeps.others nodes.node nodes.stays node_stays node_off).0 ∙ nodes.set;
     changes = nodes.changes;
     none_new = λ m st. nodes.none_new m (keeps.none_new m st);
+    left = left_on;
     still = λ m st st'. InPlace-trans t k g m (nodes.still m st (keeps.none_new m st')) (keeps.still m st');
     exact = exact_on;
     others = λ m st st' off.
@@ -256,16 +307,16 @@ cuts_whole f k at size count last mid whole copies leaves past before =
       spare = mid.spare;
     }
 
-pub cut_short : (f k g : Forest) (at size count : ℕ) (last last' : Option Ref) (left : Left) → Readied f k at size → WalksUnder f k at → k.stands at ≡ true → k.copies at ≤ 62 → Shortens k g at count last' left → ((q : Ref) → last' ≡ Some q → last ≡ Some q) → ((l : List Ref) → LeavesOf f at l → HasLeaves k at (front count last' (refs k at)) (cut_to size last l)) → ((key : ℕ) → size ≤ key → FrontLeft k at (front count last' (refs k at)) size last key) → ((key : ℕ) (o : Option Ref) → key < cut_block size → Reaches f key at o → ReachesBy k key at (front count last' (refs k at)) o) → Remains f g at size last left
-cut_short f k g at size count last last' Nothing mid under stands copies short given leaves past before = absurd short
-cut_short f k g at size count last last' All mid under stands copies short given leaves past before =
+pub cut_short : (f k g : Forest) (at size count : ℕ) (last last' : Option Ref) (left : Left) → Readied f k at size → WalksUnder f k at → k.stands at ≡ true → k.copies at ≤ 62 → Shortens k g at count last' left → ((q : Ref) → last' ≡ Some q → last ≡ Some q) → ((i : ℕ) (x : Ref) → slice_get (refs k at) i ≡ Some x → limit x ≤ size → i < count) → ((l : List Ref) → LeavesOf f at l → HasLeaves k at (front count last' (refs k at)) (cut_to size last l)) → ((key : ℕ) → size ≤ key → FrontLeft k at (front count last' (refs k at)) size last key) → ((key : ℕ) (o : Option Ref) → key < cut_block size → Reaches f key at o → ReachesBy k key at (front count last' (refs k at)) o) → Remains f g at size last left
+cut_short f k g at size count last last' Nothing mid under stands copies short given stay leaves past before = absurd short
+cut_short f k g at size count last last' All mid under stands copies short given stay leaves past before =
     let same : k ≡ g = sym short.0 in
     let none = short.2 in
     let leaves_n : (l : List Ref) → LeavesOf f at l → HasLeaves k at (front count None (refs k at)) (cut_to size last l) = λ l hl. subst (λ z. HasLeaves k at (front count z (refs k at)) (cut_to size last l)) none (leaves l hl) in
     let past_n : (key : ℕ) → size ≤ key → FrontLeft k at (front count None (refs k at)) size last key = λ key le. subst (λ z. FrontLeft k at (front count z (refs k at)) size last key) none (past key le) in
     let before_n : (key : ℕ) (o : Option Ref) → key < cut_block size → Reaches f key at o → ReachesBy k key at (front count None (refs k at)) o = λ key o lt reached. subst (λ z. ReachesBy k key at (front count z (refs k at)) o) none (before key o lt reached) in
     subst (λ z. Cuts f z at size last × WalksUnder f z at) same (cuts_whole f k at size count last mid short.1 copies leaves_n past_n before_n, under)
-cut_short f k g at size count last last' Something mid under stands copies short given leaves past before = (cuts_front f k g at size count last last' mid short.0 leaves past before, nodes_here f k g at size count last last' under.walks mid.touched stands short.0 (inr short.1) given)
+cut_short f k g at size count last last' Something mid under stands copies short given stay leaves past before = (cuts_front f k g at size count last last' mid short.0 leaves past before, nodes_here f k g at size count last last' under.walks mid.touched stands short.0 (inr short.1) given stay)
 
 pub short_none_new : (k g : Forest) (at count : ℕ) (last : Option Ref) (left : Left) → Shortens k g at count last left → (m : ℕ) → g.stands m ≡ true → k.stands m ≡ true
 short_none_new k g at count last Nothing short m st = absurd short
@@ -282,8 +333,8 @@ root_kept f k g at size count last sound stands top cuts under whole keeps =
     let all : refs k at ≡ take count (refs k at) = sym (take_all count (refs k at) (omega (arith, whole))) in
     cuts_front f k g at size count last None (root_ready f k at size sound stands top under cuts.touched) keeps (λ l hl. subst (λ rs. HasLeaves k at rs (cut_to size last l)) all (cuts.leaves l hl)) (λ key le. let it = cuts.past key le in record { found = it.found; path = subst (λ rs. ReachesBy k key at rs it.found) all (by_path it.path); left = it.left }) (λ key o lt reached. subst (λ rs. ReachesBy k key at rs o) all (by_path (cuts.before key o lt reached)))
 
-pub root_nodes : (f k g : Forest) (at size count : ℕ) (last : Option Ref) → f.stands at ≡ true → f.root at ≡ at → WalksUnder f k at → LoadsTouched f k size size → KeepsFront k g at count None → CutsNodes f g at size last
-root_nodes f k g at size count last stands top under touched keeps = let place = (under.walks.stays at stands).place in nodes_here f k g at size count last None under.walks touched place.stands keeps (inl (place.root ∙ top)) (none_given last)
+pub root_nodes : (f k g : Forest) (at size count : ℕ) (last : Option Ref) → f.stands at ≡ true → f.root at ≡ at → WalksUnder f k at → LoadsTouched f k size size → KeepsFront k g at count None → ((i : ℕ) (x : Ref) → slice_get (refs k at) i ≡ Some x → limit x ≤ size → i < count) → CutsNodes f g at size last
+root_nodes f k g at size count last stands top under touched keeps stay = let place = (under.walks.stays at stands).place in nodes_here f k g at size count last None under.walks touched place.stands keeps (inl (place.root ∙ top)) (none_given last) stay
 
 -- A file that is given its size after that
 
@@ -302,6 +353,11 @@ nodes_sized f k g at size last nodes sizes = record {
   set = set_on nodes.node nodes.stays ∙ nodes.set;
   changes = nodes.changes;
   none_new = λ m st. nodes.none_new m (sizes.none_new m st);
+  left = λ m i x st st' read ends.
+      let was = sizes.none_new m st' in
+      let n = ap (λ (s : RefSet). length s.refs) (set_on m was) in
+      let a = nodes.left m i x st was read ends in
+      omega (arith, n, a);
   still = λ m st st'. let was = sizes.none_new m st' in InPlace-trans nodes.walked k g m (nodes.still m st was) (place_on m was);
   exact = λ m i r st st' ne read lt off.
       let was = sizes.none_new m st' in

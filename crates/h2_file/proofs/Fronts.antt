@@ -122,7 +122,7 @@ reaches_keeps f g P closed keep {key = key} p (below {at = n} {c = c} {r = r} i 
 
 -- Its first references
 
-front_length : (count : ℕ) (last : Option Ref) (rs : List Ref) → length (front count last rs) ≡ min count (length rs)
+pub front_length : (count : ℕ) (last : Option Ref) (rs : List Ref) → length (front count last rs) ≡ min count (length rs)
 front_length count None rs = length-take count rs
 front_length count (Some q) rs = length-slice_set (take count rs) (count - 1) q ∙ length-take count rs
 

@@ -140,6 +140,8 @@ pub record CutsNodes (f g : Forest) (at size : ℕ) (last : Option Ref) : Type 0
   pub set : let s = walked.set node in g.set node ≡ record { refs = front count put s.refs; capacity = s.capacity }
   pub changes : (walked.root node ≡ node) ⊎ IsChanged (refs walked node) count put
   pub none_new : (m : ℕ) → g.stands m ≡ true → walked.stands m ≡ true
+  -- each reference that ends by the size is left
+  pub left : (m i : ℕ) (r : Ref) → walked.stands m ≡ true → g.stands m ≡ true → slice_get (refs walked m) i ≡ Some r → limit r ≤ size → i < length (refs g m)
   pub still : (m : ℕ) → walked.stands m ≡ true → g.stands m ≡ true → InPlace walked g m
   -- no reference changes but on the way to the node
   pub exact : (m i : ℕ) (r : Ref) → walked.stands m ≡ true → g.stands m ≡ true → (m ≡ node → ⊥) → slice_get (refs walked m) i ≡ Some r → i < length (refs g m) → (OnWay walked m r node → ⊥) → slice_get (refs g m) i ≡ Some r
@@ -153,7 +155,7 @@ pub record CutsNodes (f g : Forest) (at size : ℕ) (last : Option Ref) : Type 0
 -- What a cut leaves of the tree below a node: the references below the size, which may be all, or, where there is none,
 -- all as it was. Only where some go or one is replaced has anything changed.
 abbrev pub Remains : Forest → Forest → ℕ → ℕ → Option Ref → Left → Type 0
-Remains f g at size last Nothing = WalksUnder f g at × LoadsTouched f g size size × ((l : List Ref) → LeavesOf f at l → cut_to size last l ≡ []) × ((key : ℕ) (o : Option Ref) → key < size → Reaches f key at o → o ≡ None)
+Remains f g at size last Nothing = WalksUnder f g at × LoadsTouched f g size size × ((l : List Ref) → LeavesOf f at l → cut_to size last l ≡ []) × ((key : ℕ) (o : Option Ref) → key < size → Reaches f key at o → o ≡ None) × ((i : ℕ) (r : Ref) → slice_get (refs f at) i ≡ Some r → limit r ≤ size → ⊥)
 Remains f g at size last All = Cuts f g at size last × WalksUnder f g at
 Remains f g at size last Something = Cuts f g at size last × CutsNodes f g at size last
 
