@@ -1,5 +1,5 @@
 -- Which nodes a cut changes.
-use Rattle.std.proofs.Common.{◌≡◌, ℕ, ◌+◌, ◌-◌, ◌%◌, ◌<◌, ◌≤◌, ◌^◌, true, false, arith, refl, sym, ◌∙◌, ap, List, length, Option, Some, None, subst, ◌⊎◌, inl, inr, slice_get, take, min}
+use Rattle.std.proofs.Common.{◌≡◌, ℕ, ◌+◌, ◌-◌, ◌<◌, ◌≤◌, ◌^◌, true, arith, refl, sym, ◌∙◌, ap, List, length, Option, Some, None, subst, ◌⊎◌, inl, inr, slice_get, take, min}
 use Rattle.std.proofs.lemmas.Nat.{pow_pos}
 use Rattle.std.proofs.lemmas.Bool.{cases_lt}
 use Rattle.std.proofs.lemmas.Option.{none-some, slice_get_within}
@@ -8,7 +8,7 @@ use Rattle.h2_ref.specs.declared.reference.Ref.{Ref}
 use Rattle.h2_set.specs.Ranges.{limit, holds, is_indirect, leads_on}
 use Rattle.h2_set.specs.RefSet.{RefSet}
 use Rattle.h2_set.specs.Forest.{Forest, refs, loaded, HasLeaves, LeavesOf, IsChild, IsSoundNode, IsSound, InPlace, Keeps, Walks, OnWay, inside, across, IsAbove, itself, by, Reaches, nowhere, here, below}
-use Rattle.h2_set.specs.StayLaws.{Fixed-trans, InPlace-trans, Walks-trans}
+use Rattle.h2_set.specs.StayLaws.{InPlace-trans, Walks-trans}
 use Rattle.h2_set.specs.LeafLaws.{holds_inside}
 use Rattle.h2_set.specs.PathLaws.{in_holds}
 use Rattle.h2_set.specs.ChangeLaws.{same_or_not}

@@ -1,4 +1,4 @@
-use Rattle.std.proofs.Common.{subst, ap, length, sym, slice_get, arith, ◌∙◌, ◌<◌}
+use Rattle.std.proofs.Common.{subst, ap, length, sym, slice_get, arith, ◌∙◌}
 use Rattle.std.proofs.lemmas.Option.{slice_get_within}
 use Rattle.h2_set.specs.RefSet.{RefSet}
 use Rattle.h2_set.specs.Forest.{refs}
