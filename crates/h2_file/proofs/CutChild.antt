@@ -165,17 +165,17 @@ module _ (f h : Forest) (at i size : ℕ) (r : Ref) (sound : IsSound f) (stands 
       link_k : k.link at r.key ≡ loaded c
       link_k = kept.link r.key ∙ link
 
-      none_to_copy : k.copies at ≡ 0
-      none_to_copy = (let kid = (cuts.sound.node at kept.place.stands).child r.key c link_k in let e = kid.copies in let z = cuts.copies in omega (arith, e, z))
+      pub none_to_copy : k.copies c ≡ 0 → k.copies at ≡ 0
+      none_to_copy none_c = (let kid = (cuts.sound.node at kept.place.stands).child r.key c link_k in let e = kid.copies in omega (arith, e, none_c))
 
-      pub ready_cut : Readied f k at size
-      ready_cut = readied k cuts.sound cuts.fixed kept.place cuts.tree cuts.above cuts.still cuts.touched (let e = none_to_copy in let room = cuts.room in omega (arith, e, room)) cuts.room_falls cuts.spare
+      pub ready_cut : k.copies c ≡ 0 → Readied f k at size
+      ready_cut none_c = readied k cuts.sound cuts.fixed kept.place cuts.tree cuts.above cuts.still cuts.touched (let e = none_to_copy none_c in let room = cuts.room in omega (arith, e, room)) cuts.room_falls cuts.spare
 
       pub stands_cut : k.stands at ≡ true
       stands_cut = kept.place.stands
 
-      pub copies_cut : k.copies at ≤ k.room
-      copies_cut = (let e = none_to_copy in omega (arith, e))
+      pub copies_cut : k.copies c ≡ 0 → k.copies at ≤ k.room
+      copies_cut none_c = (let e = none_to_copy none_c in omega (arith, e))
 
       pub length_cut : 0 < length (refs k at)
       length_cut = (let n = Alike-length (refs h at) (refs k at) kept.alike in let within = slice_get_within (refs h at) i r read_h in omega (arith, n, within))

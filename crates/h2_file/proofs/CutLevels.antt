@@ -129,8 +129,6 @@ cuts_front f k g at size count last last' mid keeps leaves past before = record 
       Renews-trans f k g m first (keeps.above m first.place.stands (λ e. root (sym first.place.root ∙ e ∙ mid.place.root)));
   still = λ m st st'. InPlace-trans f k g m (mid.still m st (keeps.none_new m st')) (keeps.still m st');
   touched = Touched-on f k g size size (λ m was st. keeps.still m st) mid.touched (record { only = λ m st. inl (keeps.none_new m st) });
-  writable = keeps.writable;
-  copies = keeps.copies;
   room = omega (arith, mid.room, keeps.room);
   room_falls = omega (arith, mid.room_falls, keeps.room);
   spare = keeps.spare ∙ mid.spare;
@@ -403,19 +401,19 @@ beside_over f h k g a b c d still none_new first second third = record { same = 
 
 -- At a root, where nothing is below the size: all its references go
 
+pub root_ready : (f k : Forest) (at size : ℕ) → IsSound f → f.stands at ≡ true → f.root at ≡ at → WalksUnder f k at → LoadsTouched f k size size → Readied f k at size
+root_ready f k at size sound stands top under touched = (let walks = under.walks in let copies = walks.copies at stands in let zero_is = (sound.node at stands).top top in let room = walks.room in record {
+  sound = walks.sound;
+  fixed = walks.fixed;
+  place = (walks.stays at stands).place;
+  tree = λ m st root out. under.keeps m st (λ root' u. out u);
+  above = λ m st root. Keeps-Renews f k m (under.keeps m st (λ root' u. root root'));
+  still = λ m st st'. (walks.stays m st).place;
+  touched = touched;
+  room = omega (arith, copies, zero_is, room);
+  room_falls = omega (arith, room);
+  spare = walks.spare;
+})
+
 pub root_cut : (f k g : Forest) (at size : ℕ) (last : Option Ref) → IsSound f → f.stands at ≡ true → f.root at ≡ at → WalksUnder f k at → LoadsTouched f k size size → ((l : List Ref) → LeavesOf f at l → cut_to size last l ≡ []) → ((key : ℕ) (o : Option Ref) → key < size → Reaches f key at o → o ≡ None) → KeepsFront k g at 0 None → Cuts f g at size last
-root_cut f k g at size last sound stands top under touched none clear keeps = cuts_front f k g at size 0 last None ready keeps (λ l hl. subst (λ z. HasLeaves k at (take 0 (refs k at)) z) (sym (none l hl)) done) (λ key le. nothing_left k at (take 0 (refs k at)) size last key (λ i r read. absurd (none-some r read))) (λ key o lt reached. subst (λ x. ReachesBy k key at (take 0 (refs k at)) x) (sym (clear key o (let b = block_le size in omega (arith, b, lt)) reached)) (misses (λ i r read. absurd (none-some r read))))
-  where
-    ready : Readied f k at size
-    ready = (let walks = under.walks in let copies = walks.copies at stands in let zero_is = (sound.node at stands).top top in let room = walks.room in record {
-      sound = walks.sound;
-      fixed = walks.fixed;
-      place = (walks.stays at stands).place;
-      tree = λ m st root out. under.keeps m st (λ root' u. out u);
-      above = λ m st root. Keeps-Renews f k m (under.keeps m st (λ root' u. root root'));
-      still = λ m st st'. (walks.stays m st).place;
-      touched = touched;
-      room = omega (arith, copies, zero_is, room);
-      room_falls = omega (arith, room);
-      spare = walks.spare;
-    })
+root_cut f k g at size last sound stands top under touched none clear keeps = cuts_front f k g at size 0 last None (root_ready f k at size sound stands top under touched) keeps (λ l hl. subst (λ z. HasLeaves k at (take 0 (refs k at)) z) (sym (none l hl)) done) (λ key le. nothing_left k at (take 0 (refs k at)) size last key (λ i r read. absurd (none-some r read))) (λ key o lt reached. subst (λ x. ReachesBy k key at (take 0 (refs k at)) x) (sym (clear key o (let b = block_le size in omega (arith, b, lt)) reached)) (misses (λ i r read. absurd (none-some r read))))

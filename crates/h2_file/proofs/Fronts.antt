@@ -9,7 +9,7 @@ use Rattle.h2_ref.specs.declared.reference.Kind.{Kind}
 use Rattle.h2_ref.specs.declared.reference.Kind.TheVariants.{Inode, Content}
 use Rattle.h2_set.specs.Ranges.{Rising, limit, holds, is_indirect, leads_on}
 use Rattle.h2_set.specs.RefSet.{RefSet}
-use Rattle.h2_set.specs.Forest.{Forest, refs, loaded, HasLeaves, KeepsLeaves, Fits, IsSoundNode, IsSound, InPlace, Stays, Keeps, IsAlike, Alters, Stores, Storable, GoesBelow, GoesWith, OnWay, inside, across, Reaches, nowhere, here, below}
+use Rattle.h2_set.specs.Forest.{Forest, refs, loaded, HasLeaves, KeepsLeaves, Fits, IsSoundNode, IsSound, InPlace, Stays, Keeps, IsAlike, Alters, Stores, Storable, Same, AllRenewed, GoesBelow, GoesWith, OnWay, inside, across, IsAbove, itself, by, Reaches, nowhere, here, below}
 use Rattle.h2_set.specs.StayLaws.{Alike-refl, Fixed-trans, InPlace-trans, leaves_stay}
 use Rattle.h2_set.specs.LeafLaws.{holds_inside, place_above}
 use Rattle.h2_set.specs.EditLaws.{Rising-set, length-slice_set}
@@ -59,6 +59,22 @@ altered_place f h at alters m st = elim (same_or_not (f.root m) (f.root at)) as 
   | inr differs ↦ (alters.above m st differs).place
 ]
 
+renewed_length : (rs qs : List Ref) → AllRenewed rs qs → length qs ≡ length rs
+renewed_length [] [] a = refl
+renewed_length [] (q ∷ qs) a = absurd a
+renewed_length (r ∷ rs) [] a = absurd a
+renewed_length (r ∷ rs) (q ∷ qs) a = ap suc (renewed_length rs qs a.1)
+
+altered_length : (f h : Forest) (at : ℕ) → Alters f h at → (m : ℕ) → f.stands m ≡ true → length (refs h m) ≡ length (refs f m)
+altered_length f h at alters m st = elim (same_or_not (f.root m) (f.root at)) as (λ _. length (refs h m) ≡ length (refs f m)) [
+  | inl same ↦ Alike-length (refs f m) (refs h m) (alters.tree m st same).alike
+  | inr differs ↦ renewed_length (refs f m) (refs h m) (alters.above m st differs).renewed
+]
+
+-- the set of a node that isn't above the one that is altered stays
+off_set : (f h : Forest) (at m : ℕ) → f.stands m ≡ true → Alters f h at → (IsAbove f m at → ⊥) → h.set m ≡ f.set m
+off_set f h at m st alters off = same_set (h.set m) (f.set m) (same_list (refs f m) (refs h m) (altered_length f h at alters m st) (λ i r read. alters.exact m i r st read (λ way. off (by i r read way)))) (alters.capacity m st)
+
 -- A file's tree holds content alone, to which nothing belongs
 
 -- a leaf that is reached is one that the tree may have
@@ -106,7 +122,7 @@ reaches_keeps f g P closed keep {key = key} p (below {at = n} {c = c} {r = r} i 
 
 -- Its first references
 
-front_length : (count : ℕ) (last : Option Ref) (rs : List Ref) → length (front count last rs) ≡ min count (length rs)
+pub front_length : (count : ℕ) (last : Option Ref) (rs : List Ref) → length (front count last rs) ≡ min count (length rs)
 front_length count None rs = length-take count rs
 front_length count (Some q) rs = length-slice_set (take count rs) (count - 1) q ∙ length-take count rs
 
@@ -212,6 +228,12 @@ module _ (f h : Forest) (at count : ℕ) (last : Option Ref) (sound : IsSound f)
     others : (m : ℕ) → h.stands m ≡ true → (m ≡ at → ⊥) → (GoesBelow h m at s → ⊥) → Keeps h g m
     others m st ne not_below = Same-Keeps h g m (stores.others m st ne not_below (nothing_goes h at s alters.sound holds_h m st))
 
+    -- a node that still stands is the same
+    same_on : (m : ℕ) → f.stands m ≡ true → g.stands m ≡ true → (m ≡ at → ⊥) → Same h g m
+    same_on m st st' ne =
+        let there = (altered_place f h at alters m st).stands in
+        stores.others m there ne (λ goes. let clash : true ≡ false = sym st' ∙ stores.gone m there (inl goes) in cc) (nothing_goes h at s alters.sound holds_h m there)
+
     -- the nodes below a reference
     abbrev BelowRef : Ref → ℕ → Type 0
     BelowRef r m = (h.stands m ≡ true) × (h.root m ≡ h.root at) × (r.key ≤ h.low m) × (h.low m + 2 ^ h.bits m ≤ limit r) × (h.bits m < h.bits at)
@@ -300,6 +322,21 @@ module _ (f h : Forest) (at count : ℕ) (last : Option Ref) (sound : IsSound f)
             | inl e ↦ InPlace-trans f h g m first (subst (InPlace h g) (sym e) stores.place)
             | inr ne ↦ InPlace-trans f h g m first (others m there ne (λ goes. let clash : true ≡ false = sym st ∙ stores.gone m there (inl goes) in cc)).place
           ];
+      set = stores.set ∙ ap (λ (t : RefSet). let w : RefSet = record { refs = front count last t.refs; capacity = t.capacity } in w) same;
+      below = λ m i r st root fewer read ind low high.
+          let place = (alters.tree m st root).place in
+          let own = here_at.place in
+          let read_h : slice_get s.refs i ≡ Some r = subst (λ (t : RefSet). slice_get (front count last t.refs) i ≡ Some r) (sym same) read in
+          (keeps_below i r read_h ind m (place.stands, place.root ∙ root ∙ sym own.root, omega (arith, low, place.low), omega (arith, high, place.low, ap (λ z. 2 ^ z) place.bits), omega (arith, fewer, place.bits, own.bits))).place.stands;
+      exact = λ m i r st st' ne read off. subst (λ (t : RefSet). slice_get t.refs i ≡ Some r) (sym (same_on m st st' ne).set) (alters.exact m i r st read off);
+      lengths = λ m st st' ne. ap (λ (t : RefSet). length t.refs) (same_on m st st' ne).set ∙ altered_length f h at alters m st;
+      others = λ m st st' off.
+          let it = same_on m st st' (λ e. off (itself e)) in
+          (it.set ∙ off_set f h at m st alters off, it.writable ∙ alters.others m st off);
+      made = λ m st st' way. elim (same_or_not m at) as (λ _. g.writable m ≡ true) [
+        | inl e ↦ subst (λ z. g.writable z ≡ true) (sym e) (stores.place.writable alters.writable)
+        | inr ne ↦ (same_on m st st' ne).place.writable (alters.made m st way)
+      ];
       writable = stores.place.writable alters.writable;
       copies = stores.copies ∙ alters.copies;
       room = omega (arith, alters.room, stores.room);

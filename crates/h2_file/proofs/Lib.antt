@@ -3,5 +3,6 @@ mod Parts
 mod Fronts
 mod CutLevels
 mod CutChild
+mod CutNodes
 mod Sized
 mod Held

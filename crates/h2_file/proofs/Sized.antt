@@ -17,7 +17,8 @@ use Rattle.h2_inode.specs.Nodes.{Fields, fields_of, set_of, bytes_of, leaf_kind,
 use Rattle.h2_inode.specs.NodeLaws.{storable_replaceable}
 use Rattle.h2_file.specs.Blocks.{IsFileOfRefs, HasContents}
 use Rattle.h2_file.specs.Sizing.{IsResized, HasResized, Sizes}
-use Rattle.h2_file.specs.Cutting.{Cuts, CutsFile, cut_to}
+use Rattle.h2_file.specs.Cutting.{Cuts, CutsNodes, CutsFile, cut_to}
+use Rattle.h2_file.proofs.CutNodes.{nodes_sized}
 use Rattle.h2_file.proofs.CutLevels.{Touched-on}
 
 some_same : {X : Type 0} {x y : X} → Some x ≡ Some y → x ≡ y
@@ -182,13 +183,14 @@ module _ (f : Forest) (holds : ℕ → Option Fields) (at size : ℕ) (sound : I
 
 -- A file that was cut, and then given its size
 
-pub cuts_file : (f k g : Forest) (at size : ℕ) (last : Option Ref) → IsSound f → f.stands at ≡ true → f.root at ≡ at → Cuts f k at size last → Sizes k g at → CutsFile f g at size last
-cuts_file f k g at size last sound stands top cuts sizes = record {
+pub cuts_file : (f k g : Forest) (at size : ℕ) (last : Option Ref) → IsSound f → f.stands at ≡ true → f.root at ≡ at → Cuts f k at size last → CutsNodes f k at size last → Sizes k g at → CutsFile f g at size last
+cuts_file f k g at size last sound stands top cuts nodes sizes = record {
   sound = sizes.sound;
   leaves = λ l hl. sizes.leaves (cut_to size last l) (cuts.leaves l hl);
   before = λ key o lt reached. sizes.paths key o (cuts.before key o lt reached);
   past = λ key le. let it = cuts.past key le in record { found = it.found; path = sizes.paths key it.found it.path; left = it.left };
   place = InPlace-trans f k g at cuts.place sizes.place;
+  nodes = nodes_sized f k g at size last nodes sizes;
   others = λ m st root.
       let first = cuts.above m st (λ e. root (e ∙ top)) in
       Renews-trans f k g m first (Keeps-Renews k g m (Same-Keeps k g m (sizes.others m first.place.stands (λ e. root (subst (λ z. f.root z ≡ at) (sym e) top)))));
@@ -201,7 +203,7 @@ cuts_file f k g at size last sound stands top cuts sizes = record {
   epoch = sizes.epoch ∙ cuts.fixed.epoch;
   failed = omega (arith, sizes.failed, cuts.fixed.failed);
   bad = omega (arith, sizes.bad, cuts.fixed.bad);
-  writable = sizes.place.writable cuts.writable;
+  writable = sizes.place.writable nodes.writable;
   room = omega (arith, sizes.room, cuts.room);
   room_falls = omega (arith, sizes.room, cuts.room_falls);
   spare = sizes.spare ∙ cuts.spare;

@@ -1,13 +1,13 @@
 -- What cutting a file to a size does to the references of its contents.
-use Rattle.std.specs.Prelude.{◌≡◌, ◌<◌, ◌≤◌, ◌+◌, ◌-◌, ◌*◌, ◌/◌, ◌==◌, nat_lt, ℕ, true, false, List, [], Option, Some, None, filter, map, take, slice_get, slice_set, if◌then◌else◌}
+use Rattle.std.specs.Prelude.{◌≡◌, ◌⊎◌, ◌<◌, ◌≤◌, ◌+◌, ◌-◌, ◌*◌, ◌/◌, ◌^◌, ◌==◌, nat_lt, ℕ, true, false, List, [], Option, Some, None, filter, map, take, length, slice_get, slice_set, if◌then◌else◌}
 use Rattle.h2_ref.specs.declared.reference.Ref.{Ref}
 use Rattle.h2_ref.specs.declared.reference.Kind.TheVariants.{Content}
 use Rattle.h2_set.specs.Ranges.{limit, holds, NoneHolds, IsAligned, is_indirect}
 use Rattle.h2_set.specs.SetBytes.{IsHeld}
-use Rattle.h2_set.specs.Forest.{Forest, refs, loaded, IsSound, HasLeaves, LeavesOf, Fixed, InPlace, Keeps, Renews, Reaches}
-use Rattle.h2_tree.specs.Changes.{Under, LoadsTouched, WalksUnder}
+use Rattle.h2_set.specs.Forest.{Forest, refs, loaded, IsSound, HasLeaves, LeavesOf, Fixed, InPlace, Keeps, Renews, Reaches, Walks, OnWay, IsAbove}
+use Rattle.h2_tree.specs.Changes.{Under, LoadsTouched, WalksUnder, Descends}
 use Rattle.h2_file.specs.declared.cutting.Left.{Left}
-use Rattle.h2_file.specs.declared.cutting.Left.TheVariants.{Nothing, Something}
+use Rattle.h2_file.specs.declared.cutting.Left.TheVariants.{Nothing, All, Something}
 
 -- where the block begins in which a cut to the size ends
 abbrev pub cut_block : ℕ → ℕ
@@ -64,6 +64,10 @@ pub record LeadsLeft (f : Forest) (at size : ℕ) (last : Option Ref) (key : ℕ
   pub path : Reaches f key at found
   pub left : IsLeft size last found
 
+-- not all of the references are left as they are: some go, or one is put in place of another
+abbrev pub IsChanged : List Ref → ℕ → Option Ref → Type 0
+IsChanged rs count put = (count < length rs) ⊎ ((q : Ref) × (put ≡ Some q))
+
 -- Node at has its first references alone, and the last one; other nodes of its tree keep theirs, but for what is below
 -- those that it lost.
 pub record KeepsFront (f g : Forest) (at count : ℕ) (last : Option Ref) : Type 0 where
@@ -76,10 +80,25 @@ pub record KeepsFront (f g : Forest) (at count : ℕ) (last : Option Ref) : Type
   pub above : (m : ℕ) → f.stands m ≡ true → (f.root m ≡ f.root at → ⊥) → Renews f g m
   pub none_new : (m : ℕ) → g.stands m ≡ true → f.stands m ≡ true
   pub still : (m : ℕ) → g.stands m ≡ true → InPlace f g m
+  pub set : let s = f.set at in g.set at ≡ record { refs = front count last s.refs; capacity = s.capacity }
+  -- what is below the references that are left stands
+  pub below : (m i : ℕ) (r : Ref) → f.stands m ≡ true → f.root m ≡ f.root at → f.bits m < f.bits at → slice_get (front count last (refs f at)) i ≡ Some r → is_indirect r ≡ true → r.key ≤ f.low m → f.low m + 2 ^ f.bits m ≤ limit r → g.stands m ≡ true
+  -- a reference of another node that doesn't lead to the node is the same
+  pub exact : (m i : ℕ) (r : Ref) → f.stands m ≡ true → g.stands m ≡ true → (m ≡ at → ⊥) → slice_get (refs f m) i ≡ Some r → (OnWay f m r at → ⊥) → slice_get (refs g m) i ≡ Some r
+  pub lengths : (m : ℕ) → f.stands m ≡ true → g.stands m ≡ true → (m ≡ at → ⊥) → length (refs g m) ≡ length (refs f m)
+  -- what isn't above the node has its set, and is as writable as before
+  pub others : (m : ℕ) → f.stands m ≡ true → g.stands m ≡ true → (IsAbove f m at → ⊥) → (g.set m ≡ f.set m) × (g.writable m ≡ f.writable m)
+  pub made : (m : ℕ) → f.stands m ≡ true → g.stands m ≡ true → IsAbove f m at → g.writable m ≡ true
   pub writable : g.writable at ≡ true
   pub copies : g.copies at ≡ 0
   pub room : g.room + f.copies at ≡ f.room
   pub spare : g.spare ≡ f.spare
+
+-- what leaving node at its first references comes to: where that are all, nothing has changed
+abbrev pub Shortens : Forest → Forest → ℕ → ℕ → Option Ref → Left → Type 0
+Shortens f g at count last Nothing = ⊥
+Shortens f g at count last All = (g ≡ f) × (count ≡ length (refs f at)) × (last ≡ None)
+Shortens f g at count last Something = KeepsFront f g at count last × IsChanged (refs f at) count last
 
 -- The references at or past the size are out of the list of node at, the last one is in it in place of the one with its
 -- key, and other nodes keep theirs.
@@ -98,19 +117,51 @@ pub record Cuts (f g : Forest) (at size : ℕ) (last : Option Ref) : Type 0 wher
   pub still : (m : ℕ) → f.stands m ≡ true → g.stands m ≡ true → InPlace f g m
   -- no node off the path of the size was loaded
   pub touched : LoadsTouched f g size size
-  pub writable : g.writable at ≡ true
-  pub copies : g.copies at ≡ 0
   pub room : f.room ≤ g.room + 62
   pub room_falls : g.room ≤ f.room
   pub spare : g.spare ≡ f.spare
 
--- what a cut leaves of the tree below a node: the references below the size, or, where there is none, all as it was
+-- Which nodes a cut changes: once the path of the size was loaded, the set of one node on it, and nodes above that one.
+-- It is a node of which something goes or is replaced, or the root, which is written for the size in any case. The room
+-- is lowered by the nodes from it up to below the root that weren't writable.
+pub record CutsNodes (f g : Forest) (at size : ℕ) (last : Option Ref) : Type 0 where
+  -- after the loads
+  pub walked : Forest
+  pub walks : Walks f walked
+  -- no node off the path of the size was loaded
+  pub touched : LoadsTouched f walked size size
+  pub node : ℕ
+  pub stands : walked.stands node ≡ true
+  pub way : Descends walked size at node
+  pub stays : g.stands node ≡ true
+  pub count : ℕ
+  pub put : Option Ref
+  pub given : (q : Ref) → put ≡ Some q → last ≡ Some q
+  pub set : let s = walked.set node in g.set node ≡ record { refs = front count put s.refs; capacity = s.capacity }
+  pub changes : (walked.root node ≡ node) ⊎ IsChanged (refs walked node) count put
+  pub none_new : (m : ℕ) → g.stands m ≡ true → walked.stands m ≡ true
+  -- each reference that ends by the size is left
+  pub left : (m i : ℕ) (r : Ref) → walked.stands m ≡ true → g.stands m ≡ true → slice_get (refs walked m) i ≡ Some r → limit r ≤ size → i < length (refs g m)
+  pub still : (m : ℕ) → walked.stands m ≡ true → g.stands m ≡ true → InPlace walked g m
+  -- no reference changes but on the way to the node
+  pub exact : (m i : ℕ) (r : Ref) → walked.stands m ≡ true → g.stands m ≡ true → (m ≡ node → ⊥) → slice_get (refs walked m) i ≡ Some r → i < length (refs g m) → (OnWay walked m r node → ⊥) → slice_get (refs g m) i ≡ Some r
+  -- what isn't above the node has its set, and is as writable as before
+  pub others : (m : ℕ) → walked.stands m ≡ true → g.stands m ≡ true → (IsAbove walked m node → ⊥) → (g.set m ≡ walked.set m) × (g.writable m ≡ walked.writable m)
+  pub made : (m : ℕ) → walked.stands m ≡ true → g.stands m ≡ true → IsAbove walked m node → g.writable m ≡ true
+  pub writable : g.writable at ≡ true
+  pub copies : g.copies at ≡ 0
+  pub room : g.room + walked.copies node ≡ f.room
+
+-- What a cut leaves of the tree below a node: the references below the size, which may be all, or, where there is none,
+-- all as it was. Only where some go or one is replaced has anything changed.
 abbrev pub Remains : Forest → Forest → ℕ → ℕ → Option Ref → Left → Type 0
-Remains f g at size last Nothing = WalksUnder f g at × LoadsTouched f g size size × ((l : List Ref) → LeavesOf f at l → cut_to size last l ≡ []) × ((key : ℕ) (o : Option Ref) → key < size → Reaches f key at o → o ≡ None)
-Remains f g at size last Something = Cuts f g at size last
+Remains f g at size last Nothing = WalksUnder f g at × LoadsTouched f g size size × ((l : List Ref) → LeavesOf f at l → cut_to size last l ≡ []) × ((key : ℕ) (o : Option Ref) → key < size → Reaches f key at o → o ≡ None) × ((i : ℕ) (r : Ref) → slice_get (refs f at) i ≡ Some r → limit r ≤ size → ⊥)
+Remains f g at size last All = Cuts f g at size last × WalksUnder f g at
+Remains f g at size last Something = Cuts f g at size last × CutsNodes f g at size last
 
 -- The references at or past the size are out of the file's list, and the last one is in it in place of the one with its
--- key. What stands before and after stands where it stood; in other trees references to what changed name other blocks.
+-- key. What stands before and after stands where it stood; in other trees references on the way to what changed, and no
+-- others, name other blocks.
 pub record CutsFile (f g : Forest) (at size : ℕ) (last : Option Ref) : Type 0 where
   pub sound : IsSound g
   pub leaves : (l : List Ref) → LeavesOf f at l → LeavesOf g at (cut_to size last l)
@@ -119,6 +170,8 @@ pub record CutsFile (f g : Forest) (at size : ℕ) (last : Option Ref) : Type 0 
   -- all paths from the size on are loaded now
   pub past : (key : ℕ) → size ≤ key → LeadsLeft g at size last key
   pub place : InPlace f g at
+  -- which nodes change, and which references of others
+  pub nodes : CutsNodes f g at size last
   pub others : (m : ℕ) → f.stands m ≡ true → (f.root m ≡ at → ⊥) → Renews f g m
   pub still : (m : ℕ) → f.stands m ≡ true → g.stands m ≡ true → InPlace f g m
   -- no node off the path of the size was loaded

@@ -11,7 +11,7 @@ ghost use Rattle.h2_contents.specs.Bytes.{cut_to as bytes_to};
 ghost use Rattle.h2_file.specs.Blocks.{IsFileOfRefs, HasContents};
 ghost use Rattle.h2_file.specs.FileContents.{FileHas, EndsIn};
 ghost use Rattle.h2_file.specs.Sizing.{HasResized};
-ghost use Rattle.h2_file.specs.Cutting.{IsCutBlock, cut_to, front, FitsLast, KeepsFront, Cuts, CutsFile, Remains};
+ghost use Rattle.h2_file.specs.Cutting.{IsCutBlock, cut_to, front, FitsLast, IsChanged, KeepsFront, Shortens, Cuts, CutsNodes, CutsFile, Remains};
 ghost use Rattle.h2_file.specs.declared.cutting.Left.{Left};
 
 use crate::sizing::set_size;
@@ -25,7 +25,9 @@ use std::alloc::Global;
 pub(crate) enum Left {
     /// Nothing would be left, and nothing has changed: the reference to the node has to go.
     Nothing,
-    /// The references below the size.
+    /// All of them, and nothing has changed: the node stays as it is, and isn't copied.
+    All,
+    /// The references below the size, which are fewer, or of which one was replaced.
     Something,
 }
 
@@ -83,7 +85,40 @@ fn keep_front<N: Sets>(n: &mut N, at: NodeId, count: usize, last: Option<Ref>)
     n.store(at, set);
 }
 
-// Takes the references at or past the size out of the tree below a node, unless none would be left.
+// Whether the first references are all of a set, and none is put in place of the last of them.
+fn is_whole(set: &Set, count: usize, last: Option<Ref>) -> bool
+    requires { count ≤ length set.now.refs }
+    ensures yes { result ≡ true → (count ≡ length set.now.refs) × (last ≡ None) }
+    ensures no { result ≡ false → IsChanged set.now.refs count last }
+{
+    match last {
+        None => count == set.len(),
+        Some(_) => false,
+    }
+}
+
+// Leaves a node its first references, as `keep_front`. Where these are all and none is replaced, nothing changes: a node
+// is copied only when it is changed.
+fn shorten<N: Sets>(n: &mut N, at: NodeId, count: usize, last: Option<Ref>) -> Left
+    requires sound { IsSound (N.forest n.old) }
+    requires stands { let f = N.forest n.old in f.stands at.0 ≡ true }
+    requires room { let f = N.forest n.old in f.copies at.0 ≤ f.room }
+    requires contents { HasContents (N.forest n.old) at.0 }
+    requires within { (0 < count) × (count ≤ length (refs (N.forest n.old) at.0)) }
+    requires last { IfSome last (FitsLast (refs (N.forest n.old) at.0) count) }
+    ensures shortens { Shortens (N.forest n.old) (N.forest n.new) at.0 count last result }
+    ensures beside { KeepsBeside (N.forest n.old) (N.forest n.new) (N.beside n.old) (N.beside n.new) }
+    ensures later { N.later n.old n.new }
+{
+    if is_whole(n.get(at), count, last) {
+        return Left::All;
+    }
+    keep_front(n, at, count, last);
+    Left::Something
+}
+
+// Takes the references at or past the size out of the tree below a node, unless none would be left. Nothing but loads
+// takes place where all are left.
 fn cut_below<N: Sets>(
     alloc: Global,
     n: &mut N,
@@ -111,16 +146,15 @@ fn cut_below<N: Sets>(
     }
     let r = *set.at(count - 1);
     if !holds(&r, size) {
-        keep_front(n, at, count, None);
-        return Ok(Left::Something);
+        return Ok(shorten(n, at, count, None));
     }
     if !is_indirect(&r) {
-        keep_front(n, at, count, last);
-        return Ok(Left::Something);
+        return Ok(shorten(n, at, count, last));
     }
     let child = n.child(alloc, at, count - 1)?;
     match cut_below(alloc, n, child, size, last)? {
         Left::Something => keep_front(n, at, count, None),
+        Left::All => return Ok(shorten(n, at, count, None)),
         Left::Nothing => {
             if count == 1 {
                 return Ok(Left::Nothing);
@@ -131,7 +165,7 @@ fn cut_below<N: Sets>(
     Ok(Left::Something)
 }
 
-// Takes the references at or past the size out of the tree of a root.
+// Takes the references at or past the size out of the tree of a root, which is made writable in any case.
 fn cut_tree<N: Sets>(
     alloc: Global,
     n: &mut N,
@@ -146,6 +180,7 @@ fn cut_tree<N: Sets>(
     requires contents { HasContents (N.forest n.old) root.0 }
     requires last { IfSome last (IsCutBlock size) }
     ensures cuts { OnOk result (Cuts (N.forest n.old) (N.forest n.new) root.0 size last) }
+    ensures nodes { OnOk result (CutsNodes (N.forest n.old) (N.forest n.new) root.0 size last) }
     ensures walks { OnErr result (Walks (N.forest n.old) (N.forest n.new)) }
     ensures err { IfErr result (HasCause (N.forest n.old) (N.forest n.new)) }
     ensures touched { OnErr result (LoadsTouched (N.forest n.old) (N.forest n.new) size size) }
@@ -155,6 +190,11 @@ fn cut_tree<N: Sets>(
 {
     match cut_below(alloc, n, root, size, last)? {
         Left::Something => Ok(()),
+        Left::All => {
+            let count = n.get(root).len();
+            keep_front(n, root, count, None);
+            Ok(())
+        }
         Left::Nothing => {
             keep_front(n, root, 0, None);
             Ok(())
@@ -164,7 +204,8 @@ fn cut_tree<N: Sets>(
 
 /// Cuts a file to a size: takes out every content reference at or past it, puts `last`, where it is given, in place of
 /// the reference of the block that the cut ends in, where there is one, and sets the size. The file's body is
-/// references. A node that lies wholly past the size goes without being made writable. The room is at least 62, and is
+/// references. A node that lies wholly past the size goes without being made writable, and one of which nothing goes, nor
+/// below it, stays as it is: only the root, which has the size, is written in any case. The room is at least 62, and is
 /// lowered by the number of nodes that are copied. Trouble only where a node on the path of the size isn't loaded;
 /// nothing but loads took place then.
 pub fn cut_blocks<N: Nodes>(

@@ -7,7 +7,8 @@
 //! The blocks are named by content references in the file's tree, over any [`Nodes`](h2_inode::Nodes). `read_block`
 //! finds the one that holds a byte, and `cut_blocks` takes out those from a size on. What they say of a file's list of
 //! references, where it is known, is `find` and `cut_to` (`specs/Cutting`), of its bytes `FileHas`
-//! (`specs/FileContents`), and of loaded paths, whatever is known of others, `Reaches`.
+//! (`specs/FileContents`), and of loaded paths, whatever is known of others, `Reaches`. A cut copies the lowest
+//! node of which something goes, and those above it (`CutsNodes`).
 #![tactic(auto)]
 
 mod blocks;
