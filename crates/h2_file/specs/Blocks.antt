@@ -3,6 +3,7 @@ use Rattle.std.specs.Prelude.{◌≡◌, ℕ, true, Option}
 use Rattle.h2_ref.specs.declared.reference.Ref.{Ref}
 use Rattle.h2_ref.specs.declared.reference.Kind.TheVariants.{Content}
 use Rattle.h2_set.specs.Forest.{Forest}
+use Rattle.h2_set.specs.SetBytes.{IsHeld}
 use Rattle.h2_set.specs.RefSet.{RefSet}
 use Rattle.h2_inode.specs.declared.kind.InodeKind.TheVariants.{File}
 use Rattle.h2_inode.specs.declared.inode.Body.TheVariants.{Refs}
@@ -19,6 +20,6 @@ pub record IsFileOfRefs (f : Forest) (holds : ℕ → Option Fields) (at : ℕ) 
 
 -- the tree of node at may have no leaf but content references, of 16384 bytes each
 pub record HasContents (f : Forest) (at : ℕ) : Type 0 where
-  pub kinds : (r : Ref) → f.allows (f.root at) r ≡ true → r.kind ≡ Content
-  pub kinds_all : (r : Ref) → r.kind ≡ Content → f.allows (f.root at) r ≡ true
+  pub kinds : (r : Ref) → f.allows (f.root at) r ≡ true → (r.kind ≡ Content) × IsHeld r
+  pub kinds_all : (r : Ref) → r.kind ≡ Content → IsHeld r → f.allows (f.root at) r ≡ true
   pub keybits : f.leaf_bits (f.root at) ≡ 14

@@ -57,9 +57,10 @@ leaf_keybits Directory = 0
 leaf_keybits File = 14
 leaf_keybits Pfs = 0
 
--- which leaves an inode's tree may have; one whose body is bytes has no set, and may have none
+-- Which leaves an inode's tree may have: those of its kind that can be written. One whose body is bytes has no set,
+-- and may have none.
 abbrev pub MayHave : InodeKind → Body → Ref → Type 0
-MayHave kind (Refs s) r = r.kind ≡ leaf_kind kind
+MayHave kind (Refs s) r = (r.kind ≡ leaf_kind kind) × IsHeld r
 MayHave kind (Bytes bytes) r = ⊥
 
 -- the tree of a root has the keys and the leaves of such an inode
@@ -170,6 +171,8 @@ pub record Visits (f g : Forest) : Type 0 where
   pub stays : (m : ℕ) → f.stands m ≡ true → Stays f g m
   pub sets : (m : ℕ) → f.stands m ≡ true → g.set m ≡ f.set m
   pub writable : (m : ℕ) → f.stands m ≡ true → g.writable m ≡ f.writable m
+  -- what was loaded isn't writable
+  pub clean : (m : ℕ) → f.stands m ≡ false → g.stands m ≡ true → g.writable m ≡ false
   pub copies : (m : ℕ) → f.stands m ≡ true → g.copies m ≡ f.copies m
   pub leaf_bits : (m : ℕ) → f.stands m ≡ true → g.leaf_bits m ≡ f.leaf_bits m
   pub allows : (m : ℕ) (r : Ref) → f.stands m ≡ true → g.allows m r ≡ f.allows m r
@@ -199,8 +202,8 @@ pub record Plants (f g : Forest) (top key c : ℕ) : Type 0 where
 -- that the leaves which the tree may have are those of the new body.
 pub record Replaces (f g : Forest) (at : ℕ) (s : RefSet) : Type 0 where
   pub sound : IsSound g
-  pub leaf_bits : (m : ℕ) → f.stands m ≡ true → g.leaf_bits m ≡ f.leaf_bits m
-  pub allows : (m : ℕ) (r : Ref) → f.stands m ≡ true → (m ≡ at → ⊥) → g.allows m r ≡ f.allows m r
+  pub leaf_bits : (m : ℕ) → f.stands m ≡ true → g.stands m ≡ true → g.leaf_bits m ≡ f.leaf_bits m
+  pub allows : (m : ℕ) (r : Ref) → f.stands m ≡ true → g.stands m ≡ true → (m ≡ at → ⊥) → g.allows m r ≡ f.allows m r
   pub held : (m : ℕ) → g.held m ≡ f.held m
   pub name : (r : Ref) → g.name r ≡ f.name r
   pub epoch : g.epoch ≡ f.epoch

@@ -1,6 +1,6 @@
 ghost use Rattle.std.specs.Prelude.{◌≡◌, ◌≤◌, ℕ, true, false, Option, Some, IfOk, IfErr, OnErr};
 ghost use Rattle.h2_ref.specs.declared.reference.Ref.{Ref};
-ghost use Rattle.h2_set.specs.Forest.{IsSound, Unchanged, HasCause, KeepsBeside};
+ghost use Rattle.h2_set.specs.Forest.{IsBad, IsSound, Unchanged, HasCause, KeepsBeside};
 ghost use Rattle.h2_inode.specs.declared.inode.Inode.{Inode};
 ghost use Rattle.h2_inode.specs.Inode.{IsInode};
 ghost use Rattle.h2_inode.specs.Nodes.{Fields, held_by, set_of, HasInode, IsInodeLeaf, IsUnloaded, Told, IsAsTold, IsPlantable, Replaceable, Seeks, Plants, Replaces, KeepsOthersBeside};
@@ -26,7 +26,8 @@ pub trait Nodes: Sets {
 
     /// The root of the inode that an Inode leaf names, in the tree of the root `root`, loaded where it wasn't. The
     /// leaf's path is loaded. Trouble only where the inode wasn't loaded: Failed where the disk failed, Bad where the
-    /// block isn't that of the inode whose number is the key. After it nothing but the two counts has changed.
+    /// block isn't that of the inode whose number is the key, which is never so of one that is told. After it nothing
+    /// but the two counts has changed.
     fn seek(&mut self, alloc: Global, root: NodeId, leaf: &Ref) -> Result<NodeId, Trouble>
         requires sound { IsSound (Self.forest self.old) }
         requires leaf { IsInodeLeaf (Self.forest self.old) root.0 leaf.now }
@@ -37,6 +38,7 @@ pub trait Nodes: Sets {
         ensures same { OnErr result (Unchanged (Self.forest self.old) (Self.forest self.new)) }
         ensures err { IfErr result (HasCause (Self.forest self.old) (Self.forest self.new)) }
         ensures unloaded { OnErr result (let r : Ref = leaf.now in IsUnloaded (Self.forest self.old) root.0 r.key) }
+        ensures good { IfErr result (λ e. (x : Told) → told self.old leaf.now ≡ Some x → IsBad e → ⊥) }
         ensures beside { KeepsBeside (Self.forest self.old) (Self.forest self.new) (Self.beside self.old) (Self.beside self.new) }
         ensures later { Self.later self.old self.new };
 

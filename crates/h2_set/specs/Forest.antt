@@ -5,6 +5,7 @@ use Rattle.h2_ref.specs.declared.reference.Ref.{Ref}
 use Rattle.h2_ref.specs.declared.reference.Kind.{Kind}
 use Rattle.h2_ref.specs.declared.reference.Kind.TheVariants.{Empty, Inode, Indirect, Content, Dirent, MapNode, MapLeaf}
 use Rattle.h2_ref.specs.declared.faults.Trouble.{Trouble}
+use Rattle.h2_ref.specs.declared.faults.Why.{Why}
 use Rattle.h2_ref.specs.declared.faults.Trouble.TheVariants.{Failed, Bad, NoMemory}
 use Rattle.h2_set.specs.Ranges.{Rising, limit, holds, NoneHolds, IsAligned, IsApart, put, lies, is_indirect}
 use Rattle.h2_set.specs.RefSet.{RefSet, IsRefSet, IsSplitOf, with_rest}
@@ -50,6 +51,8 @@ pub record Forest : Type 0 where
   -- faults of the disk, and bad blocks that were met
   pub failed : ℕ
   pub bad : ℕ
+  -- where the last bad block lies that was met, and what is wrong with it
+  pub met : Option (ℕ × Why)
 
 abbrev pub refs : Forest → ℕ → List Ref
 refs f at = let s = f.set at in s.refs
@@ -83,15 +86,15 @@ pub record IsChild (f : Forest) (m k c : ℕ) : Type 0 where
 
 -- a reference that may stand in node m
 pub record Fits (f : Forest) (m : ℕ) (r : Ref) : Type 0 where
-  -- it can be written: it is valid, and names something
-  pub held : IsHeld r
   pub aligned : IsAligned r
   -- no key lies from 2^62 up to below 2^63, so that those of one half of all keys lie in 2^62 or 2^63 of them
   pub class : (r.key < 2 ^ 62) ⊎ (2 ^ 63 ≤ r.key)
   -- a leaf is one that the tree may have, as long as all others
   pub leaf : is_indirect r ≡ false → r.keybits ≡ f.leaf_bits (f.root m)
   pub allowed : is_indirect r ≡ false → f.allows (f.root m) r ≡ true
-  -- an indirect reference has room for a leaf, and keybits that fall on the way down
+  -- an indirect reference can be written: it is valid, and names something
+  pub held : is_indirect r ≡ true → IsHeld r
+  -- it has room for a leaf, and keybits that fall on the way down
   pub wide : is_indirect r ≡ true → f.leaf_bits (f.root m) ≤ r.keybits
   pub some_bits : is_indirect r ≡ true → 0 < r.keybits
   pub falls : is_indirect r ≡ true → r.keybits < f.bits m
@@ -150,8 +153,8 @@ pub record HasParent (f : Forest) (m : ℕ) : Type 0 where
 
 pub record IsSound (f : Forest) : Type 0 where
   pub node : (m : ℕ) → f.stands m ≡ true → IsSoundNode f m
-  -- what is held stands
-  pub held : (m : ℕ) → f.held m ≡ true → f.stands m ≡ true
+  -- what is held is a root that stands
+  pub held : (m : ℕ) → f.held m ≡ true → (f.stands m ≡ true) × (f.root m ≡ m)
   -- the root of a node stands and is its own, and each other node stands below one that stands
   pub top : (m : ℕ) → f.stands m ≡ true → (f.stands (f.root m) ≡ true) × (f.root (f.root m) ≡ f.root m)
   pub parent : (m : ℕ) → f.stands m ≡ true → (f.root m ≡ m → ⊥) → HasParent f m
@@ -205,11 +208,11 @@ AllRenewed (r ∷ rs) (q ∷ qs) = IsRenewed r q × AllRenewed rs qs
 abbrev pub Below : Forest → ℕ → ℕ → List Ref → Type 0
 Below f m k l = (f.link m k ≡ told l) ⊎ ((c : ℕ) × (f.link m k ≡ loaded c) × LeavesOf f c l)
 
--- What no call changes: of each tree what leaves it may have, which roots are held, the epoch and the names.
--- The two counts never fall.
+-- What no call changes: of each tree that stands before and after what leaves it may have, which roots are held, the
+-- epoch and the names. The two counts never fall.
 pub record Fixed (f g : Forest) : Type 0 where
-  pub leaf_bits : (m : ℕ) → g.leaf_bits m ≡ f.leaf_bits m
-  pub allows : (m : ℕ) (r : Ref) → g.allows m r ≡ f.allows m r
+  pub leaf_bits : (m : ℕ) → f.stands m ≡ true → g.stands m ≡ true → g.leaf_bits m ≡ f.leaf_bits m
+  pub allows : (m : ℕ) (r : Ref) → f.stands m ≡ true → g.stands m ≡ true → g.allows m r ≡ f.allows m r
   pub held : (m : ℕ) → g.held m ≡ f.held m
   pub name : (r : Ref) → g.name r ≡ f.name r
   pub epoch : g.epoch ≡ f.epoch
@@ -272,8 +275,9 @@ pub record Walks (f g : Forest) : Type 0 where
   pub sound : IsSound g
   pub fixed : Fixed f g
   pub stays : (m : ℕ) → f.stands m ≡ true → Stays f g m
-  -- no root was loaded, only indirect blocks
+  -- no root was loaded, only indirect blocks, and what was loaded isn't writable
   pub roots : (m : ℕ) → g.stands m ≡ true → g.root m ≡ m → f.stands m ≡ true
+  pub clean : (m : ℕ) → f.stands m ≡ false → g.stands m ≡ true → g.writable m ≡ false
   pub sets : (m : ℕ) → f.stands m ≡ true → g.set m ≡ f.set m
   pub writable : (m : ℕ) → f.stands m ≡ true → g.writable m ≡ f.writable m
   pub copies : (m : ℕ) → f.stands m ≡ true → g.copies m ≡ f.copies m
@@ -306,6 +310,10 @@ pub record Alters (f g : Forest) (at : ℕ) : Type 0 where
   pub exact : (m i : ℕ) (r : Ref) → f.stands m ≡ true → slice_get (refs f m) i ≡ Some r → (OnWay f m r at → ⊥) → slice_get (refs g m) i ≡ Some r
   -- nor does one change that names a node which was writable
   pub kept : (m i c : ℕ) (r : Ref) → f.stands m ≡ true → slice_get (refs f m) i ≡ Some r → f.link m r.key ≡ loaded c → f.writable c ≡ true → slice_get (refs g m) i ≡ Some r
+  -- one that changes has the epoch as its id
+  pub dated : (m i : ℕ) (r q : Ref) → f.stands m ≡ true → slice_get (refs f m) i ≡ Some r → slice_get (refs g m) i ≡ Some q → (q ≡ r) ⊎ (q.id ≡ f.epoch)
+  -- where all was writable already, no set changes
+  pub still : ((m : ℕ) → f.stands m ≡ true → IsAbove f m at → f.writable m ≡ true) → (m : ℕ) → f.stands m ≡ true → g.set m ≡ f.set m
   -- what isn't above the node is as writable as before
   pub others : (m : ℕ) → f.stands m ≡ true → (IsAbove f m at → ⊥) → g.writable m ≡ f.writable m
   pub tree : (m : ℕ) → f.stands m ≡ true → f.root m ≡ f.root at → Keeps f g m
@@ -369,11 +377,17 @@ pub record Stores (f g : Forest) (at : ℕ) (s : RefSet) : Type 0 where
   pub failed : g.failed ≡ f.failed
   pub bad : g.bad ≡ f.bad
 
--- why a call was in trouble
+-- why a call was in trouble: for a bad block, the last one that was met is the one that is told
 abbrev pub HasCause : Forest → Forest → Trouble → Type 0
 HasCause f g Failed = Rose f.failed g.failed
-HasCause f g (Bad place why) = Rose f.bad g.bad
+HasCause f g (Bad place why) = Rose f.bad g.bad × (g.met ≡ Some (place, why))
 HasCause f g NoMemory = Unit {0}
+
+-- a bad block was met
+abbrev pub IsBad : Trouble → Type 0
+IsBad Failed = ⊥
+IsBad (Bad place why) = Unit {0}
+IsBad NoMemory = ⊥
 
 -- the reference at place i leads further down
 pub record IsIndirectAt (rs : List Ref) (i : ℕ) : Type 0 where
@@ -416,6 +430,7 @@ pub record Makes (f g : Forest) (at c : ℕ) (set : RefSet) (s : Split) : Type 0
   pub indirect : is_indirect ref ≡ true
   pub key : ref.key ≡ s.key
   pub keybits : ref.keybits ≡ s.keybits
+  pub dated : ref.id ≡ f.epoch
   pub now : g.set at ≡ record { refs = put ref (with_rest s.rest set.refs); capacity = set.capacity }
   pub place : InPlace f g at
   -- what was below a key of the range is below the new node, and all else below the old one

@@ -7,7 +7,6 @@ use Rattle.h2_tree.specs.declared.removing.Taken.{Taken}
 use Rattle.h2_tree.specs.declared.removing.Taken.TheVariants.{Nothing, Out, Sole}
 use Rattle.h2_set.specs.Forest.{Forest, refs, loaded, IsSound, LeavesOf, Walks, Fixed, InPlace, Keeps, Renews, Stays, Reaches, OnWay, IsAbove}
 use Rattle.h2_set.specs.RefSet.{IsSplitOf}
-use Rattle.h2_set.specs.SetBytes.{IsHeld}
 
 -- the range of m lies in that of node at
 pub record Under (f : Forest) (m at : ℕ) : Type 0 where
@@ -17,8 +16,6 @@ pub record Under (f : Forest) (m at : ℕ) : Type 0 where
 -- a leaf that the tree below node at may have
 pub record Takes (f : Forest) (at : ℕ) (leaf : Ref) : Type 0 where
   pub is_leaf : is_indirect leaf ≡ false
-  -- it can be written: it is valid, and names something
-  pub held : IsHeld leaf
   pub allowed : f.allows (f.root at) leaf ≡ true
   pub aligned : IsAligned leaf
   -- its key is below 2^62 or at least 2^63, as all keys of a tree are
@@ -104,6 +101,8 @@ pub record Prepares (f g : Forest) : Type 0 where
   pub stays : (m : ℕ) → f.stands m ≡ true → Stays f g m
   pub sets : (m : ℕ) → f.stands m ≡ true → g.set m ≡ f.set m
   pub writable : (m : ℕ) → f.stands m ≡ true → g.writable m ≡ f.writable m
+  -- what was loaded isn't writable
+  pub clean : (m : ℕ) → f.stands m ≡ false → g.stands m ≡ true → g.writable m ≡ false
   pub copies : (m : ℕ) → f.stands m ≡ true → g.copies m ≡ f.copies m
   pub spare : f.spare ≤ g.spare
   pub room : g.room ≡ f.room
