@@ -1,3 +1,4 @@
+pub mod Methods
 pub mod Table
 pub mod Ref
 pub mod Limits
