@@ -8,6 +8,7 @@ pub mod Fault
 pub mod FirstPlace
 pub mod Padding
 pub mod Tests
+pub mod ValidTest
 pub mod Passing
 pub mod Reading
 pub mod Spelled
