@@ -1,6 +1,8 @@
 -- The forest that a vector of nodes is.
 use Rattle.std.specs.Prelude.{◌≡◌, ℕ, ◌≤◌, ◌<◌, ◌⊎◌, not, Bool, true, false, ◌&&◌, ◌==◌, if◌then◌else◌, List, [], ◌∷◌, ◌++◌, length, Option, Some, None, slice_get, slice_set, map, count_by, nat_lt, nat_le, ◌||◌, ◌^◌, ◌+◌}
 use Rattle.std.specs.List.{position}
+use Rattle.h2_ref.specs.declared.faults.Why.{Why}
+use Rattle.h2_ref.specs.declared.reference.Kind.TheVariants.{Empty}
 use Rattle.h2_ref.specs.declared.reference.Ref.{Ref}
 use Rattle.h2_set.specs.Ranges.{limit, holds, is_indirect, IsAligned}
 use Rattle.h2_set.specs.RefSet.{RefSet, IsRefSet}
@@ -75,8 +77,8 @@ abbrev pub link_of : List Node → ℕ → ℕ → Link
 link_of xs m k = let s = set_of (slice_get xs m) in if names s.refs k then link_to (position (is_child m k) xs) else untold
 
 -- the forest of these nodes, with these numbers
-abbrev pub forest_with : List Node → ℕ → ℕ → ℕ → ℕ → ℕ → Forest
-forest_with xs spare epoch room failed bad = record {
+abbrev pub forest_with : List Node → ℕ → ℕ → ℕ → ℕ → ℕ → Option (ℕ × Why) → Forest
+forest_with xs spare epoch room failed bad met = record {
   stands = λ m. stands_of (slice_get xs m);
   set = λ m. set_of (slice_get xs m);
   link = λ m k. link_of xs m k;
@@ -95,6 +97,7 @@ forest_with xs spare epoch room failed bad = record {
   room = room;
   failed = failed;
   bad = bad;
+  met = met;
 }
 
 -- what is above a node at key low, once node c has what lay in the range of r below node at
@@ -121,9 +124,11 @@ new_node at x part r = record { set = part; loaded = true; up = Some at; root = 
 abbrev pub parted : List Node → ℕ → Node → RefSet → RefSet → Ref → List Node
 parted xs at x kept part r = moved_all at (length xs) r (slice_set xs at (with_set x kept)) ++ new_node at x part r ∷ []
 
--- a reference that may stand in the node that top names, in a tree with leaves of these keybits
+-- a reference that may stand in the node that top names, in a tree with leaves of these keybits; on no disk does a set
+-- have an empty one
 pub record FitsBelow (top : Ref) (leaf_bits : ℕ) (r : Ref) : Type 0 where
-  pub held : IsHeld r
+  pub named : r.kind ≡ Empty → ⊥
+  pub held : is_indirect r ≡ true → IsHeld r
   pub low : top.key ≤ r.key
   pub high : limit r ≤ limit top
   pub aligned : IsAligned r

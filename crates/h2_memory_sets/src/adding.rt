@@ -23,6 +23,7 @@ pub(crate) fn new_reference(key: u64, keybits: u8, epoch: u64) -> Ref
     ensures indirect { is_indirect result ≡ true }
     ensures key { result.key ≡ key }
     ensures keybits { result.keybits ≡ keybits }
+    ensures dated { result.id ≡ epoch }
 {
     Ref {
         kind: Kind::Indirect,

@@ -1,4 +1,5 @@
 ghost use Rattle.std.specs.Prelude.{◌≡◌, ◌<◌, ◌≤◌, ◌^◌, ◌-◌, ◌↔◌, ◌⊎◌, true, false, IsTrue, IfSome, IfNone, length, slice_get};
+ghost use Rattle.h2_ref.specs.declared.reference.Kind.TheVariants.{Empty};
 ghost use Rattle.h2_set.specs.Ranges.{limit, is_indirect, IsAligned};
 ghost use Rattle.h2_set.specs.SetBytes.{IsHeld};
 ghost use Rattle.h2_memory_sets.specs.View.{leaf_bits_of, brought, FitsBelow, AllFitBelow, IsLoadable};
@@ -77,12 +78,16 @@ fn is_sized(r: &Ref, leaf_bits: u8) -> bool
     leaf_bits <= r.keybits
 }
 
-// Whether a set may hold a reference: it is valid and names something.
+// Whether a block may hold a reference: it names something, and can be written where it is indirect.
 fn is_held(r: &Ref) -> bool
-    ensures { IsTrue result → IsHeld r.now }
+    ensures named { IsTrue result → r.now.kind ≡ Empty → ⊥ }
+    ensures held { IsTrue result → is_indirect r.now ≡ true → IsHeld r.now }
 {
     if r.kind == Kind::Empty {
         return false;
+    }
+    if !is_indirect(r) {
+        return true;
     }
     r.valid()
 }
