@@ -12,3 +12,5 @@ pub mod Gone
 pub mod Planted
 pub mod Added
 pub mod Spaced
+pub mod Alike
+pub mod Apart

@@ -5,11 +5,13 @@ use Rattle.h2_set.specs.Forest.{HasCause}
 use Rattle.h2_inode.specs.Nodes.{held_by}
 use Rattle.h2_inode.specs.VisitLaws.{walks_visit, visits_trans}
 use Rattle.h2_inode.specs.Access.{OneByOne}
+use Rattle.h2_inode.specs.LoadedLaws.{alike_trans}
 use Rattle.h2_inode.specs.PfsList.{ListedPfs}
 use Rattle.h2_pfs.specs.Listing.{HasPfss, KeepsPfss}
 use Rattle.h2_pfs.specs.Mets.{met_of}
 use Rattle.h2_pfs.specs.Meets.{Meets, MetBy, AreLeaves, InodeMissing}
 use Rattle.h2_pfs.specs.Faults.{IsTrouble}
+use Rattle.h2_pfs.proofs.Alike.{walks_alike}
 use Rattle.h2_pfs.proofs.Answering.{on_ok, on_err}
 use Rattle.h2_pfs.proofs.Scanned.{listed_leaves, super_stays}
 use Rattle.h2_pfs.proofs.Listed.{meets_after, listed_after, trouble_after}
@@ -22,6 +24,11 @@ meet_all-requires-clause-leaves g c =
 
 pub returns-in_err-leaves-clause-visits : goal.returns-in_err-leaves-clause-visits
 returns-in_err-leaves-clause-visits g c = walks_visit _ _ c.in_err-leaves.ensures.walks
+
+pub returns-in_err-leaves-clause-alike : goal.returns-in_err-leaves-clause-alike
+returns-in_err-leaves-clause-alike g c =
+    let range = c.in_err-leaves.ensures in
+    walks_alike g.N.Nodes.fields _ _ _ _ _ _ c.requires.sound range.walks range.beside (g.met.N.Nodes.told_later _ _ range.later)
 
 pub returns-clause-met : goal.returns-clause-met
 returns-clause-met g c =
@@ -45,6 +52,11 @@ returns-clause-met g c =
 
 pub returns-clause-visits : goal.returns-clause-visits
 returns-clause-visits g c = visits_trans _ _ _ (walks_visit _ _ c.in_ok-leaves.ensures.walks) c.meet_all.ensures.visits
+
+pub returns-clause-alike : goal.returns-clause-alike
+returns-clause-alike g c =
+    let range = c.in_ok-leaves.ensures in
+    alike_trans (walks_alike g.N.Nodes.fields _ _ _ _ _ _ c.requires.sound range.walks range.beside (g.met.N.Nodes.told_later _ _ range.later)) c.meet_all.ensures.alike
 
 pub returns-clause-err : goal.returns-clause-err
 returns-clause-err g c =
