@@ -9,6 +9,8 @@ pub mod Spotting
 pub mod Leaf
 pub mod Resized
 pub mod Growing
+pub mod Renewed
+pub mod Others
 pub mod Areas
 pub mod Walked
 pub mod Listed

@@ -9,6 +9,7 @@ ghost use Rattle.h2_dirkey.specs.Key.{IsNameUnder};
 ghost use Rattle.h2_inode.specs.declared.inode.Inode.{Inode};
 ghost use Rattle.h2_inode.specs.Nodes.{held_by, HasInode, KeepsOthersBeside};
 ghost use Rattle.h2_dir.specs.Changing.{HasRoom, Adds, entry_ref, with_entries};
+ghost use Rattle.h2_dir.specs.Others.{KeepsOtherTrees, RenewsOtherTrees};
 
 use crate::entry::entry_ref;
 use crate::resizing::resize;
@@ -42,7 +43,8 @@ fn put_in<N: Sets>(alloc: Global, n: &mut N, root: NodeId, leaf: Ref)
 /// No entry has the key, its path is loaded, and it has the upper bits of the name's keys (`spot` gives such a key). The size
 /// is below 4096. The number is from 1 to 2^62 - 1, and the target 1 for a directory or 2 for a file. A name of more
 /// than 64 bytes has a block of 1 KiB, and no other has: it is given with its check. At least one node is spare, and
-/// the room is at least 63. It can't be refused. No node is unloaded, and all loaded paths stay.
+/// the room is at least 63. It can't be refused. No node is unloaded, and all loaded paths stay. Other directories and
+/// files stay the same, and the trees of PFSs do, but for where the blocks of inodes lie.
 pub fn add_at<N: Nodes>(
     alloc: Global,
     n: &mut N,
@@ -64,6 +66,8 @@ pub fn add_at<N: Nodes>(
     ensures leaves { let f = N.forest n.old in (l : List Ref) → LeavesOf f dir.0 l → LeavesOf (N.forest n.new) dir.0 (put (entry_ref f.epoch key name.now block number target) l) }
     ensures path { let f = N.forest n.old in Reaches (N.forest n.new) key dir.0 (Some (entry_ref f.epoch key name.now block number target)) }
     ensures paths { let f = N.forest n.old in KeepsPaths f (N.forest n.new) dir.0 (entry_ref f.epoch key name.now block number target) }
+    ensures others { KeepsOtherTrees (N.forest n.old) (N.forest n.new) (held_by N.fields (N.beside n.old)) (held_by N.fields (N.beside n.new)) dir.0 }
+    ensures above { RenewsOtherTrees (N.forest n.old) (N.forest n.new) (held_by N.fields (N.beside n.old)) (held_by N.fields (N.beside n.new)) dir.0 }
     ensures beside { KeepsOthersBeside (N.forest n.old) (N.forest n.new) dir.0 (N.beside n.old) (N.beside n.new) }
     ensures later { N.later n.old n.new }
 {

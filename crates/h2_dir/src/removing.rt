@@ -6,6 +6,7 @@ ghost use Rattle.h2_tree.specs.Changes.{IsFree, Removes, KeepsPaths};
 ghost use Rattle.h2_inode.specs.declared.inode.Inode.{Inode};
 ghost use Rattle.h2_inode.specs.Nodes.{held_by, HasInode, KeepsOthersBeside};
 ghost use Rattle.h2_dir.specs.Changing.{IsDirectoryRoot, TakesAway, with_entries};
+ghost use Rattle.h2_dir.specs.Others.{KeepsOtherTrees, RenewsOtherTrees};
 
 use crate::resizing::resize;
 use h2_inode::Nodes;
@@ -69,7 +70,8 @@ fn says(leaf: Ref) -> Dirent
 /// entry said is answered.
 ///
 /// The entry is there, its path is loaded, and the room is at least 62. It can't be refused. Of the tree nothing goes
-/// but indirect blocks that would be left empty, and loaded paths to other keys stay.
+/// but indirect blocks that would be left empty, and loaded paths to other keys stay. Other directories and files stay
+/// the same, and the trees of PFSs do, but for where the blocks of inodes lie.
 pub fn remove_at<N: Nodes>(alloc: Global, n: &mut N, dir: NodeId, key: u64) -> Dirent
     requires sound { IsSound (N.forest n.old) }
     requires directory { IsDirectoryRoot (N.forest n.old) (held_by N.fields (N.beside n.old)) dir.0 }
@@ -81,6 +83,8 @@ pub fn remove_at<N: Nodes>(alloc: Global, n: &mut N, dir: NodeId, key: u64) -> D
     ensures leaves { (l : List Ref) → LeavesOf (N.forest n.old) dir.0 l → LeavesOf (N.forest n.new) dir.0 (without key l) }
     ensures path { Reaches (N.forest n.new) key dir.0 None }
     ensures paths { (leaf : Ref) → Reaches (N.forest n.old) key dir.0 (Some leaf) → KeepsPaths (N.forest n.old) (N.forest n.new) dir.0 leaf }
+    ensures others { KeepsOtherTrees (N.forest n.old) (N.forest n.new) (held_by N.fields (N.beside n.old)) (held_by N.fields (N.beside n.new)) dir.0 }
+    ensures above { RenewsOtherTrees (N.forest n.old) (N.forest n.new) (held_by N.fields (N.beside n.old)) (held_by N.fields (N.beside n.new)) dir.0 }
     ensures beside { KeepsOthersBeside (N.forest n.old) (N.forest n.new) dir.0 (N.beside n.old) (N.beside n.new) }
     ensures later { N.later n.old n.new }
 {

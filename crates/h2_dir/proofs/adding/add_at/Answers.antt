@@ -13,6 +13,8 @@ use Rattle.h2_dir.specs.Changing.{entry_ref, with_entries, Adds}
 use Rattle.h2_dir.proofs.Leaf.{takes_entry, ref_kind, short_name}
 use Rattle.h2_dir.proofs.Growing.{same_but_set, writable_in, beside_on}
 use Rattle.h2_dir.proofs.Resized.{root_leaves, root_path, same_fields, regrown}
+use Rattle.h2_dir.proofs.Renewed.{keeps_tree, renews_tree}
+use Rattle.h2_dir.proofs.Others.{inserted_renews, inserted_exact}
 use Rattle.h2_dir.proofs.adding.add_at.Goals as goal
 
 pub inode-requires : goal.inode-requires
@@ -104,3 +106,30 @@ returns-clause-paths g c k o apart path =
 
 pub returns-clause-beside : goal.returns-clause-beside
 returns-clause-beside g c = beside_on _ _ _ _ _ _ _ (λ m old new. c.resize.ensures.replaces.none_new m new) c.put_in.ensures.beside c.resize.ensures.beside
+
+pub returns-clause-others : goal.returns-clause-others
+returns-clause-others g c m i has not ne =
+    let f = g.N.Sets.forest c.args.n.now in
+    let h = g.N.Sets.forest c.put_in.new.n in
+    let d = c.requires.directory in
+    let ins = c.put_in.ensures.inserts in
+    let dir = c.args.dir.0 in
+    let leaf = c.entry_ref-leaf.result in
+    let kept = beside_on _ _ _ _ _ _ _ (λ m old new. c.resize.ensures.replaces.none_new m new) c.put_in.ensures.beside c.resize.ensures.beside in
+    keeps_tree f h (g.N.Sets.forest c.resize.new.n) dir c.requires.sound ins.sound ins.place d.has.root (inserted_renews f h dir leaf c.requires.sound d.has.stands d.has.root ins) (inserted_exact f h dir leaf c.requires.sound d.has.stands d.has.root ins) ins.fixed c.resize.ensures.replaces _ _ m i has not ne
+    (λ stands. ap g.N.Nodes.fields (kept.same m ne has.stands stands))
+
+pub returns-clause-above : goal.returns-clause-above
+returns-clause-above g c m stands root ne =
+    let f = g.N.Sets.forest c.args.n.now in
+    let h = g.N.Sets.forest c.put_in.new.n in
+    let d = c.requires.directory in
+    let ins = c.put_in.ensures.inserts in
+    let dir = c.args.dir.0 in
+    let leaf = c.entry_ref-leaf.result in
+    let kept = beside_on _ _ _ _ _ _ _ (λ m old new. c.resize.ensures.replaces.none_new m new) c.put_in.ensures.beside c.resize.ensures.beside in
+    renews_tree f h (g.N.Sets.forest c.resize.new.n) dir c.requires.sound ins.sound ins.place d.has.root (inserted_renews f h dir leaf c.requires.sound d.has.stands d.has.root ins) (inserted_exact f h dir leaf c.requires.sound d.has.stands d.has.root ins) ins.fixed c.resize.ensures.replaces _ _ m stands root ne
+    (λ now. ap g.N.Nodes.fields (kept.same m ne stands now))
+
+pub returns-clause-later : goal.returns-clause-later
+returns-clause-later g c = g.met.N.Sets.later_later _ _ _ c.put_in.ensures.later c.resize.ensures.later

@@ -12,6 +12,8 @@ use Rattle.h2_dir.proofs.Spotting.{own_key}
 use Rattle.h2_dir.proofs.Leaf.{entry_free, entry_kind, of_entry, leaf_refs}
 use Rattle.h2_dir.proofs.Growing.{same_but_set, writable_out, beside_on}
 use Rattle.h2_dir.proofs.Resized.{root_leaves, root_path, same_fields, regrown}
+use Rattle.h2_dir.proofs.Renewed.{keeps_tree, renews_tree}
+use Rattle.h2_dir.proofs.Others.{removed_renews, removed_exact}
 use Rattle.h2_dir.proofs.removing.remove_at.Goals as goal
 
 pub inode-requires : goal.inode-requires
@@ -46,7 +48,7 @@ pub says-requires : goal.says-requires
 says-requires g c =
     let d = c.requires.directory in
     let was = c.take_out-leaf.ensures.was in
-    let of = of_entry c.take_out-leaf.result (leaf_valid c.requires.sound d.has.stands was) (entry_kind _ _ _ d.inode c.args.key c.take_out-leaf.result c.requires.sound d.has d.kind was) in
+    let of = of_entry c.take_out-leaf.result (leaf_valid c.requires.sound d.has was) (entry_kind _ _ _ d.inode c.args.key c.take_out-leaf.result c.requires.sound d.has d.kind was) in
     (of.entry, of.entry_is)
 
 pub returns-clause-takes : goal.returns-clause-takes
@@ -106,3 +108,27 @@ returns-clause-beside g c = beside_on _ _ _ _ _ _ _ (λ m old new. c.resize.ensu
 
 pub returns-clause-later : goal.returns-clause-later
 returns-clause-later g c = g.met.N.Sets.later_later _ _ _ c.take_out-leaf.ensures.later c.resize.ensures.later
+
+pub returns-clause-others : goal.returns-clause-others
+returns-clause-others g c m i has not ne =
+    let f = g.N.Sets.forest c.args.n.now in
+    let h = g.N.Sets.forest c.take_out-leaf.new.n in
+    let d = c.requires.directory in
+    let out = c.take_out-leaf.ensures.removes in
+    let dir = c.args.dir.0 in
+    let leaf = c.take_out-leaf.result in
+    let kept = beside_on _ _ _ _ _ _ _ (λ m old new. c.resize.ensures.replaces.none_new m new) c.take_out-leaf.ensures.beside c.resize.ensures.beside in
+    keeps_tree f h (g.N.Sets.forest c.resize.new.n) dir c.requires.sound out.sound out.place d.has.root (removed_renews f h _ dir d.inode leaf c.requires.sound d.has d.kind out) (removed_exact f h _ dir d.inode leaf c.requires.sound d.has d.kind out) out.fixed c.resize.ensures.replaces _ _ m i has not ne
+    (λ stands. ap g.N.Nodes.fields (kept.same m ne has.stands stands))
+
+pub returns-clause-above : goal.returns-clause-above
+returns-clause-above g c m stands root ne =
+    let f = g.N.Sets.forest c.args.n.now in
+    let h = g.N.Sets.forest c.take_out-leaf.new.n in
+    let d = c.requires.directory in
+    let out = c.take_out-leaf.ensures.removes in
+    let dir = c.args.dir.0 in
+    let leaf = c.take_out-leaf.result in
+    let kept = beside_on _ _ _ _ _ _ _ (λ m old new. c.resize.ensures.replaces.none_new m new) c.take_out-leaf.ensures.beside c.resize.ensures.beside in
+    renews_tree f h (g.N.Sets.forest c.resize.new.n) dir c.requires.sound out.sound out.place d.has.root (removed_renews f h _ dir d.inode leaf c.requires.sound d.has d.kind out) (removed_exact f h _ dir d.inode leaf c.requires.sound d.has d.kind out) out.fixed c.resize.ensures.replaces _ _ m stands root ne
+    (λ now. ap g.N.Nodes.fields (kept.same m ne stands now))
