@@ -16,3 +16,5 @@ pub mod Walked
 pub mod Listed
 pub mod Ordered
 pub mod Told
+pub mod Entered
+pub mod Entries
