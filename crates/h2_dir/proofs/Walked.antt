@@ -32,13 +32,13 @@ rose_earlier a b c le h = omega (arith, le, h)
 
 pub cause_earlier : (f g h : Forest) (e : Trouble) → Visits f g → HasCause g h e → HasCause f h e
 cause_earlier f g h Failed v cause = rose_earlier f.failed g.failed h.failed v.failed cause
-cause_earlier f g h (Bad place why) v cause = rose_earlier f.bad g.bad h.bad v.bad cause
+cause_earlier f g h (Bad place why) v cause = (rose_earlier f.bad g.bad h.bad v.bad cause.0, cause.1)
 cause_earlier f g h NoMemory v cause = cause
 
 -- the leaves of a PFS name inodes, each of one number
 
 inode_by : (kind : InodeKind) (body : Body) (leaf : Ref) → kind ≡ Pfs → MayHave kind body leaf → leaf.kind ≡ kinds.Inode
-inode_by kind (Refs s) leaf is may = may ∙ ap leaf_kind is
+inode_by kind (Refs s) leaf is may = may.0 ∙ ap leaf_kind is
 inode_by kind (Bytes b) leaf is may = absurd may
 
 pub pfs_leaf : (f : Forest) (holds : ℕ → Option Fields) (pfs number : ℕ) (leaf : Ref) → IsSound f → IsPfsRoot f holds pfs → Reaches f number pfs (Some leaf) → IsInodeLeaf f pfs leaf × (leaf.key ≡ number)

@@ -4,15 +4,20 @@ use Rattle.h2_ref.specs.declared.reference.Ref.{Ref}
 use Rattle.h2_ref.specs.Ref.{IsValid}
 use Rattle.h2_set.specs.StayLaws.{Walks-trans, Unchanged-walks}
 use Rattle.h2_tree.specs.Changes.{LoadsTouched, Lists}
+use Rattle.h2_inode.specs.VisitLaws.{walks_visit, visits_inode}
 use Rattle.h2_dir.proofs.Paths.{lists_valid, lists_same}
 use Rattle.h2_dir.proofs.Searched.{touched_same, scanned_stays}
 use Rattle.h2_dir.proofs.searching.search.Goals as goal
 
+pub range-requires-clause-stands : goal.range-requires-clause-stands
+range-requires-clause-stands g c = (c.requires.inode.1).stands
+
 pub scan-requires-clause-valid : goal.scan-requires-clause-valid
 scan-requires-clause-valid g c =
     let walks = c.in_ok-leaves.ensures.walks in
-    let stands = (walks.stays c.args.dir.0 c.requires.stands).place.stands in
-    subst (λ (xs : List Ref). All IsValid xs) (sym c.deref.ensures.value) (lists_valid _ _ _ _ _ walks.sound stands c.in_ok-leaves.ensures.lists)
+    let i = c.requires.inode in
+    let now = visits_inode g.N.Nodes.fields _ _ _ _ _ i.0 (walks_visit _ _ walks) c.in_ok-leaves.ensures.beside i.1 in
+    subst (λ (xs : List Ref). All IsValid xs) (sym c.deref.ensures.value) (lists_valid _ _ _ _ _ i.0 _ walks.sound now c.in_ok-leaves.ensures.lists)
 
 pub returns-in_err-place-clause-walks : goal.returns-in_err-place-clause-walks
 returns-in_err-place-clause-walks g c = Walks-trans _ _ _ c.in_ok-leaves.ensures.walks (Unchanged-walks _ _ c.in_err-place.ensures.same)
@@ -28,7 +33,7 @@ returns-clause-walks g c = Walks-trans _ _ _ c.in_ok-leaves.ensures.walks (Uncha
 pub returns-clause-lists : goal.returns-clause-lists
 returns-clause-lists g c =
     let walks = c.in_ok-leaves.ensures.walks in
-    let stands = (walks.stays c.args.dir.0 c.requires.stands).place.stands in
+    let stands = (walks.stays c.args.dir.0 (c.requires.inode.1).stands).place.stands in
     subst (λ k. Lists (g.N.Sets.forest c.scan.new.n) c.args.dir.0 k (k + 32767) c.in_ok-leaves.leaves.items) c.requires.least (lists_same _ _ _ _ _ _ walks.sound stands c.in_ok-place.ensures.same c.in_ok-leaves.ensures.lists)
 
 pub returns-clause-scanned : goal.returns-clause-scanned

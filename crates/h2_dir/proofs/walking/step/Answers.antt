@@ -91,3 +91,6 @@ returns-in-Err-clause-ends g c =
       has = has;
     } in
     step_fails g.N.Nodes.fields _ k _ _ _ c.args.pfs.0 c.args.number c.in_ok-dir.dir.0 inode c.args.name.now c.in-Err.fault seeks.brings.sound (visits_trans _ _ _ (walks_visit _ _ walks) (seeks_visit _ _ _ _ _ seeks)) (walks_visit _ _ c.in-Err.ensures.walks) c.in-Err.ensures.beside member (c.in-Err.ensures.err inode has)
+
+pub returns-in_err-found-clause-visits : goal.returns-in_err-found-clause-visits
+returns-in_err-found-clause-visits g c = walks_visit _ _ c.in_err-found.ensures.walks
