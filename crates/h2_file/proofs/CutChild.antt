@@ -30,7 +30,7 @@ Alike-take (suc n) (r ∷ rs) (q ∷ qs) a = (a.0, Alike-take n rs qs a.1)
 contents_root : (f : Forest) (m n : ℕ) → f.root m ≡ f.root n → HasContents f m → HasContents f n
 contents_root f m n e h = record {
   kinds = λ r may. h.kinds r (subst (λ k. f.allows k r ≡ true) (sym e) may);
-  kinds_all = λ r is. subst (λ k. f.allows k r ≡ true) e (h.kinds_all r is);
+  kinds_all = λ r is held. subst (λ k. f.allows k r ≡ true) e (h.kinds_all r is held);
   keybits = ap f.leaf_bits (sym e) ∙ h.keybits;
 }
 
@@ -112,7 +112,7 @@ module _ (f h : Forest) (at i size : ℕ) (r : Ref) (sound : IsSound f) (stands 
         (omega (arith, bits, some, slope), omega (arith, walks.room, room.1))
 
     pub child_contents : HasContents f at → HasContents h c
-    child_contents holds_contents = contents_root h at c (sym child.root) (contents_keep f h at (sym there.root) walks.fixed.leaf_bits walks.fixed.allows holds_contents)
+    child_contents holds_contents = contents_root h at c (sym child.root) (contents_keep f h at sound walks.sound stands there walks.fixed holds_contents)
 
     pub unloaded_below : PathUnloaded h c size → PathUnloaded f at size
     unloaded_below unloaded o reached =
@@ -142,7 +142,7 @@ module _ (f h : Forest) (at i size : ℕ) (r : Ref) (sound : IsSound f) (stands 
     readied : (k : Forest) → IsSound k → Fixed h k → InPlace h k at → ((m : ℕ) → h.stands m ≡ true → h.root m ≡ h.root c → (Under h m c → ⊥) → Keeps h k m) → ((m : ℕ) → h.stands m ≡ true → (h.root m ≡ h.root c → ⊥) → Renews h k m) → ((m : ℕ) → h.stands m ≡ true → k.stands m ≡ true → InPlace h k m) → LoadsTouched h k size size → h.room + k.copies at ≤ k.room + 62 → k.room ≤ h.room → k.spare ≡ h.spare → Readied f k at size
     readied k sound_k fixed place tree above still touched room falls spare = record {
       sound = sound_k;
-      fixed = Fixed-trans f h k walks.fixed fixed;
+      fixed = Fixed-trans f h k (λ m st st'. (walks.stays m st).place.stands) walks.fixed fixed;
       place = InPlace-trans f h k at there place;
       tree = λ m st root out.
           let first = loads.keeps m st (other_node m out) in
@@ -250,7 +250,7 @@ module _ (f h : Forest) (at count size : ℕ) (last : Option Ref) (r : Ref) (sou
   read_at_h = ap (λ (s : RefSet). slice_get s.refs (count - 1)) (walks.sets at stands) ∙ read
 
   contents_h : HasContents h at
-  contents_h = contents_keep f h at (sym (walks.stays at stands).place.root) walks.fixed.leaf_bits walks.fixed.allows holds_contents
+  contents_h = contents_keep f h at sound walks.sound stands (walks.stays at stands).place walks.fixed holds_contents
 
   past_h : (j : ℕ) (q : Ref) → slice_get (refs h at) j ≡ Some q → count ≤ j → size ≤ q.key
   past_h j q read' le = past j q (ap (λ (s : RefSet). slice_get s.refs j) (sym (walks.sets at stands)) ∙ read') le

@@ -113,7 +113,7 @@ in_append (z ∷ xs) x (suc i) y e = in_append xs x i y e
 pub cuts_front : (f k g : Forest) (at size count : ℕ) (last last' : Option Ref) → Readied f k at size → KeepsFront k g at count last' → ((l : List Ref) → LeavesOf f at l → HasLeaves k at (front count last' (refs k at)) (cut_to size last l)) → ((key : ℕ) → size ≤ key → FrontLeft k at (front count last' (refs k at)) size last key) → ((key : ℕ) (o : Option Ref) → key < cut_block size → Reaches f key at o → ReachesBy k key at (front count last' (refs k at)) o) → Cuts f g at size last
 cuts_front f k g at size count last last' mid keeps leaves past before = record {
   sound = keeps.sound;
-  fixed = Fixed-trans f k g mid.fixed keeps.fixed;
+  fixed = Fixed-trans f k g (λ m st st'. keeps.none_new m st') mid.fixed keeps.fixed;
   place = InPlace-trans f k g at mid.place keeps.place;
   leaves = λ l hl. keeps.leaves (cut_to size last l) (leaves l hl);
   before = λ key o lt reached. keeps.paths key o (before key o lt reached);
