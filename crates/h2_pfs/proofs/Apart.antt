@@ -136,6 +136,18 @@ not_away : (f : Forest) (n place : ℕ) (leaf : Ref) (m : ℕ) → (f.root m ≡
 not_away f n place leaf m other left (below_it r read same bits in_r) = other same
 not_away f n place leaf m other left (named apart is) = left is
 
+-- all goes that belongs to the PFS
+pub all_goes : (f g : Forest) (top : ℕ) (leaf : Ref) → IsSound f → f.stands top ≡ true → f.root top ≡ top → Removes f g top leaf → (m : ℕ) → f.stands m ≡ true → f.belongs m top leaf.key ≡ true → g.stands m ≡ false
+all_goes f g top leaf sound stands_top root_top rem m st belongs =
+    let goes = rem.goes in
+    let h = goes.then in
+    let n = goes.node in
+    let top_h = (goes.walks.stays top stands_top).place in
+    let at : h.root n ≡ top = (way_end goes.walks.sound top_h.stands goes.way).0 ∙ top_h.root ∙ root_top in
+    let here = (goes.walks.stays m st).place in
+    let other = (sound.owner m top leaf.key st belongs).other in
+    goes.gone m here.stands (named (λ e. other (sym here.root ∙ e ∙ at)) (subst (λ t. h.belongs m t leaf.key ≡ true) (sym at) (here.belongs top leaf.key ∙ belongs)))
+
 -- other trees stay but for those that belong to the PFS
 pub removes_others : {B : Type 0} (fields : B → Option Fields) (f g : Forest) (old new : ℕ → B) (top : ℕ) (leaf : Ref) → IsSound f → f.stands top ≡ true → f.root top ≡ top → KeepsBeside f g old new → Removes f g top leaf → KeepsOtherTrees f g (held_by fields old) (held_by fields new) top (λ c. f.belongs c top leaf.key ≡ true)
 removes_others fields f g old new top leaf sound stands_top root_top beside rem none c stands root other left =
