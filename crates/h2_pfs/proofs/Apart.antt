@@ -1,15 +1,16 @@
 -- Trees other than the super-root's, over changes of that one.
 use Rattle.std.proofs.Common.{◌≡◌, ℕ, true, false, refl, sym, ◌∙◌, ap, subst, inl, inr, suc, zero, List, [], ◌∷◌, Option, Some, None, slice_get}
 use Rattle.std.specs.Prelude.{◌⊎◌, ◌↔◌}
+use Rattle.std.proofs.lemmas.Bool.{cases_Bool}
 use Rattle.h2_ref.specs.declared.reference.Ref.{Ref}
 use Rattle.h2_set.specs.RefSet.{RefSet}
 use Rattle.h2_set.specs.Forest.{Forest, refs, loaded, IsSound, AllRenewed, Alike, InPlace, Same, Stays, Renews, KeepsLeaves, KeepsBeside, Reaches, OnWay, inside, across}
 use Rattle.h2_set.specs.StayLaws.{Alike-refl, InPlace-trans, Same-Stays, leaves_stay, leaves_stay_all, stands_below}
 use Rattle.h2_set.specs.PathLaws.{reaches_stay}
-use Rattle.h2_tree.specs.Changes.{Descends, arrived, onward, ChangesOnly, GoesAway, below_it, named, Removes, Inserts}
+use Rattle.h2_tree.specs.Changes.{Descends, arrived, onward, ChangesOnly, TakesIn, placed, parted, GoesAway, below_it, named, Removes}
 use Rattle.h2_inode.specs.declared.inode.Inode.{Inode}
-use Rattle.h2_inode.specs.Nodes.{Fields, held_by, HasInode, IsNamed}
-use Rattle.h2_inode.specs.NodeLaws.{named_stays, inode_held}
+use Rattle.h2_inode.specs.Nodes.{Fields, held_by, HasInode, IsNamed, IsUnloaded}
+use Rattle.h2_inode.specs.NodeLaws.{named_stays, named_back, inode_held}
 use Rattle.h2_pfs.specs.Others.{BelongsToNone, KeepsTree, KeepsOtherTrees}
 use Rattle.h2_pfs.specs.Addition.{Founds}
 use Rattle.h2_pfs.proofs.Renewed.{SameRules, fixed_rules}
@@ -135,6 +136,18 @@ not_away : (f : Forest) (n place : ℕ) (leaf : Ref) (m : ℕ) → (f.root m ≡
 not_away f n place leaf m other left (below_it r read same bits in_r) = other same
 not_away f n place leaf m other left (named apart is) = left is
 
+-- all goes that belongs to the PFS
+pub all_goes : (f g : Forest) (top : ℕ) (leaf : Ref) → IsSound f → f.stands top ≡ true → f.root top ≡ top → Removes f g top leaf → (m : ℕ) → f.stands m ≡ true → f.belongs m top leaf.key ≡ true → g.stands m ≡ false
+all_goes f g top leaf sound stands_top root_top rem m st belongs =
+    let goes = rem.goes in
+    let h = goes.then in
+    let n = goes.node in
+    let top_h = (goes.walks.stays top stands_top).place in
+    let at : h.root n ≡ top = (way_end goes.walks.sound top_h.stands goes.way).0 ∙ top_h.root ∙ root_top in
+    let here = (goes.walks.stays m st).place in
+    let other = (sound.owner m top leaf.key st belongs).other in
+    goes.gone m here.stands (named (λ e. other (sym here.root ∙ e ∙ at)) (subst (λ t. h.belongs m t leaf.key ≡ true) (sym at) (here.belongs top leaf.key ∙ belongs)))
+
 -- other trees stay but for those that belong to the PFS
 pub removes_others : {B : Type 0} (fields : B → Option Fields) (f g : Forest) (old new : ℕ → B) (top : ℕ) (leaf : Ref) → IsSound f → f.stands top ≡ true → f.root top ≡ top → KeepsBeside f g old new → Removes f g top leaf → KeepsOtherTrees f g (held_by fields old) (held_by fields new) top (λ c. f.belongs c top leaf.key ≡ true)
 removes_others fields f g old new top leaf sound stands_top root_top beside rem none c stands root other left =
@@ -151,6 +164,10 @@ removes_others fields f g old new top leaf sound stands_top root_top beside rem 
         not_away h n goes.place leaf m (λ e. other (sym root_m ∙ e ∙ at)) (λ e. left (sym (first.place.belongs top leaf.key) ∙ sym (same top leaf.key) ∙ subst (λ t. h.belongs m t leaf.key ≡ true) at e)) away in
     let second = changed_tree h g n top c (GoesAway h n goes.place leaf) walks.sound rem.sound goes.only at bare first.place.stands (first.place.root ∙ root) other here in
     let tree = tree_trans f h g c first second in
+    let before = λ (key d : ℕ) (is : IsNamed g c key d).
+        let there = goes.only.still d (goes.none_new d is.stands) (λ away. let clash : true ≡ false = sym is.stands ∙ goes.gone d (goes.none_new d is.stands) away in absurd (cc)) in
+        let stood = walks.roots d (goes.none_new d is.stands) (sym there.root ∙ is.root) in
+        named_back f g c key d tree.place stood (InPlace-trans f h g d (walks.stays d stood).place there) is in
     let below = λ (key d : ℕ) (is : IsNamed f c key d).
         (rem.above d is.stands (named_apart f top c key d sound none root_top is) (λ e. named_left f top leaf.key c key d other left is (subst (λ t. f.belongs d t leaf.key ≡ true) root_top e))).place in
     record {
@@ -159,9 +176,38 @@ removes_others fields f g old new top leaf sound stands_top root_top beside rem 
       leaves = tree.leaves;
       paths = tree.paths;
       named = λ key d is. named_stays f g c key d tree.place (below key d is) is;
+      unloaded = λ key none_d d is. none_d d (before key d is);
     }
 
 -- A PFS comes
+
+-- a root that a leaf of another tree names isn't the one that was planted
+put_before : (f g : Forest) (top own c key d : ℕ) → {new : ℕ} → ((t k : ℕ) → IsNamed g t k new → (t ≡ top) × (k ≡ own)) → ((m : ℕ) → g.stands m ≡ true → (m ≡ new) ⊎ (f.stands m ≡ true)) → (c ≡ top → ⊥) → IsNamed g c key d → f.stands d ≡ true
+put_before f g top own c key d only came other is = elim (came d is.stands) as (λ _. f.stands d ≡ true) [
+  | inl e ↦ absurd (other (only c key (subst (λ m. IsNamed g c key m) e is)).0)
+  | inr stood ↦ stood
+]
+
+-- no root came where the leaf was taken in: a node that a split makes stands below another
+taken_before : (f g : Forest) (n : ℕ) (leaf : Ref) (blocks : ℕ) → IsSound f → IsSound g → f.stands n ≡ true → ChangesOnly f g n (λ m. ⊥) → TakesIn f g n leaf blocks None → (d : ℕ) → g.stands d ≡ true → g.root d ≡ d → f.stands d ≡ true
+taken_before f g n leaf blocks sound after stands only (placed it) d st root = it.none_new d st
+taken_before f g n leaf blocks sound after stands only (parted it) d st root = elim (it.none_new d st) as (λ _. f.stands d ≡ true) [
+  | inr stood ↦ stood
+  | inl e ↦
+      let place = only.still n stands (λ z. z) in
+      let child = (after.node n place.stands).child it.key it.node it.link in
+      let own : g.root it.node ≡ it.node = subst (λ m. g.root m ≡ m) e root in
+      let is : f.root n ≡ it.node = sym place.root ∙ sym child.root ∙ own in
+      let clash : true ≡ false = sym (subst (λ m. f.stands m ≡ true) is (sound.top n stands).0) ∙ it.fresh in
+      absurd (cc)
+]
+
+-- no root came by loads in the tree of a root that stood
+loaded_before : (f g : Forest) (top d : ℕ) → ((m : ℕ) → f.stands m ≡ false → g.stands m ≡ true → g.root m ≡ top) → f.stands top ≡ true → g.stands d ≡ true → g.root d ≡ d → f.stands d ≡ true
+loaded_before f g top d tree stands st root = elim (cases_Bool (f.stands d)) as (λ _. f.stands d ≡ true) [
+  | inl stood ↦ stood
+  | inr new ↦ subst (λ m. f.stands m ≡ true) (sym (tree d new st) ∙ root) stands
+]
 
 -- other trees stay
 pub founds_others : {B : Type 0} (fields : B → Option Fields) (f g : Forest) (old new : ℕ → B) (top : ℕ) (leaf : Ref) (inode : Inode) → IsSound f → f.stands top ≡ true → f.root top ≡ top → KeepsBeside f g old new → Founds f g (held_by fields new) top leaf inode → KeepsOtherTrees f g (held_by fields old) (held_by fields new) top (λ c. ⊥)
@@ -183,10 +229,20 @@ founds_others fields f g old new top leaf inode sound stands_top root_top beside
     let fourth = all_tree it.put g c it.inserts.sound (λ m st. Same-Stays it.put g m (it.plants.brings.same m st)) third.place.stands (it.plants.brings.same c third.place.stands).set in
     let tree = tree_trans f it.put g c (tree_trans f b it.put c two third) fourth in
     let new_fields = held_by fields new in
+    let before = λ (key d : ℕ) (is : IsNamed g c key d).
+        let in_put = put_before it.put g top leaf.key c key d it.plants.only it.plants.brings.new other is in
+        let in_put_root = sym (it.plants.brings.same d in_put).place.root ∙ is.root in
+        let in_b = taken_before b it.put n leaf goes.blocks prep.sound it.inserts.sound goes.stands goes.only goes.change d in_put in_put_root in
+        let in_b_root = sym (goes.only.still d in_b (λ z. z)).root ∙ in_put_root in
+        let in_a = loaded_before a b top d (λ m new st. goes.touched.tree m new st ∙ top_a.root ∙ root_top) top_a.stands in_b in_b_root in
+        let stood = it.readies.none_new d in_a in
+        let place_d = InPlace-trans f it.put g d (InPlace-trans f b it.put d (InPlace-trans f a b d (it.readies.same d stood).place (prep.stays d in_a).place) (goes.only.still d in_b (λ z. z))) (it.plants.brings.same d in_put).place in
+        named_back f g c key d tree.place stood place_d is in
     record {
       place = tree.place;
       inode = λ i has. tree_inode fields f g old new c i tree (steps_rules f g new_fields top leaf inode c it stands) beside has;
       leaves = tree.leaves;
       paths = tree.paths;
       named = λ key d is. named_stays f g c key d tree.place (steps_renew f g new_fields top leaf inode d it is.stands (named_apart f top c key d sound none root_top is) stands_top).place is;
+      unloaded = λ key none_d d is. none_d d (before key d is);
     }

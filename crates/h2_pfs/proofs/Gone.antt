@@ -1,5 +1,5 @@
 -- What the removal of a PFS's leaf leaves.
-use Rattle.std.proofs.Common.{◌≡◌, ℕ, ◌<◌, ◌≤◌, ◌+◌, ◌-◌, ◌^◌, true, arith, sym, ◌∙◌, ap, subst, List, [], ◌∷◌, Option, Some, None}
+use Rattle.std.proofs.Common.{◌≡◌, ℕ, ◌<◌, ◌≤◌, ◌+◌, ◌-◌, ◌^◌, true, false, arith, sym, ◌∙◌, ap, subst, List, [], ◌∷◌, Option, Some, None}
 use Rattle.std.specs.Prelude.{IfSome, IfNone}
 use Rattle.h2_ref.specs.declared.reference.Ref.{Ref}
 use Rattle.h2_set.specs.Ranges.{Rising, without}
@@ -15,7 +15,7 @@ use Rattle.h2_inode.specs.Access.{OneByOne}
 use Rattle.h2_inode.specs.Loaded.{loaded_nodes, at_root, no_content, StandsAlike, view_of}
 use Rattle.h2_inode.specs.PfsList.{ListedPfs, IsPfs}
 use Rattle.h2_pfs.specs.Listing.{HasPfss, without_id}
-use Rattle.h2_pfs.specs.Meets.{IsMet, Meets, HasId}
+use Rattle.h2_pfs.specs.Meets.{IsMet, Meets, HasId, LoadsPfss}
 use Rattle.h2_pfs.specs.Others.{KeepsOtherTrees}
 use Rattle.h2_pfs.specs.Removal.{RemovesPfs}
 use Rattle.h2_pfs.proofs.Scanned.{whole_range}
@@ -90,13 +90,14 @@ pub held_beside : {B : Type 0} (fields : B → Option Fields) (f g : Forest) (ol
 held_beside fields f g old new beside = record { same = λ m st st'. ap fields (beside.same m st st') }
 
 -- the PFS with the name went
-pub removes_pfs : {B : Type 0} (fields : B → Option Fields) (f h g : Forest) (old mid new : ℕ → B) (was tells : Ref → Option Told) (top id : ℕ) (name : List ℕ) → Visits f h → StandsAlike (view_of fields f old was) (view_of fields h mid tells) → KeepsBeside f h old mid → KeepsBeside h g mid new → HasId h (held_by fields mid) top name (Some id) → (it : Gone h g top id) → KeepsOtherTrees h g (held_by fields mid) (held_by fields new) top (λ c. h.belongs c top (key_of it) ≡ true) → RemovesPfs f g (held_by fields old) (held_by fields new) was top name
-removes_pfs fields f h g old mid new was tells top id name visits alike before after found it others = record {
+pub removes_pfs : {B : Type 0} (fields : B → Option Fields) (f h g : Forest) (old mid new : ℕ → B) (was tells : Ref → Option Told) (top id : ℕ) (name : List ℕ) → Visits f h → StandsAlike (view_of fields f old was) (view_of fields h mid tells) → LoadsPfss f h top → KeepsBeside f h old mid → KeepsBeside h g mid new → HasId h (held_by fields mid) top name (Some id) → (it : Gone h g top id) → ((m : ℕ) → h.stands m ≡ true → h.belongs m top (key_of it) ≡ true → g.stands m ≡ false) → KeepsOtherTrees h g (held_by fields mid) (held_by fields new) top (λ c. h.belongs c top (key_of it) ≡ true) → RemovesPfs f g (held_by fields old) (held_by fields new) was top name
+removes_pfs fields f h g old mid new was tells top id name visits alike loads before after found it all_gone others = record {
   then = h;
   holds = held_by fields mid;
   tells = tells;
   visits = visits;
   alike = alike;
+  loads = loads;
   before = held_beside fields f h old mid before;
   after = held_beside fields h g mid new after;
   leaf = it.leaf;
@@ -104,5 +105,6 @@ removes_pfs fields f h g old mid new was tells top id name visits alike before a
   removes = it.removes;
   paths = it.paths;
   path = it.path;
+  gone = all_gone;
   others = others;
 }

@@ -13,4 +13,5 @@ pub mod Planted
 pub mod Added
 pub mod Spaced
 pub mod Alike
+pub mod Loading
 pub mod Apart

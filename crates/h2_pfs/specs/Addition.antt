@@ -9,7 +9,7 @@ use Rattle.h2_inode.specs.Nodes.{Fields, Told, HasInode, Visits, Plants}
 use Rattle.h2_inode.specs.PfsList.{ListedPfs}
 use Rattle.h2_inode.specs.Loaded.{StandsAlike}
 use Rattle.h2_pfs.specs.Listing.{id_of, put_pfs, HasPfss}
-use Rattle.h2_pfs.specs.Meets.{Meets}
+use Rattle.h2_pfs.specs.Meets.{Meets, LoadsPfss}
 use Rattle.h2_pfs.specs.Others.{KeepsOtherTrees}
 
 -- No leaf has the id as its key: the path of the key is loaded and leads to none, or the leaves are known.
@@ -47,6 +47,7 @@ pub record AddsPfs (f g : Forest) (old new : ℕ → Option Fields) (was : Ref �
   pub tells : Ref → Option Told
   pub visits : Visits f then
   pub alike : StandsAlike (record { forest = f; holds = old; tells = was }) (record { forest = then; holds = holds; tells = tells })
+  pub loads : LoadsPfss f then top
   pub before : KeepsBeside f then old holds
   pub after : KeepsBeside then g holds new
   pub space : HasSpace then holds top inode.name

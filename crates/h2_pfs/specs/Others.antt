@@ -3,20 +3,21 @@ use Rattle.std.specs.Prelude.{◌≡◌, ℕ, true, Option}
 use Rattle.h2_ref.specs.declared.reference.Ref.{Ref}
 use Rattle.h2_set.specs.Forest.{Forest, KeepsLeaves, Reaches, InPlace}
 use Rattle.h2_inode.specs.declared.inode.Inode.{Inode}
-use Rattle.h2_inode.specs.Nodes.{Fields, HasInode, IsNamed}
+use Rattle.h2_inode.specs.Nodes.{Fields, HasInode, IsNamed, IsUnloaded}
 
 -- node m belongs to no leaf, as the super-root
 abbrev pub BelongsToNone : Forest → ℕ → Type 0
 BelongsToNone f m = (top key : ℕ) → f.belongs m top key ≡ true → ⊥
 
 -- Root c stands where it stood and has the same inode, its tree has the same leaves and the same loaded paths, and its
--- leaves name the roots that they named.
+-- leaves name the roots that they named, and no others.
 pub record KeepsTree (f g : Forest) (old new : ℕ → Option Fields) (c : ℕ) : Type 0 where
   pub place : InPlace f g c
   pub inode : (i : Inode) → HasInode f old c i → HasInode g new c i
   pub leaves : KeepsLeaves f g c
   pub paths : (key : ℕ) (o : Option Ref) → Reaches f key c o → Reaches g key c o
   pub named : (key d : ℕ) → IsNamed f c key d → IsNamed g c key d
+  pub unloaded : (key : ℕ) → IsUnloaded f c key → IsUnloaded g c key
 
 -- where the super-root belongs to no leaf, the trees of all other roots stay, but of those that go
 abbrev pub KeepsOtherTrees : (f g : Forest) (old new : ℕ → Option Fields) → ℕ → (ℕ → Type 0) → Type 0

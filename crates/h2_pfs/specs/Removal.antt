@@ -1,5 +1,5 @@
 -- How a PFS is removed.
-use Rattle.std.specs.Prelude.{◌≡◌, ℕ, true, List, Option, Some, None}
+use Rattle.std.specs.Prelude.{◌≡◌, ℕ, true, false, List, Option, Some, None}
 use Rattle.h2_ref.specs.declared.reference.Ref.{Ref}
 use Rattle.h2_set.specs.Forest.{Forest, Reaches, KeepsBeside}
 use Rattle.h2_tree.specs.Changes.{Removes, KeepsPaths}
@@ -8,7 +8,7 @@ use Rattle.h2_inode.specs.Nodes.{Fields, Told, HasInode, IsNamed, Visits}
 use Rattle.h2_inode.specs.PfsList.{ListedPfs}
 use Rattle.h2_inode.specs.Loaded.{StandsAlike}
 use Rattle.h2_pfs.specs.Listing.{id_of, without_id, HasPfss}
-use Rattle.h2_pfs.specs.Meets.{HasId}
+use Rattle.h2_pfs.specs.Meets.{HasId, LoadsPfss}
 use Rattle.h2_pfs.specs.Others.{KeepsOtherTrees}
 
 -- the leaf with this key names a PFS that is loaded and has another name
@@ -31,6 +31,7 @@ pub record RemovesPfs (f g : Forest) (old new : ℕ → Option Fields) (was : Re
   pub tells : Ref → Option Told
   pub visits : Visits f then
   pub alike : StandsAlike (record { forest = f; holds = old; tells = was }) (record { forest = then; holds = holds; tells = tells })
+  pub loads : LoadsPfss f then top
   pub before : KeepsBeside f then old holds
   pub after : KeepsBeside then g holds new
   pub leaf : Ref
@@ -38,6 +39,7 @@ pub record RemovesPfs (f g : Forest) (old new : ℕ → Option Fields) (was : Re
   pub removes : Removes then g top leaf
   pub paths : KeepsPaths then g top leaf
   pub path : Reaches g leaf.key top None
+  pub gone : (m : ℕ) → then.stands m ≡ true → then.belongs m top leaf.key ≡ true → g.stands m ≡ false
   pub others : KeepsOtherTrees then g holds new top (λ c. then.belongs c top leaf.key ≡ true)
 
 -- where the tree stood for a list of PFSs, one of them has the name, and the tree stands for the others now

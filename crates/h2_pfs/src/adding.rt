@@ -9,6 +9,7 @@ ghost use Rattle.h2_inode.specs.Loaded.{StandsAlike, view_of};
 ghost use Rattle.h2_inode.specs.PfsList.{ListedPfs};
 ghost use Rattle.h2_pfs.specs.SuperRoot.{IsSuperRoot};
 ghost use Rattle.h2_pfs.specs.Listing.{HasPfss, KeepsPfss};
+ghost use Rattle.h2_pfs.specs.Meets.{LoadsPfss};
 ghost use Rattle.h2_pfs.specs.Addition.{IsFreeId, pfs_of, HasSpace, Founds, AddsPfs, PutsPfs};
 ghost use Rattle.h2_pfs.specs.Faults.{IsSpaceFault, IsAddFault, IsFaultIn};
 
@@ -33,6 +34,7 @@ fn make_space<N: Nodes>(alloc: Global, n: &mut N, root: NodeId, name: &[u8]) -> 
     ensures fault { IfErr result (IsSpaceFault (N.forest n.old) (N.forest n.new) (held_by N.fields (N.beside n.new)) root.0 name.now) }
     ensures refused { IfErr result (λ e. (next : ℕ) (pfss : List ListedPfs) → HasPfss (N.forest n.old) (held_by N.fields (N.beside n.old)) (N.told n.old) root.0 next pfss → IsFaultIn name.now pfss e) }
     ensures visits { Visits (N.forest n.old) (N.forest n.new) }
+    ensures loads { LoadsPfss (N.forest n.old) (N.forest n.new) root.0 }
     ensures alike { StandsAlike (view_of N.fields (N.forest n.old) (N.beside n.old) (N.told n.old)) (view_of N.fields (N.forest n.new) (N.beside n.new) (N.told n.new)) }
     ensures beside { KeepsBeside (N.forest n.old) (N.forest n.new) (N.beside n.old) (N.beside n.new) }
     ensures later { N.later n.old n.new }
@@ -64,6 +66,7 @@ fn found<N: Nodes>(
     requires path { Reaches (N.forest n.old) leaf.key root.0 None }
     ensures founds { OnOk result (Founds (N.forest n.old) (N.forest n.new) (held_by N.fields (N.beside n.new)) root.0 leaf inode) }
     ensures visits { OnErr result (Visits (N.forest n.old) (N.forest n.new)) }
+    ensures loads { OnErr result (LoadsPfss (N.forest n.old) (N.forest n.new) root.0) }
     ensures alike { OnErr result (StandsAlike (view_of N.fields (N.forest n.old) (N.beside n.old) (N.told n.old)) (view_of N.fields (N.forest n.new) (N.beside n.new) (N.told n.new))) }
     ensures beside { KeepsBeside (N.forest n.old) (N.forest n.new) (N.beside n.old) (N.beside n.new) }
     ensures later { N.later n.old n.new }
@@ -81,7 +84,7 @@ fn found<N: Nodes>(
 /// Full exactly where there are 64 PFSs or more. No leaf of the super-root's tree has the key, and the room is at least
 /// 63. The room is lowered by at most 63, and the spare nodes by at most 2. Trouble only where a leaf of that tree
 /// wasn't loaded, or an inode that one names, or the path of the key, or for want of memory. After a refusal nothing but
-/// loads took place, and all trees stand for what they stood for; so it is before the addition too, and after it the
+/// such loads took place, and all trees stand for what they stood for; so it is before the addition too, and after it the
 /// trees of other roots stay.
 pub fn pfs_add<N: Nodes>(
     alloc: Global,
@@ -105,6 +108,7 @@ pub fn pfs_add<N: Nodes>(
     ensures fault { IfErr result (IsAddFault (N.forest n.old) (N.forest n.new) (held_by N.fields (N.beside n.new)) root.0 inode.name leaf.key) }
     ensures refused { IfErr result (λ e. (next : ℕ) (pfss : List ListedPfs) → HasPfss (N.forest n.old) (held_by N.fields (N.beside n.old)) (N.told n.old) root.0 next pfss → IsFaultIn inode.name pfss e) }
     ensures visits { OnErr result (Visits (N.forest n.old) (N.forest n.new)) }
+    ensures loads { OnErr result (LoadsPfss (N.forest n.old) (N.forest n.new) root.0) }
     ensures alike { OnErr result (StandsAlike (view_of N.fields (N.forest n.old) (N.beside n.old) (N.told n.old)) (view_of N.fields (N.forest n.new) (N.beside n.new) (N.told n.new))) }
     ensures beside { KeepsBeside (N.forest n.old) (N.forest n.new) (N.beside n.old) (N.beside n.new) }
     ensures later { N.later n.old n.new }

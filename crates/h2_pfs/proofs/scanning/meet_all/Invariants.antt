@@ -7,7 +7,7 @@ use Rattle.h2_inode.specs.Access.{OneByOne}
 use Rattle.h2_inode.specs.Loaded.{StandsAlike, view_of}
 use Rattle.h2_inode.specs.PfsList.{ListedPfs}
 use Rattle.h2_pfs.specs.Mets.{met_of}
-use Rattle.h2_pfs.specs.Meets.{MetBy}
+use Rattle.h2_pfs.specs.Meets.{MetBy, LoadsPfss}
 use Rattle.h2_pfs.proofs.scanning.meet_all.Given as goal
 
 abbrev pub invariant-loop-i : goal.invariant-loop-i
@@ -16,6 +16,7 @@ invariant-loop-i g l =
     let now = g.N.Sets.forest l.n in
     record {
       visits : Visits f now;
+      loads : LoadsPfss f now l.root.0;
       alike : StandsAlike (view_of g.N.Nodes.fields f (g.N.Sets.beside l.fn.n) (g.N.Nodes.told l.fn.n)) (view_of g.N.Nodes.fields now (g.N.Sets.beside l.n) (g.N.Nodes.told l.n));
       beside : KeepsBeside f now (g.N.Sets.beside l.fn.n) (g.N.Sets.beside l.n);
       later : g.N.Sets.later l.fn.n l.n;
