@@ -2,14 +2,16 @@
 use Rattle.std.specs.Prelude.{◌≡◌, ◌<◌, ◌≤◌, ◌⊎◌, ℕ, ◌+◌, ◌/◌, ◌^◌, true, List, Option, Some, None, slice_get}
 use Rattle.std.proofs.Common.{sym, arith, inl, inr, subst}
 use Rattle.std.proofs.lemmas.Bool.Decides.{nat_tests}
+use Rattle.h2_ref.specs.declared.faults.Trouble.{Trouble}
+use Rattle.h2_ref.specs.declared.faults.Trouble.TheVariants.{NoMemory}
 use Rattle.h2_ref.specs.declared.reference.Dirent.{Dirent}
 use Rattle.h2_ref.specs.declared.reference.Ref.{Ref}
 use Rattle.h2_set.specs.Forest.{Forest, Reaches, Unchanged}
 use Rattle.h2_tree.specs.Changes.{is_between, LoadsTouched, Lists}
 use Rattle.h2_dirkey.specs.Name.{IsName}
 use Rattle.h2_dirkey.specs.Key.{upper_bits, least_key}
-use Rattle.h2_dir.specs.Names.{NoneNamed, IsPlaceOfName, Scanned}
-use Rattle.h2_dir.specs.Finding.{last_key, IsFound, IsMissing}
+use Rattle.h2_dir.specs.Names.{AnyLongCandidate, NoneNamed, IsPlaceOfName, Scanned}
+use Rattle.h2_dir.specs.Finding.{last_key, IsFound, IsMissing, MayLoad}
 use Rattle.h2_dir.proofs.Unchanging.{named_stays, may_stays}
 use Rattle.h2_dir.proofs.Agreeing.{key_between}
 
@@ -54,6 +56,13 @@ found_there f dir name items i key entry good lists at is =
       under = record { good = good; upper = subst (λ k. k / 2 ^ 15 ≡ upper_bits name) says.0 (between_upper name at.leaf one.0) };
       named = at.named;
     }
+
+-- a long name that was to be read is one of an entry under a key of the name
+pub candidate_loads : (f g : Forest) (dir : ℕ) (name : List ℕ) (items : List Ref) (e : Trouble) → Lists g dir (least_key name) (last_key name) items → (e ≡ NoMemory) ⊎ AnyLongCandidate items name → MayLoad f g dir name e
+candidate_loads f g dir name items e lists (inl none) = inl none
+candidate_loads f g dir name items e lists (inr any) =
+    let one = lists.each any.place any.leaf any.read in
+    inr (inr (record { leaf = any.leaf; path = one.1; upper = between_upper name any.leaf one.0; long = any.long }))
 
 pub missing_there : (f : Forest) (dir : ℕ) (name : List ℕ) (items : List Ref) → Lists f dir (least_key name) (last_key name) items → NoneNamed f items name → IsMissing f dir name
 missing_there f dir name items lists none = record {

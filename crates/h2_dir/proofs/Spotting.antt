@@ -23,7 +23,7 @@ use Rattle.h2_dir.proofs.Agreeing.{between}
 use Rattle.h2_dir.proofs.Paths.{hangs}
 use Rattle.h2_dir.proofs.Searched.{missing_there, found_there}
 
-link_cases : (x : Link) → ((c : ℕ) × (x ≡ loaded c)) ⊎ ((c : ℕ) → x ≡ loaded c → ⊥)
+pub link_cases : (x : Link) → ((c : ℕ) × (x ≡ loaded c)) ⊎ ((c : ℕ) → x ≡ loaded c → ⊥)
 link_cases (loaded c) = inl (c, refl)
 link_cases (told l) = inr (λ c e. cc)
 link_cases untold = inr (λ c e. cc)

@@ -43,7 +43,7 @@ pub(crate) fn search<N: Nodes>(
     ensures scanned { IfOk result (λ s. Scanned (N.forest n.new) s.leaves.items name.now s.place) }
     ensures err { IfErr result (HasCause (N.forest n.old) (N.forest n.new)) }
     ensures touched { LoadsTouched (N.forest n.old) (N.forest n.new) (least_key name.now) (last_key name.now) }
-    ensures unread { IfErr result (MayLoad (N.forest n.old) dir.0 name.now) }
+    ensures unread { IfErr result (MayLoad (N.forest n.old) (N.forest n.new) dir.0 name.now) }
     ensures beside { KeepsBeside (N.forest n.old) (N.forest n.new) (N.beside n.old) (N.beside n.new) }
     ensures later { N.later n.old n.new }
 {
