@@ -1,13 +1,13 @@
 -- What a search among the leaves under a name's keys tells of the directory.
-use Rattle.std.specs.Prelude.{◌≡◌, ◌<◌, ◌≤◌, ◌⊎◌, ℕ, ◌+◌, ◌/◌, ◌^◌, true, List, Option, Some, None, slice_get}
-use Rattle.std.proofs.Common.{sym, arith, inl, inr, subst}
+use Rattle.std.specs.Prelude.{◌≡◌, ◌<◌, ◌≤◌, ◌⊎◌, ℕ, ◌+◌, ◌/◌, ◌^◌, true, false, List, Option, Some, None, slice_get}
+use Rattle.std.proofs.Common.{sym, ◌∙◌, arith, inl, inr, subst}
 use Rattle.std.proofs.lemmas.Bool.Decides.{nat_tests}
 use Rattle.h2_ref.specs.declared.faults.Trouble.{Trouble}
 use Rattle.h2_ref.specs.declared.faults.Trouble.TheVariants.{NoMemory}
 use Rattle.h2_ref.specs.declared.reference.Dirent.{Dirent}
 use Rattle.h2_ref.specs.declared.reference.Ref.{Ref}
 use Rattle.h2_set.specs.Forest.{Forest, Reaches, Unchanged}
-use Rattle.h2_tree.specs.Changes.{is_between, LoadsTouched, Lists}
+use Rattle.h2_tree.specs.Changes.{is_between, LoadsTouched, LoadsIn, Lists}
 use Rattle.h2_dirkey.specs.Name.{IsName}
 use Rattle.h2_dirkey.specs.Key.{upper_bits, least_key}
 use Rattle.h2_dir.specs.Names.{AnyLongCandidate, NoneNamed, IsPlaceOfName, Scanned}
@@ -15,7 +15,7 @@ use Rattle.h2_dir.specs.Finding.{last_key, IsFound, IsMissing, MayLoad}
 use Rattle.h2_dir.proofs.Unchanging.{named_stays, may_stays}
 use Rattle.h2_dir.proofs.Agreeing.{key_between}
 
-pub touched_same : (f g h : Forest) (from to : ℕ) → LoadsTouched f g from to → Unchanged g h → LoadsTouched f h from to
+touched_same : (f g h : Forest) (from to : ℕ) → LoadsTouched f g from to → Unchanged g h → LoadsTouched f h from to
 touched_same f g h from to touched same = record {
   only = λ m stands.
       let before = same.none_new m stands in
@@ -24,6 +24,21 @@ touched_same f g h from to touched same = record {
         | inl old ↦ inl old
         | inr new ↦ inr (subst (λ n. n ≤ to) (sym place.low) new.0, subst (λ n. from < n + 2 ^ h.bits m) (sym place.low) (subst (λ n. from < g.low m + 2 ^ n) (sym place.bits) new.1))
       ];
+}
+
+-- all loads are in the tree
+pub loads_same : (f g h : Forest) (at from to : ℕ) → LoadsIn f g at from to → Unchanged g h → LoadsIn f h at from to
+loads_same f g h at from to loads same = record {
+  touched = touched_same f g h from to loads.touched same;
+  tree = λ m gone stands. let before = same.none_new m stands in (same.same m before).place.root ∙ loads.tree m gone before;
+  some = λ m gone stands. loads.some m gone (same.none_new m stands);
+}
+
+pub loads_none : (f : Forest) (at from to : ℕ) → LoadsIn f f at from to
+loads_none f at from to = record {
+  touched = record { only = λ m stands. inl stands };
+  tree = λ m gone stands. let clash : false ≡ true = sym gone ∙ stands in absurd (cc);
+  some = λ m gone stands. let clash : false ≡ true = sym gone ∙ stands in absurd (cc);
 }
 
 none_stays : (f g : Forest) (xs : List Ref) (name : List ℕ) → ((r : Ref) → f.name r ≡ g.name r) → NoneNamed f xs name → NoneNamed g xs name

@@ -48,6 +48,7 @@ touching from to key r low high h =
     let range = holds_inside key r h in
     let start : r.key ≤ to = omega (arith, low, high, range.0) in
     let end : from < limit r = omega (arith, low, high, range.1) in
+    let some : from ≤ to = omega (arith, low, high) in
     grind (arith, nat_tests)
 
 -- where all that a range needs is loaded, so is the path of each of its keys

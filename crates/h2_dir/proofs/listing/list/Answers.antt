@@ -11,7 +11,7 @@ use Rattle.h2_set.specs.Forest.{HasCause}
 use Rattle.h2_dir.proofs.Walked.{cause_earlier}
 use Rattle.h2_dir.proofs.Listed.{entry_leaves, each_stays}
 use Rattle.h2_dir.proofs.Paths.{lists_same}
-use Rattle.h2_dir.proofs.Searched.{touched_same}
+use Rattle.h2_dir.proofs.Searched.{loads_same, loads_none}
 use Rattle.h2_dir.proofs.Told.{lists_entries, long_loads}
 use Rattle.h2_dir.proofs.listing.list.Goals as goal
 
@@ -74,10 +74,13 @@ returns-in_err-all-clause-err g c i h =
     search (fails, rules)
 
 pub returns-in_err-all-clause-touched : goal.returns-in_err-all-clause-touched
-returns-in_err-all-clause-touched g c = touched_same _ _ _ _ _ c.in_ok-leaves.ensures.touched c.in_err-all.ensures.same
+returns-in_err-all-clause-touched g c = loads_same _ _ _ _ _ _ c.in_ok-leaves.ensures.tree c.in_err-all.ensures.same
 
 pub returns-in-Ok-clause-touched : goal.returns-in-Ok-clause-touched
-returns-in-Ok-clause-touched g c = touched_same _ _ _ _ _ c.in_ok-leaves.ensures.touched c.in_ok-all.ensures.same
+returns-in-Ok-clause-touched g c = loads_same _ _ _ _ _ _ c.in_ok-leaves.ensures.tree c.in_ok-all.ensures.same
 
 pub returns-clause-touched : goal.returns-clause-touched
-returns-clause-touched g c = touched_same _ _ _ _ _ c.in_ok-leaves.ensures.touched c.in_ok-all.ensures.same
+returns-clause-touched g c = loads_same _ _ _ _ _ _ c.in_ok-leaves.ensures.tree c.in_ok-all.ensures.same
+
+pub returns-then-not-is_directory-clause-touched : goal.returns-then-not-is_directory-clause-touched
+returns-then-not-is_directory-clause-touched g c = loads_none _ _ _ _
