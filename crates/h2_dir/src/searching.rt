@@ -1,7 +1,7 @@
 ghost use Rattle.std.specs.Prelude.{◌≡◌, IfOk, IfErr, List, filter};
 ghost use Rattle.h2_ref.specs.declared.reference.Ref.{Ref};
 ghost use Rattle.h2_set.specs.Forest.{IsSound, Walks, HasCause, KeepsBeside, LeavesOf};
-ghost use Rattle.h2_tree.specs.Changes.{LoadsTouched, Lists, is_between};
+ghost use Rattle.h2_tree.specs.Changes.{LoadsIn, Lists, is_between};
 ghost use Rattle.h2_dirkey.specs.Key.{least_key};
 ghost use Rattle.h2_inode.specs.declared.inode.Inode.{Inode};
 ghost use Rattle.h2_inode.specs.Nodes.{held_by, HasInode};
@@ -42,8 +42,8 @@ pub(crate) fn search<N: Nodes>(
     ensures lists { IfOk result (λ s. Lists (N.forest n.new) dir.0 (least_key name.now) (last_key name.now) s.leaves.items) }
     ensures scanned { IfOk result (λ s. Scanned (N.forest n.new) s.leaves.items name.now s.place) }
     ensures err { IfErr result (HasCause (N.forest n.old) (N.forest n.new)) }
-    ensures touched { LoadsTouched (N.forest n.old) (N.forest n.new) (least_key name.now) (last_key name.now) }
-    ensures unread { IfErr result (MayLoad (N.forest n.old) dir.0 name.now) }
+    ensures touched { LoadsIn (N.forest n.old) (N.forest n.new) dir.0 (least_key name.now) (last_key name.now) }
+    ensures unread { IfErr result (MayLoad (N.forest n.old) (N.forest n.new) dir.0 name.now) }
     ensures beside { KeepsBeside (N.forest n.old) (N.forest n.new) (N.beside n.old) (N.beside n.new) }
     ensures later { N.later n.old n.new }
 {
