@@ -6,3 +6,8 @@ mod CutChild
 mod CutNodes
 mod Sized
 mod Held
+mod Chained
+mod Opened
+mod Linked
+mod Loaded
+mod LinkHeld

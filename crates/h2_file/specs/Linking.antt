@@ -1,5 +1,5 @@
 -- What putting blocks into a file does to the references of its contents.
-use Rattle.std.specs.Prelude.{◌≡◌, ◌⊎◌, ◌×◌, ◌<◌, ◌≤◌, ◌+◌, ◌*◌, ◌^◌, ℕ, true, List, [], ◌∷◌, Option, Some, length, slice_get}
+use Rattle.std.specs.Prelude.{◌≡◌, ◌⊎◌, ◌<◌, ◌≤◌, ◌+◌, ◌*◌, ◌^◌, ℕ, true, List, [], ◌∷◌, Option, Some, length, slice_get}
 use Rattle.h2_ref.specs.declared.reference.Ref.{Ref}
 use Rattle.h2_ref.specs.declared.reference.Kind.TheVariants.{Content}
 use Rattle.h2_set.specs.Ranges.{NoneHolds, IsAligned, put}

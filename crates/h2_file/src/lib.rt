@@ -14,6 +14,7 @@
 mod blocks;
 mod cutting;
 mod fault;
+mod linking;
 mod merging;
 mod reading;
 mod sizing;
@@ -22,6 +23,7 @@ mod touching;
 pub use blocks::Touched;
 pub use cutting::cut_blocks;
 pub use fault::{FILE_BYTES, FileFault, check_end};
+pub use linking::link_blocks;
 pub use merging::merge;
 pub use reading::read_block;
 pub use touching::{BLOCK_BYTES, EMBEDDED_BYTES, touched};
