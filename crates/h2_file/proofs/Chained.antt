@@ -13,7 +13,7 @@ use Rattle.h2_file.specs.Linking.{IsBlock, FollowFrom, IsRun, blocks, behind_zer
 
 -- The keys of a run
 
-follow_key : (key : ℕ) (rs : List Ref) → FollowFrom key rs → (i : ℕ) (r : Ref) → slice_get rs i ≡ Some r → r.key ≡ key + 16384 * i
+pub follow_key : (key : ℕ) (rs : List Ref) → FollowFrom key rs → (i : ℕ) (r : Ref) → slice_get rs i ≡ Some r → r.key ≡ key + 16384 * i
 follow_key key [] h i r read = absurd (none-some r read)
 follow_key key (x ∷ rs) h zero r read = let same : x ≡ r = (cc) in let k = h.0 in subst (λ (y : Ref). y.key ≡ key + 16384 * 0) same (omega (arith, k))
 follow_key key (x ∷ rs) h (suc i) r read = let it = follow_key (key + 16384) rs h.1 i r read in omega (arith, it)

@@ -11,3 +11,6 @@ mod Opened
 mod Linked
 mod Loaded
 mod LinkHeld
+mod Watched
+mod Spent
+mod SpentAll

@@ -23,6 +23,8 @@ use Rattle.h2_file.specs.Sizing.{IsResized, HasResized, Sizes}
 use Rattle.h2_file.specs.Linking.{empty_set, IsBlock, AreBlocks, PathsLoaded, LoadsEach, Opens, PutsEach, LinksNodes, LinksFile, put_each}
 use Rattle.h2_file.proofs.Chained.{block_limit, blocks_ordered, PutAll, puts_all, puts_reach}
 use Rattle.h2_file.proofs.Opened.{Opened, opened_all}
+use Rattle.h2_file.proofs.Loaded.{loaded_on}
+use Rattle.h2_file.proofs.SpentAll.{puts_spent}
 
 -- The spare nodes
 
@@ -139,7 +141,7 @@ module _ (h : Forest) (holds : ℕ → Option Fields) (at : ℕ) (file : IsFile 
 
 -- The whole
 
-module _ (f w o p g : Forest) (at : ℕ) (rs : List Ref) (sound : IsSound f) (stands : f.stands at ≡ true) (top : f.root at ≡ at) (prepares : Prepares f w) (loads : LoadsEach f w rs) (loaded : PathsLoaded w at rs) (opens : Opens w at o) (puts : PutsEach at o rs p) (sizes : Sizes p g at) (are : AreBlocks rs) where
+module _ (f w o p g : Forest) (at : ℕ) (rs : List Ref) (sound : IsSound f) (stands : f.stands at ≡ true) (top : f.root at ≡ at) (prepares : Prepares f w) (loads : LoadsEach f w rs) (loaded : PathsLoaded w at rs) (opens : Opens w at o) (puts : PutsEach at o rs p) (sizes : Sizes p g at) (are : AreBlocks rs) (contents : HasContents o at) where
   place_w : (m : ℕ) → f.stands m ≡ true → InPlace f w m
   place_w m st = (prepares.stays m st).place
 
@@ -197,7 +199,10 @@ module _ (f w o p g : Forest) (at : ℕ) (rs : List Ref) (sound : IsSound f) (st
     failed = omega (arith, sizes.failed, all.fixed.failed, open_w.failed, prepares.fixed.failed);
     bad = omega (arith, sizes.bad, all.fixed.bad, open_w.bad, prepares.fixed.bad);
     writable = sizes.place.writable (all.place.writable open_w.writable);
-    room = omega (arith, sizes.room, all.room, open_w.room, prepares.room);
+    room = (
+      let spent = puts_spent rs are puts open_w.sound open_w.place.stands (open_w.place.root ∙ top_w) contents (loaded_on w o at rs open_w.paths loaded) (λ i r read. (i, read)) in
+      omega (arith, sizes.room, spent, open_w.room, prepares.room));
+    room_each = omega (arith, sizes.room, all.room, open_w.room, prepares.room);
     room_falls = omega (arith, sizes.room, all.room_falls, open_w.room, prepares.room);
     spare = omega (arith, sizes.spare, all.spare, open_w.spare, prepares.spare);
   }

@@ -123,6 +123,7 @@ pub record LinksFile (f g : Forest) (at : ℕ) (rs : List Ref) : Type 0 where
   pub failed : f.failed ≤ g.failed
   pub bad : f.bad ≤ g.bad
   pub writable : g.writable at ≡ true
-  pub room : f.room ≤ g.room + 63 * length rs
+  pub room : f.room ≤ g.room + 7 * length rs + 129
+  pub room_each : f.room ≤ g.room + 63 * length rs
   pub room_falls : g.room ≤ f.room
   pub spare : f.spare ≤ g.spare + length rs

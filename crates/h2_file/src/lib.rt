@@ -9,6 +9,9 @@
 //! references, where it is known, is `find` and `cut_to` (`specs/Cutting`), of its bytes `FileHas`
 //! (`specs/FileContents`), and of loaded paths, whatever is known of others, `Reaches`. A cut copies the lowest
 //! node of which something goes, and those above it (`CutsNodes`).
+//!
+//! `link_blocks` puts the references of new blocks in (`specs/Linking`): of the list it makes `put_each`, and of the bytes
+//! those of the blocks in their places (`LinksBytes`). It is the chain of insertions that it says it is (`LinksNodes`).
 #![tactic(auto)]
 
 mod blocks;

@@ -120,7 +120,7 @@ fn put_blocks<N: Sets>(alloc: Global, n: &mut N, at: NodeId, refs: &[Ref])
     requires sound { IsSound (N.forest n.old) }
     requires root { let f = N.forest n.old in (f.stands at.0 ≡ true) × (f.root at.0 ≡ at.0) × (f.low at.0 ≡ 0) }
     requires contents { HasContents (N.forest n.old) at.0 }
-    requires room { let f = N.forest n.old in 63 * length refs.now ≤ f.room }
+    requires room { let f = N.forest n.old in 7 * length refs.now + 186 ≤ f.room }
     requires spare { let f = N.forest n.old in length refs.now ≤ f.spare }
     requires blocks { AreBlocks refs.now }
     requires loaded { PathsLoaded (N.forest n.old) at.0 refs.now }
@@ -135,9 +135,11 @@ fn put_blocks<N: Sets>(alloc: Global, n: &mut N, at: NodeId, refs: &[Ref])
 
 /// Makes these references the file's, and sets its size. They are those of at most 65 consecutive blocks, in order, and
 /// block 0 may stand before them. A body of bytes becomes an empty set of references first. Each reference is inserted by
-/// itself, in their order, in place of the one with its key. The room is at least 63 for each of them. Trouble only where
-/// a node on the path of one of the keys isn't loaded, or fewer nodes are spare than there are references; nothing but
-/// loads took place then.
+/// itself, in their order, in place of the one with its key. With `k` references the room is at least 7k + 186, and is
+/// lowered by at most 7k + 129. For what is copied is a node of 64 blocks or more on the path of block 0, the first block
+/// or the last one, of which each path has at most 43, or one of at most 6 smaller nodes on the path of the block itself;
+/// and a split takes one new block. Trouble only where a node on the path of one of the keys isn't loaded, or fewer nodes
+/// are spare than there are references; nothing but loads took place then.
 pub fn link_blocks<N: Nodes>(
     alloc: Global,
     n: &mut N,
@@ -148,7 +150,7 @@ pub fn link_blocks<N: Nodes>(
     requires sound { IsSound (N.forest n.old) }
     requires file { IsFile (N.forest n.old) (held_by N.fields (N.beside n.old)) inode.0 }
     requires blocks { AreBlocks refs.now }
-    requires room { let f = N.forest n.old in 63 * length refs.now ≤ f.room }
+    requires room { let f = N.forest n.old in 7 * length refs.now + 186 ≤ f.room }
     ensures links { OnOk result (LinksFile (N.forest n.old) (N.forest n.new) inode.0 refs.now) }
     ensures contents { (blocks : Ref → Option Places) (old : ℕ) (bytes new : List ℕ) → FileHas (N.forest n.old) (held_by N.fields (N.beside n.old)) (N.told n.old) blocks inode.0 old bytes → LinksBytes blocks refs.now size bytes new → OnOk result (FileHas (N.forest n.new) (held_by N.fields (N.beside n.new)) (N.told n.new) blocks inode.0 size new) }
     ensures inode { OnOk result ((i : Inode) → HasInode (N.forest n.old) (held_by N.fields (N.beside n.old)) inode.0 i → HasResized (N.forest n.new) (held_by N.fields (N.beside n.new)) inode.0 i size) }

@@ -6,6 +6,8 @@ use Rattle.h2_file.proofs.CutLevels.{beside_on}
 use Rattle.h2_file.proofs.Fronts.{contents_keep}
 use Rattle.h2_file.proofs.Loaded.{at_place, beside_same}
 use Rattle.h2_file.proofs.Chained.{blocks_ordered, puts_all, puts_more, front_none, front_more, taken_length}
+use Rattle.h2_file.proofs.Parts.{take_from}
+use Rattle.h2_file.proofs.SpentAll.{puts_spent}
 use Rattle.h2_file.proofs.linking.put_blocks.Goals as goal
 
 pub loop-i-init : goal.loop-i-init
@@ -26,10 +28,10 @@ put_block-requires-clause-contents g c =
 
 pub put_block-requires-clause-room : goal.put_block-requires-clause-room
 put_block-requires-clause-room g c =
-    let all = puts_all c.loop-i.invariant.puts c.requires.sound c.requires.root.0 in
     let within = c.loop-i-test.true in
     let n : length (take c.loop-i.i c.args.refs.now) ≡ c.loop-i.i = taken_length c.loop-i.i c.args.refs.now (omega (arith, within)) in
-    omega (arith, n, within, all.room, c.requires.room)
+    let spent = puts_spent c.args.refs.now c.requires.blocks c.loop-i.invariant.puts c.requires.sound c.requires.root.0 c.requires.root.1 c.requires.contents c.requires.loaded (λ i r read. (i, (take_from c.loop-i.i c.args.refs.now i r read).1)) in
+    omega (arith, n, within, spent, c.requires.room)
 
 pub put_block-requires-clause-spare : goal.put_block-requires-clause-spare
 put_block-requires-clause-spare g c =
