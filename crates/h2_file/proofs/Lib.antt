@@ -6,3 +6,11 @@ mod CutChild
 mod CutNodes
 mod Sized
 mod Held
+mod Chained
+mod Opened
+mod Linked
+mod Loaded
+mod LinkHeld
+mod Watched
+mod Spent
+mod SpentAll

@@ -1,5 +1,5 @@
 -- What putting blocks into a file does to the references of its contents.
-use Rattle.std.specs.Prelude.{◌≡◌, ◌⊎◌, ◌×◌, ◌<◌, ◌≤◌, ◌+◌, ◌*◌, ◌^◌, ℕ, true, List, [], ◌∷◌, Option, Some, length, slice_get}
+use Rattle.std.specs.Prelude.{◌≡◌, ◌⊎◌, ◌<◌, ◌≤◌, ◌+◌, ◌*◌, ◌^◌, ℕ, true, List, [], ◌∷◌, Option, Some, length, slice_get}
 use Rattle.h2_ref.specs.declared.reference.Ref.{Ref}
 use Rattle.h2_ref.specs.declared.reference.Kind.TheVariants.{Content}
 use Rattle.h2_set.specs.Ranges.{NoneHolds, IsAligned, put}
@@ -123,6 +123,7 @@ pub record LinksFile (f g : Forest) (at : ℕ) (rs : List Ref) : Type 0 where
   pub failed : f.failed ≤ g.failed
   pub bad : f.bad ≤ g.bad
   pub writable : g.writable at ≡ true
-  pub room : f.room ≤ g.room + 63 * length rs
+  pub room : f.room ≤ g.room + 7 * length rs + 129
+  pub room_each : f.room ≤ g.room + 63 * length rs
   pub room_falls : g.room ≤ f.room
   pub spare : f.spare ≤ g.spare + length rs
