@@ -126,7 +126,7 @@ named_apart : (f : Forest) (top c key d : ℕ) → IsSound f → BelongsToNone f
 named_apart f top c key d sound none root is same =
     none c key (subst (λ m. f.belongs m c key ≡ true) (sym is.root ∙ same ∙ root) ((is.belongs c key).1 (inl (refl, refl))))
 
-named_left : (f : Forest) (top key c k d : ℕ) → (c ≡ top → ⊥) → (f.belongs c top key ≡ true → ⊥) → IsNamed f c k d → f.belongs d top key ≡ true → ⊥
+pub named_left : (f : Forest) (top key c k d : ℕ) → (c ≡ top → ⊥) → (f.belongs c top key ≡ true → ⊥) → IsNamed f c k d → f.belongs d top key ≡ true → ⊥
 named_left f top key c k d other left is belongs =
     elim ((is.belongs top key).0 belongs) as (λ _. ⊥) [ inl same ↦ other (sym same.0) | inr own ↦ left own ]
 

@@ -15,3 +15,4 @@ pub mod Spaced
 pub mod Alike
 pub mod Loading
 pub mod Apart
+pub mod Followed
