@@ -1,5 +1,7 @@
 pub mod Merged
 mod Parts
+mod Answering
+mod Onward
 mod Fronts
 mod CutLevels
 mod CutChild

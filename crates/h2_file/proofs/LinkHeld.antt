@@ -1,6 +1,6 @@
 -- What a file stands for once blocks were put into it.
 use Rattle.std.proofs.Common.{◌≡◌, ℕ, ◌+◌, ◌%◌, ◌^◌, ◌<◌, ◌≤◌, Bool, true, false, arith, refl, sym, ◌∙◌, ap, cond, List, [], ◌∷◌, length, Option, Some, None, subst, ◌⊎◌, inl, inr, nat_lt, slice_get, suc, zero}
-use Rattle.std.specs.Prelude.{All, slice_index, slice_index_or}
+use Rattle.std.specs.Prelude.{All, slice_index_or}
 use Rattle.std.proofs.lemmas.Bool.{cases_lt}
 use Rattle.std.proofs.lemmas.Bool.Decides.{nat_tests}
 use Rattle.std.proofs.lemmas.Nat.{pow_pos}
@@ -9,14 +9,14 @@ use Rattle.h2_num.specs.Places.{Places}
 use Rattle.h2_ref.specs.declared.reference.Ref.{Ref}
 use Rattle.h2_set.specs.Ranges.{Rising, limit, holds, find, NoneHolds, put}
 use Rattle.h2_set.specs.Forest.{Forest, IsSound, LeavesOf}
-use Rattle.h2_set.specs.LeafLaws.{holds_outside, outside_holds, leaves_rising, place_above, reaches_find}
+use Rattle.h2_set.specs.LeafLaws.{outside_holds, leaves_rising, place_above, reaches_find}
 use Rattle.h2_set.specs.StayLaws.{leaves_stay_all}
 use Rattle.h2_tree.specs.ListLaws.{In, find_in}
 use Rattle.h2_inode.specs.Nodes.{Fields, Told}
 use Rattle.h2_inode.specs.Contents.{IsPart}
 use Rattle.h2_inode.specs.Loaded.{at_root}
 use Rattle.h2_file.specs.FileContents.{file_reading, FileHas, LinksBytes}
-use Rattle.h2_file.specs.Linking.{IsBlock, AreBlocks, PutsEach, none, first, put_each, LinksFile}
+use Rattle.h2_file.specs.Linking.{AreBlocks, PutsEach, none, first, put_each, LinksFile}
 use Rattle.h2_file.proofs.Chained.{block_limit, block_aligned}
 use Rattle.h2_file.proofs.Held.{all_head, all_tail}
 use Rattle.h2_file.proofs.Opened.{opened_all}
@@ -203,11 +203,13 @@ module _ (f g : Forest) (holds_f holds_g : ℕ → Option Fields) (tells_f tells
     pub holes_now : All Was l → (k : ℕ) → find k (put_each rs l) ≡ None → NoneHolds k rs × (find k l ≡ None)
     holes_now all k e =
         let miss = find_misses k (put_each rs l) e in
-        let out : NoneHolds k rs = λ i r read. let it = there i r read in miss it.0 r it.1 in
-        (out, find_all k l (λ i x read. elim (each_stays rs l x (i, read)) as (λ _. holds k x ≡ false) [
-          | inl stays ↦ miss stays.0 x stays.1
-          | inr has ↦ same_range k x has.1 has.3 (let part = all_in Was l all i x read in part.keybits_are ∙ sym (are.each has.0 has.1 has.2).keybits) (out has.0 has.1 has.2)
-        ]))
+        let out : NoneHolds k rs = λ i r read. let it = there i r read in miss it.0 r it.1 in (
+          out,
+          find_all k l (λ i x read. elim (each_stays rs l x (i, read)) as (λ _. holds k x ≡ false) [
+            | inl stays ↦ miss stays.0 x stays.1
+            | inr has ↦ same_range k x has.1 has.3 (let part = all_in Was l all i x read in part.keybits_are ∙ sym (are.each has.0 has.1 has.2).keybits) (out has.0 has.1 has.2)
+          ]),
+        )
 
   pub link_has : IsSound f → f.stands at ≡ true → f.root at ≡ at → FileHas f holds_f tells_f blocks at old bytes → FileHas g holds_g tells_g blocks at size new
   link_has sound stands top has =

@@ -1,11 +1,10 @@
 -- A file into which references of blocks were put.
-use Rattle.std.proofs.Common.{◌≡◌, ℕ, ◌+◌, ◌*◌, ◌<◌, ◌≤◌, ◌^◌, true, false, arith, refl, sym, ◌∙◌, ap, List, length, Option, Some, None, subst, inl, inr, slice_get}
-use Rattle.std.specs.Prelude.{◌↔◌}
+use Rattle.std.proofs.Common.{◌≡◌, ℕ, ◌+◌, ◌^◌, true, false, arith, refl, sym, ◌∙◌, ap, List, Option, Some, subst, inl, inr}
 use Rattle.h2_ref.specs.declared.reference.Ref.{Ref}
 use Rattle.h2_ref.specs.declared.reference.Kind.{Kind}
 use Rattle.h2_ref.specs.declared.reference.Kind.TheVariants.{Content}
 use Rattle.h2_set.specs.RefSet.{RefSet}
-use Rattle.h2_set.specs.Ranges.{limit, leads_on}
+use Rattle.h2_set.specs.Ranges.{leads_on}
 use Rattle.h2_set.specs.Forest.{Forest, IsSound, InPlace, Fixed, Walks, ReadiesOnly, KeepsBeside}
 use Rattle.h2_set.specs.StayLaws.{Fixed-trans, InPlace-trans, Stays-trans, Same-Stays, leaves_stay_all, stands_below}
 use Rattle.h2_set.specs.PathLaws.{reaches_stay}
@@ -13,7 +12,6 @@ use Rattle.h2_set.specs.ChangeLaws.{Same-Keeps, same_or_not}
 use Rattle.h2_set.specs.RenewLaws.{Keeps-Renews, Renews-trans}
 use Rattle.h2_tree.specs.Changes.{Takes, Prepares}
 use Rattle.h2_inode.specs.declared.kind.InodeKind.TheVariants.{File}
-use Rattle.h2_inode.specs.declared.inode.Body.{Body}
 use Rattle.h2_inode.specs.declared.inode.Body.TheVariants.{Refs, Bytes}
 use Rattle.h2_inode.specs.declared.inode.Inode.{Inode}
 use Rattle.h2_inode.specs.Nodes.{Fields, fields_of, set_of, HasInode, KeepsOthersBeside}
@@ -200,8 +198,8 @@ module _ (f w o p g : Forest) (at : ℕ) (rs : List Ref) (sound : IsSound f) (st
     bad = omega (arith, sizes.bad, all.fixed.bad, open_w.bad, prepares.fixed.bad);
     writable = sizes.place.writable (all.place.writable open_w.writable);
     room = (
-      let spent = puts_spent rs are puts open_w.sound open_w.place.stands (open_w.place.root ∙ top_w) contents (loaded_on w o at rs open_w.paths loaded) (λ i r read. (i, read)) in
-      omega (arith, sizes.room, spent, open_w.room, prepares.room));
+        let spent = puts_spent rs are puts open_w.sound open_w.place.stands (open_w.place.root ∙ top_w) contents (loaded_on w o at rs open_w.paths loaded) (λ i r read. (i, read)) in
+        omega (arith, sizes.room, spent, open_w.room, prepares.room));
     room_each = omega (arith, sizes.room, all.room, open_w.room, prepares.room);
     room_falls = omega (arith, sizes.room, all.room_falls, open_w.room, prepares.room);
     spare = omega (arith, sizes.spare, all.spare, open_w.spare, prepares.spare);

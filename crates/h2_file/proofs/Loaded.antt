@@ -1,13 +1,13 @@
 -- Paths of several keys that are loaded one after the other.
-use Rattle.std.proofs.Common.{◌≡◌, ℕ, ◌+◌, ◌<◌, ◌≤◌, ◌^◌, true, arith, refl, sym, ◌∙◌, ap, List, [], ◌∷◌, length, Option, Some, subst, ◌⊎◌, inl, inr, slice_get, suc, zero}
+use Rattle.std.proofs.Common.{◌≡◌, ℕ, ◌+◌, ◌<◌, ◌^◌, true, arith, refl, ap, List, [], ◌∷◌, length, Option, Some, subst, ◌⊎◌, inl, inr, slice_get, suc, zero}
 use Rattle.std.specs.Prelude.{slice_index_or}
 use Rattle.h2_ref.specs.declared.reference.Ref.{Ref}
-use Rattle.h2_set.specs.Forest.{Forest, IsSound, InPlace, Walks, ReadiesOnly, Reaches, KeepsBeside}
+use Rattle.h2_set.specs.Forest.{Forest, IsSound, InPlace, Walks, ReadiesOnly, Reaches}
 use Rattle.h2_set.specs.StayLaws.{Reaches-walks, Same-Stays, stands_below}
 use Rattle.h2_set.specs.PathLaws.{reaches_stay}
 use Rattle.h2_set.specs.ChangeLaws.{same_or_not}
 use Rattle.h2_tree.specs.Changes.{LoadsTouched, PathUnloaded}
-use Rattle.h2_file.specs.Linking.{PathsLoaded, IsOnPath, LoadsEach, PathMissing}
+use Rattle.h2_file.specs.Linking.{PathsLoaded, IsOnPath, LoadsEach}
 
 pub Each-refl : (f : Forest) (rs : List Ref) → LoadsEach f f rs
 Each-refl f rs = record { only = λ m st. inl st }
@@ -57,9 +57,6 @@ pub at_place : (xs : List Ref) (i : ℕ) (d : Ref) → i < length xs → slice_g
 at_place [] i d within = absurd (omega (arith, within))
 at_place (x ∷ xs) zero d within = refl
 at_place (x ∷ xs) (suc i) d within = at_place xs i d (omega (arith, within))
-
-pub beside_same : {B : Type 0} (f : Forest) (a : ℕ → B) → KeepsBeside f f a a
-beside_same f a = record { same = λ m st st'. refl }
 
 -- once one more path is loaded
 pub loaded_more : (f g : Forest) (at : ℕ) (rs : List Ref) (i : ℕ) (r : Ref) (o : Option Ref) → IsSound f → f.stands at ≡ true → Walks f g → slice_get rs i ≡ Some r → Reaches g r.key at o → ((j : ℕ) (x : Ref) → slice_get rs j ≡ Some x → j < i → (p : Option Ref) × Reaches f x.key at p) → (j : ℕ) (x : Ref) → slice_get rs j ≡ Some x → j < i + 1 → (p : Option Ref) × Reaches g x.key at p

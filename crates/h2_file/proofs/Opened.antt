@@ -1,5 +1,5 @@
 -- A file whose root is made writable, and whose body of bytes becomes an empty set.
-use Rattle.std.proofs.Common.{◌≡◌, ℕ, ◌<◌, true, arith, refl, sym, ◌∙◌, ap, List, [], ◌∷◌, length, Option, Some, None, subst, inl, inr, slice_get}
+use Rattle.std.proofs.Common.{◌≡◌, ℕ, true, arith, refl, sym, ◌∙◌, ap, List, [], Option, Some, None, subst, inl, inr, slice_get}
 use Rattle.std.proofs.lemmas.Option.{none-some}
 use Rattle.h2_ref.specs.declared.reference.Ref.{Ref}
 use Rattle.h2_set.specs.RefSet.{RefSet}
@@ -9,7 +9,6 @@ use Rattle.h2_set.specs.ChangeLaws.{Keeps-Stays, Same-Keeps, same_or_not}
 use Rattle.h2_set.specs.PathLaws.{alters_path}
 use Rattle.h2_set.specs.RenewLaws.{Keeps-Renews, Renews-trans}
 use Rattle.h2_inode.specs.Nodes.{Replaces, Replaceable}
-use Rattle.h2_inode.specs.declared.kind.InodeKind.{InodeKind}
 use Rattle.h2_inode.specs.declared.kind.InodeKind.TheVariants.{File}
 use Rattle.h2_file.specs.Linking.{empty_set, Opens, body_of_refs, body_of_bytes}
 use Rattle.h2_file.proofs.Fronts.{altered_place}

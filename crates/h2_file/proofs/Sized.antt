@@ -19,8 +19,8 @@ use Rattle.h2_inode.specs.NodeLaws.{storable_replaceable}
 use Rattle.h2_file.specs.Blocks.{IsFileOfRefs, HasContents}
 use Rattle.h2_file.specs.Sizing.{IsResized, HasResized, Sizes}
 use Rattle.h2_file.specs.Cutting.{Cuts, CutsNodes, CutsFile, cut_to}
+use Rattle.h2_file.proofs.Answering.{Touched-on}
 use Rattle.h2_file.proofs.CutNodes.{nodes_sized}
-use Rattle.h2_file.proofs.CutLevels.{Touched-on}
 
 some_same : {X : Type 0} {x y : X} → Some x ≡ Some y → x ≡ y
 some_same e = (cc)

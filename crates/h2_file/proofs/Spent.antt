@@ -1,20 +1,17 @@
 -- The room that references of neighbouring blocks take when they go into a file's tree.
-use Rattle.std.proofs.Common.{◌≡◌, ℕ, ◌+◌, ◌*◌, ◌<◌, ◌≤◌, ◌^◌, Bool, true, false, arith, refl, sym, ◌∙◌, ap, cond, List, [], ◌∷◌, ◌++◌, length, Option, Some, subst, ◌⊎◌, inl, inr, slice_get, suc, zero}
+use Rattle.std.proofs.Common.{◌≡◌, ℕ, ◌+◌, ◌<◌, ◌≤◌, ◌^◌, Bool, true, false, arith, refl, sym, ◌∙◌, ap, cond, List, [], ◌∷◌, Option, Some, subst, ◌⊎◌, inl, inr, slice_get}
 use Rattle.std.proofs.lemmas.Bool.{cases_lt, cases_Bool}
 use Rattle.std.proofs.lemmas.Nat.{pow_pos, pow_below}
 use Rattle.h2_ref.specs.declared.reference.Ref.{Ref}
-use Rattle.h2_set.specs.Ranges.{limit, holds, is_indirect}
-use Rattle.h2_set.specs.RefSet.{RefSet}
-use Rattle.h2_set.specs.Forest.{Forest, refs, loaded, IsSound, InPlace, Fixed, OnWay, inside, IsAbove, itself, by, Reaches}
+use Rattle.h2_set.specs.Ranges.{holds}
+use Rattle.h2_set.specs.Forest.{Forest, IsSound, InPlace, inside, IsAbove, itself, by}
 use Rattle.h2_set.specs.LeafLaws.{holds_inside}
 use Rattle.h2_set.specs.PathLaws.{in_holds}
 use Rattle.h2_set.specs.ChangeLaws.{same_or_not}
 use Rattle.h2_tree.specs.Changes.{Descends, arrived, onward, ChangesOnly, TakesIn, replaced, placed, parted, Prepares, Inserts}
 use Rattle.h2_file.specs.Blocks.{HasContents}
-use Rattle.h2_file.specs.Linking.{PathsLoaded, Puts, PutsEach, none, first}
 use Rattle.h2_file.proofs.Fronts.{contents_keep}
-use Rattle.h2_file.proofs.Chained.{Ordered, behind_out, before_out}
-use Rattle.h2_file.proofs.Watched.{Among, among_left, among_right, among_either, unwritten, unwritten_most, unwritten_same, Falls, fallen, HighPath, high_path, Watched, watched_prepared}
+use Rattle.h2_file.proofs.Watched.{Among, unwritten, unwritten_same, Falls, fallen, HighPath, Watched, watched_prepared}
 
 -- Ways down
 
@@ -92,22 +89,22 @@ high_way {t} {x} sound (onward {at = m} {c = c} {n = n} {r = r} i read in_r ind 
     let long = (node.fits i r read).wide ind in
     elim (cases_lt (t.bits c) 20) as (λ _. HighWay t x m n) [
       | inl small ↦ record {
-          list = [];
-          falls = tt;
-          stands = λ v it. absurd it;
-          root = λ v it. absurd it;
-          fewer = λ v it. absurd it;
-          low = λ v it. absurd it;
-          high = λ v it. absurd it;
-          wide = λ v it. absurd it;
-          above = λ v it. absurd it;
-          count = (
+        list = [];
+        falls = tt;
+        stands = λ v it. absurd it;
+        root = λ v it. absurd it;
+        fewer = λ v it. absurd it;
+        low = λ v it. absurd it;
+        high = λ v it. absurd it;
+        wide = λ v it. absurd it;
+        above = λ v it. absurd it;
+        count = (
             let one = cond_one (t.writable c) in
             let sum = deep.sum in
             let e = kid.copies in
             let least = deep.wide (omega (arith, bits_c, long, leaf)) in
             omega (arith, one, sum, e, least, small));
-        }
+      }
       | inr large ↦
           let more = high_way sound rest kid.stands leaf_c in
           record {

@@ -11,7 +11,7 @@ use Rattle.h2_file.specs.Blocks.{HasContents}
 use Rattle.h2_file.specs.Linking.{FollowFrom, IsRun, blocks, behind_zero, AreBlocks, PathsLoaded, Puts, PutsEach, none, first}
 use Rattle.h2_file.proofs.Loaded.{at_place}
 use Rattle.h2_file.proofs.Chained.{Ordered, blocks_ordered, behind_out, before_out, follow_key}
-use Rattle.h2_file.proofs.Watched.{Among, among_left, among_right, among_either, unwritten, unwritten_most, HighPath, ShortPath, high_path, Watched, watched_from}
+use Rattle.h2_file.proofs.Watched.{among_left, among_right, among_either, unwritten, unwritten_most, ShortPath, high_path, watched_from}
 use Rattle.h2_file.proofs.Spent.{KeyOf, Span, Guarded, step_room, step_guarded}
 
 -- The keys of a run

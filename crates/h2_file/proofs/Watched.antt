@@ -2,9 +2,9 @@
 use Rattle.std.proofs.Common.{◌≡◌, ℕ, ◌+◌, ◌<◌, ◌≤◌, ◌^◌, Bool, true, false, arith, refl, sym, ◌∙◌, ap, cond, List, [], ◌∷◌, ◌++◌, length, Option, Some, subst, ◌⊎◌, inl, inr, slice_get, suc, zero}
 use Rattle.std.proofs.lemmas.Bool.{cases_lt, cases_Bool}
 use Rattle.h2_ref.specs.declared.reference.Ref.{Ref}
-use Rattle.h2_set.specs.Ranges.{limit, holds, is_indirect}
+use Rattle.h2_set.specs.Ranges.{holds, is_indirect}
 use Rattle.h2_set.specs.RefSet.{RefSet}
-use Rattle.h2_set.specs.Forest.{Forest, refs, loaded, IsSound, InPlace, Reaches, nowhere, here, below}
+use Rattle.h2_set.specs.Forest.{Forest, refs, loaded, IsSound, Reaches, nowhere, here, below}
 use Rattle.h2_set.specs.PathLaws.{in_holds, same_holder}
 use Rattle.h2_set.specs.ChangeLaws.{same_or_not}
 use Rattle.h2_tree.specs.Changes.{Prepares}
@@ -145,10 +145,10 @@ high_path {f} {key} sound (here {at = at} {r = q} j read_q in_q leaf) stands wid
     list = [];
     next = λ p i r where_p read in_r ind big. elim where_p as (λ _. (c : ℕ) × (f.link p r.key ≡ loaded c) × Among c []) [
       | inl e ↦ absurd (
-        let there : slice_get (refs f at) i ≡ Some r = subst (λ z. slice_get (refs f z) i ≡ Some r) e read in
-        let same : r ≡ q = same_holder _ _ key (refs f at) j i q r (sound.node at stands).inside read_q there in_q in_r in
-        let clash : true ≡ false = sym ind ∙ (ap (λ (x : Ref). is_indirect x) same ∙ leaf) in
-        cc)
+          let there : slice_get (refs f at) i ≡ Some r = subst (λ z. slice_get (refs f z) i ≡ Some r) e read in
+          let same : r ≡ q = same_holder _ _ key (refs f at) j i q r (sound.node at stands).inside read_q there in_q in_r in
+          let clash : true ≡ false = sym ind ∙ (ap (λ (x : Ref). is_indirect x) same ∙ leaf) in
+          cc)
       | inr none ↦ absurd none
     ];
     stands = λ m it. absurd it;
@@ -162,19 +162,19 @@ high_path {f} {key} sound (below {at = at} {c = c} {r = q} j read_q in_q ind_q l
     let same_at : (i : ℕ) (r : Ref) → slice_get (refs f at) i ≡ Some r → holds key r ≡ true → r ≡ q = λ i r read in_r. same_holder _ _ key (refs f at) j i q r node.inside read_q read in_q in_r in
     elim (cases_lt q.keybits 20) as (λ _. ShortPath f key at) [
       | inl small ↦ record {
-          high = record {
-            list = [];
-            next = λ p i r where_p read in_r ind big. elim where_p as (λ _. (d : ℕ) × (f.link p r.key ≡ loaded d) × Among d []) [
-              | inl e ↦ absurd (
+        high = record {
+          list = [];
+          next = λ p i r where_p read in_r ind big. elim where_p as (λ _. (d : ℕ) × (f.link p r.key ≡ loaded d) × Among d []) [
+            | inl e ↦ absurd (
                 let there : slice_get (refs f at) i ≡ Some r = subst (λ z. slice_get (refs f z) i ≡ Some r) e read in
                 let same = ap (λ (x : Ref). x.keybits) (same_at i r there in_r) in
                 omega (arith, same, small, big))
-              | inr none ↦ absurd none
-            ];
-            stands = λ m it. absurd it;
-          };
-          short = omega (arith, wide);
-        }
+            | inr none ↦ absurd none
+          ];
+          stands = λ m it. absurd it;
+        };
+        short = omega (arith, wide);
+      }
       | inr large ↦
           let more = high_path sound rest kid.stands (omega (arith, bits_c, large)) in
           let fewer = kid.fewer in

@@ -22,12 +22,7 @@ use h2_tree::{insert, lookup};
 use std::alloc::Global;
 
 // Loads the paths of the keys of all references.
-fn load_paths<N: Sets>(
-    alloc: Global,
-    n: &mut N,
-    root: NodeId,
-    refs: &[Ref],
-) -> Result<(), Trouble>
+fn load_paths<N: Sets>(alloc: Global, n: &mut N, root: NodeId, refs: &[Ref]) -> Result<(), Trouble>
     requires sound { IsSound (N.forest n.old) }
     requires stands { let f = N.forest n.old in f.stands root.0 ≡ true }
     ensures loaded { OnOk result (PathsLoaded (N.forest n.new) root.0 refs.now) }
@@ -38,8 +33,8 @@ fn load_paths<N: Sets>(
     ensures beside { KeepsBeside (N.forest n.old) (N.forest n.new) (N.beside n.old) (N.beside n.new) }
     ensures later { N.later n.old n.new }
 {
-    for i in 0..refs.len() {
-        lookup(alloc, n, root, refs[i].key)?;
+    for at in 0..refs.len() {
+        lookup(alloc, n, root, refs[at].key)?;
     }
     Ok(())
 }

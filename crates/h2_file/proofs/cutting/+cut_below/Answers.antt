@@ -7,9 +7,10 @@ use Rattle.h2_set.specs.Forest.{refs}
 use Rattle.h2_set.specs.StayLaws.{Walks-trans}
 use Rattle.h2_file.specs.Cutting.{Cuts, CutsNodes, Remains}
 use Rattle.h2_file.specs.declared.cutting.Left.TheVariants.{Nothing, All, Something}
+use Rattle.h2_file.proofs.Answering.{always_err, beside_over, Touched-refl, Touched-on}
 use Rattle.h2_file.proofs.Fronts.{contents_keep}
 use Rattle.h2_file.proofs.Parts.{all_past}
-use Rattle.h2_file.proofs.CutLevels.{always_err, beside_over, Touched-refl, Touched-on, readied_here, under_refl, cuts_front, ends_here, past_here, ends_in, past_in, last_fits, before_here, before_in, clear_here}
+use Rattle.h2_file.proofs.CutLevels.{readied_here, under_refl, cuts_front, ends_here, past_here, ends_in, past_in, last_fits, before_here, before_in, clear_here}
 use Rattle.h2_file.proofs.CutChild.{kept, none_to_copy, load_touched, unloaded_child, child_stands, child_fewer, child_room, child_contents, unloaded_below, ready_cut, stands_cut, copies_cut, length_cut, ready_none, under_none, touched_none, leaves_cut, past_cut, leaves_front, past_front, leaves_none, before_cut, before_front, clear_none}
 use Rattle.h2_file.proofs.CutNodes.{ends_before, ends_below, cut_short, nodes_here, nodes_over, none_given, short_none_new}
 use Rattle.h2_file.proofs.cutting.+cut_below.Goals as goal

@@ -1,4 +1,4 @@
-use Rattle.std.proofs.Common.{◌≡◌, ◌∙◌, arith, ap, sym}
+use Rattle.std.proofs.Common.{◌∙◌, arith, ap}
 use Rattle.h2_inode.specs.Inode.{keys_from}
 use Rattle.h2_file.proofs.Sized.{file_contents, kept_file, kept_resized}
 use Rattle.h2_file.proofs.Chained.{run_few}

@@ -1,6 +1,5 @@
-use Rattle.std.proofs.Common.{◌≡◌, ◌∙◌, arith, inl, inr, sym}
 use Rattle.h2_set.specs.StayLaws.{Readies-unchanged, Unchanged-walks, Walks-trans}
-use Rattle.h2_file.proofs.CutLevels.{beside_on}
+use Rattle.h2_file.proofs.Answering.{beside_on}
 use Rattle.h2_file.proofs.Linked.{walked_readied}
 use Rattle.h2_file.proofs.Loaded.{each_on, none_loaded, loaded_on, readied_paths}
 use Rattle.h2_file.proofs.linking.prepare.Goals as goal

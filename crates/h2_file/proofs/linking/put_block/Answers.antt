@@ -1,4 +1,3 @@
-use Rattle.std.proofs.Common.{arith, inl, inr}
 use Rattle.h2_file.proofs.Linked.{block_takes}
 use Rattle.h2_file.proofs.linking.put_block.Goals as goal
 

@@ -1,10 +1,9 @@
-use Rattle.std.proofs.Common.{◌≡◌, ℕ, Option, Some, arith, sym, ◌∙◌, subst, take, length, slice_get}
+use Rattle.std.proofs.Common.{◌≡◌, arith, sym, ◌∙◌, subst, take, length}
 use Rattle.std.proofs.lemmas.List.{take_all}
-use Rattle.h2_ref.specs.declared.reference.Ref.{Ref}
 use Rattle.h2_file.specs.Linking.{PutsEach, none}
-use Rattle.h2_file.proofs.CutLevels.{beside_on}
+use Rattle.h2_file.proofs.Answering.{beside_on, beside_same}
 use Rattle.h2_file.proofs.Fronts.{contents_keep}
-use Rattle.h2_file.proofs.Loaded.{at_place, beside_same}
+use Rattle.h2_file.proofs.Loaded.{at_place}
 use Rattle.h2_file.proofs.Chained.{blocks_ordered, puts_all, puts_more, front_none, front_more, taken_length}
 use Rattle.h2_file.proofs.Parts.{take_from}
 use Rattle.h2_file.proofs.SpentAll.{puts_spent}
