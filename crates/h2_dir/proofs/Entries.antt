@@ -11,7 +11,7 @@ use Rattle.h2_ref.specs.declared.reference.Check.{Check}
 use Rattle.h2_ref.specs.declared.reference.Dirent.{Dirent}
 use Rattle.h2_ref.specs.declared.reference.Ref.{Ref}
 use Rattle.h2_set.specs.Ranges.{Rising, limit, find, holds, put, without}
-use Rattle.h2_set.specs.Forest.{Forest, IsSound, LeavesOf}
+use Rattle.h2_set.specs.Forest.{Forest, IsSound, LeavesOf, KeepsLeaves}
 use Rattle.h2_set.specs.LeafLaws.{Rising-low, leaves_rising}
 use Rattle.h2_dirkey.specs.Key.{IsNameUnder}
 use Rattle.h2_inode.specs.Nodes.{Fields, Told}
@@ -93,6 +93,18 @@ module _ (f g : Forest) (old new : ℕ → Option Fields) (was now : Ref → Opt
     length_is = one.length_is;
     under = one.under;
     target_fits = one.target_fits;
+  }
+
+  -- where the leaves stay, so do the entries
+  pub entries_same : KeepsLeaves f g dir → HoldsEntries g new now may dir size entries
+  entries_same keeps = record {
+    leaves = h.leaves;
+    has = record { read = keeps h.leaves h.has.read; ordered = h.has.ordered };
+    named = h.named;
+    each = each_as (One f old was may dir) (One g new now may dir) h.leaves h.named later h.each;
+    differ = h.differ;
+    counted = h.counted;
+    entries_are = h.entries_are;
   }
 
   pub entries_more : (leaf : Ref) (name : List ℕ) (number : ℕ) → One g new now may dir leaf (name, number) → find leaf.key h.leaves ≡ None → get entries name ≡ None → LeavesOf g dir (put leaf h.leaves) → Rising 0 (2 ^ 64) (put leaf h.leaves)

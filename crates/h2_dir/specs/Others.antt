@@ -1,5 +1,5 @@
 -- What a change of one directory leaves of all other trees.
-use Rattle.std.specs.Prelude.{◌≡◌, ℕ, true, List, Option}
+use Rattle.std.specs.Prelude.{◌≡◌, ℕ, Bool, true, List, Option}
 use Rattle.h2_ref.specs.declared.reference.Ref.{Ref}
 use Rattle.h2_set.specs.RefSet.{RefSet}
 use Rattle.h2_set.specs.Forest.{Forest, refs, LeavesOf, KeepsLeaves, Reaches, InPlace}
@@ -8,8 +8,10 @@ use Rattle.h2_set.specs.PathLaws.{PathRenewed}
 use Rattle.h2_inode.specs.declared.inode.Body.{Body}
 use Rattle.h2_inode.specs.declared.inode.Body.TheVariants.{Refs, Bytes}
 use Rattle.h2_inode.specs.declared.inode.Inode.{Inode}
-use Rattle.h2_inode.specs.declared.kind.InodeKind.TheVariants.{Pfs}
-use Rattle.h2_inode.specs.Nodes.{Fields, HasInode, IsNamed}
+use Rattle.h2_inode.specs.declared.kind.InodeKind.TheVariants.{Directory, Pfs}
+use Rattle.h2_inode.specs.Nodes.{Fields, Told, HasInode, IsNamed}
+use Rattle.h2_inode.specs.Directory.{Entries}
+use Rattle.h2_dir.specs.Finding.{HoldsEntries}
 
 -- the body with another set; one that is bytes has none
 abbrev pub body_with : Body → RefSet → Body
@@ -43,3 +45,8 @@ KeepsOtherTrees f g old new dir = (c : ℕ) (i : Inode) → HasInode f old c i �
 -- and so do all trees of other roots, but for where the blocks of inodes lie
 abbrev pub RenewsOtherTrees : (f g : Forest) (old new : ℕ → Option Fields) → ℕ → Type 0
 RenewsOtherTrees f g old new dir = (c : ℕ) → f.stands c ≡ true → f.root c ≡ c → (c ≡ dir → ⊥) → RenewsTree f g old new c
+
+-- what other directories stand for stays
+abbrev pub KeepsOtherEntries : (f g : Forest) (old new : ℕ → Option Fields) (was now : Ref → Option Told) → ℕ → Type 0
+KeepsOtherEntries f g old new was now dir =
+    (c : ℕ) (i : Inode) (may : ℕ → ℕ → Bool) (size : ℕ) (entries : Entries) → HasInode f old c i → i.kind ≡ Directory → (c ≡ dir → ⊥) → HoldsEntries f old was may c size entries → HoldsEntries g new now may c size entries

@@ -11,7 +11,7 @@ ghost use Rattle.h2_inode.specs.Nodes.{held_by, HasInode, KeepsOthersBeside};
 ghost use Rattle.h2_inode.specs.Directory.{Entries};
 ghost use Rattle.h2_dir.specs.Finding.{HoldsEntries};
 ghost use Rattle.h2_dir.specs.Changing.{HasRoom, Adds, TellsName, entry_ref, with_entries};
-ghost use Rattle.h2_dir.specs.Others.{KeepsOtherTrees, RenewsOtherTrees};
+ghost use Rattle.h2_dir.specs.Others.{KeepsOtherTrees, KeepsOtherEntries, RenewsOtherTrees};
 
 use crate::entry::entry_ref;
 use crate::resizing::resize;
@@ -73,6 +73,7 @@ pub fn add_at<N: Nodes>(
     ensures paths { let f = N.forest n.old in KeepsPaths f (N.forest n.new) dir.0 (entry_ref f.epoch key name.now block number target) }
     ensures others { KeepsOtherTrees (N.forest n.old) (N.forest n.new) (held_by N.fields (N.beside n.old)) (held_by N.fields (N.beside n.new)) dir.0 }
     ensures above { RenewsOtherTrees (N.forest n.old) (N.forest n.new) (held_by N.fields (N.beside n.old)) (held_by N.fields (N.beside n.new)) dir.0 }
+    ensures other_entries { KeepsOtherEntries (N.forest n.old) (N.forest n.new) (held_by N.fields (N.beside n.old)) (held_by N.fields (N.beside n.new)) (N.told n.old) (N.told n.new) dir.0 }
     ensures beside { KeepsOthersBeside (N.forest n.old) (N.forest n.new) dir.0 (N.beside n.old) (N.beside n.new) }
     ensures later { N.later n.old n.new }
 {

@@ -10,7 +10,7 @@ ghost use Rattle.h2_inode.specs.Nodes.{held_by, HasInode, KeepsOthersBeside};
 ghost use Rattle.h2_inode.specs.Directory.{Entries};
 ghost use Rattle.h2_dir.specs.Finding.{HoldsEntries, IsFound};
 ghost use Rattle.h2_dir.specs.Changing.{IsDirectoryRoot, TakesAway, with_entries};
-ghost use Rattle.h2_dir.specs.Others.{KeepsOtherTrees, RenewsOtherTrees};
+ghost use Rattle.h2_dir.specs.Others.{KeepsOtherTrees, KeepsOtherEntries, RenewsOtherTrees};
 
 use crate::resizing::resize;
 use h2_inode::Nodes;
@@ -91,6 +91,7 @@ pub fn remove_at<N: Nodes>(alloc: Global, n: &mut N, dir: NodeId, key: u64) -> D
     ensures paths { (leaf : Ref) → Reaches (N.forest n.old) key dir.0 (Some leaf) → KeepsPaths (N.forest n.old) (N.forest n.new) dir.0 leaf }
     ensures others { KeepsOtherTrees (N.forest n.old) (N.forest n.new) (held_by N.fields (N.beside n.old)) (held_by N.fields (N.beside n.new)) dir.0 }
     ensures above { RenewsOtherTrees (N.forest n.old) (N.forest n.new) (held_by N.fields (N.beside n.old)) (held_by N.fields (N.beside n.new)) dir.0 }
+    ensures other_entries { KeepsOtherEntries (N.forest n.old) (N.forest n.new) (held_by N.fields (N.beside n.old)) (held_by N.fields (N.beside n.new)) (N.told n.old) (N.told n.new) dir.0 }
     ensures beside { KeepsOthersBeside (N.forest n.old) (N.forest n.new) dir.0 (N.beside n.old) (N.beside n.new) }
     ensures later { N.later n.old n.new }
 {

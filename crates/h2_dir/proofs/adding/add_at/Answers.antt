@@ -9,6 +9,7 @@ use Rattle.h2_set.specs.Forest.{Reaches, LeavesOf}
 use Rattle.h2_set.specs.LeafLaws.{reaches_find}
 use Rattle.h2_tree.specs.Changes.{Takes}
 use Rattle.h2_inode.specs.declared.inode.Inode.{Inode}
+use Rattle.h2_inode.specs.declared.kind.InodeKind.TheVariants.{Directory, Pfs}
 use Rattle.h2_inode.specs.Nodes.{Fields, held_by, HasInode}
 use Rattle.h2_dir.specs.Changing.{entry_ref, with_entries, Adds}
 use Rattle.h2_dir.proofs.Leaf.{takes_entry, ref_kind, short_name}
@@ -16,7 +17,7 @@ use Rattle.h2_dir.proofs.Growing.{same_but_set, writable_in, beside_on}
 use Rattle.h2_dir.proofs.Resized.{root_leaves, root_path, same_fields, regrown}
 use Rattle.h2_dir.proofs.Renewed.{keeps_tree, renews_tree}
 use Rattle.h2_dir.proofs.Others.{inserted_renews, inserted_exact}
-use Rattle.h2_dir.proofs.Entries.{tree_rising, tells_later, new_entry, entries_more}
+use Rattle.h2_dir.proofs.Entries.{tree_rising, tells_later, new_entry, entries_same, entries_more}
 use Rattle.h2_dir.proofs.adding.add_at.Goals as goal
 
 pub inode-requires : goal.inode-requires
@@ -151,3 +152,10 @@ returns-clause-entries g c may size entries h none fits tells =
     let rising = tree_rising now dir (put r h.leaves) c.resize.ensures.replaces.sound c.resize.ensures.replaces.place.stands leaves in
     let one = new_entry now (held_by g.N.Nodes.fields (g.N.Sets.beside c.resize.new.n)) (g.N.Nodes.told c.resize.new.n) may dir f.epoch c.args.key c.args.name.now c.args.block c.args.number c.args.target c.requires.valid c.requires.under fits (tells_later f now r c.args.name.now c.args.block names tells) in
     entries_more f now _ _ _ _ may dir size entries h names r c.args.name.now c.args.number one free none leaves rising
+
+pub returns-clause-other_entries : goal.returns-clause-other_entries
+returns-clause-other_entries g c m i may size entries has kind ne h =
+    let now = g.N.Sets.forest c.resize.new.n in
+    let names : (x : Ref) → now.name x ≡ (g.N.Sets.forest c.args.n.now).name x = λ x. c.resize.ensures.replaces.name x ∙ c.put_in.ensures.inserts.fixed.name x in
+    let tree = returns-clause-others g c m i has (λ e. let clash : Directory ≡ Pfs = sym kind ∙ e in cc) ne in
+    entries_same (g.N.Sets.forest c.args.n.now) now (held_by g.N.Nodes.fields (g.N.Sets.beside c.args.n.now)) (held_by g.N.Nodes.fields (g.N.Sets.beside c.resize.new.n)) _ (g.N.Nodes.told c.resize.new.n) may m size entries h names tree.leaves

@@ -6,6 +6,7 @@ use Rattle.h2_set.specs.LeafLaws.{reaches_find}
 use Rattle.h2_set.specs.PathLaws.{reaches_one}
 use Rattle.std.proofs.lemmas.Option.{same_Some}
 use Rattle.h2_inode.specs.declared.inode.Inode.{Inode}
+use Rattle.h2_inode.specs.declared.kind.InodeKind.TheVariants.{Directory, Pfs}
 use Rattle.h2_inode.specs.Nodes.{Fields, held_by, HasInode}
 use Rattle.h2_dir.specs.Changing.{with_entries, TakesAway}
 use Rattle.h2_dir.proofs.Paths.{leaf_valid}
@@ -15,7 +16,7 @@ use Rattle.h2_dir.proofs.Growing.{same_but_set, writable_out, beside_on}
 use Rattle.h2_dir.proofs.Resized.{root_leaves, root_path, same_fields, regrown}
 use Rattle.h2_dir.proofs.Renewed.{keeps_tree, renews_tree}
 use Rattle.h2_dir.proofs.Others.{removed_renews, removed_exact}
-use Rattle.h2_dir.proofs.Entries.{tree_rising, entries_less, entry_number}
+use Rattle.h2_dir.proofs.Entries.{tree_rising, entries_same, entries_less, entry_number}
 use Rattle.h2_dir.proofs.removing.remove_at.Goals as goal
 
 pub inode-requires : goal.inode-requires
@@ -151,3 +152,10 @@ returns-clause-entries g c may size entries name entry h found =
     let told = g.N.Nodes.told c.resize.new.n in
     (entry_number f now old new _ told may dir size entries h names leaf name c.says.result is found.named (returns-clause-says g c leaf found.path),
     entries_less f now old new _ told may dir size entries h names leaf name is found.named leaves rising)
+
+pub returns-clause-other_entries : goal.returns-clause-other_entries
+returns-clause-other_entries g c m i may size entries has kind ne h =
+    let now = g.N.Sets.forest c.resize.new.n in
+    let names : (x : Ref) → now.name x ≡ (g.N.Sets.forest c.args.n.now).name x = λ x. c.resize.ensures.replaces.name x ∙ c.take_out-leaf.ensures.removes.fixed.name x in
+    let tree = returns-clause-others g c m i has (λ e. let clash : Directory ≡ Pfs = sym kind ∙ e in cc) ne in
+    entries_same (g.N.Sets.forest c.args.n.now) now (held_by g.N.Nodes.fields (g.N.Sets.beside c.args.n.now)) (held_by g.N.Nodes.fields (g.N.Sets.beside c.resize.new.n)) _ (g.N.Nodes.told c.resize.new.n) may m size entries h names tree.leaves
