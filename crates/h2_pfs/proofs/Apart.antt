@@ -1,17 +1,17 @@
 -- Trees other than the super-root's, over changes of that one.
-use Rattle.std.proofs.Common.{◌≡◌, ℕ, true, false, refl, sym, ◌∙◌, ap, subst, inl, inr, suc, zero, List, [], ◌∷◌, Option, Some, None, slice_get}
-use Rattle.std.specs.Prelude.{◌⊎◌, ◌↔◌}
+use Rattle.std.proofs.Common.{◌≡◌, ℕ, true, false, refl, sym, ◌∙◌, ap, subst, inl, inr, suc, List, [], ◌∷◌, Option, Some, None, slice_get}
+use Rattle.std.specs.Prelude.{◌⊎◌}
 use Rattle.std.proofs.lemmas.Bool.{cases_Bool}
 use Rattle.h2_ref.specs.declared.reference.Ref.{Ref}
 use Rattle.h2_set.specs.RefSet.{RefSet}
-use Rattle.h2_set.specs.Forest.{Forest, refs, loaded, IsSound, AllRenewed, Alike, InPlace, Same, Stays, Renews, KeepsLeaves, KeepsBeside, Reaches, OnWay, inside, across}
+use Rattle.h2_set.specs.Forest.{Forest, refs, loaded, IsSound, AllRenewed, Alike, InPlace, Stays, Renews, KeepsLeaves, KeepsBeside, Reaches, OnWay, inside, across}
 use Rattle.h2_set.specs.StayLaws.{Alike-refl, InPlace-trans, Same-Stays, leaves_stay, leaves_stay_all, stands_below}
 use Rattle.h2_set.specs.PathLaws.{reaches_stay}
 use Rattle.h2_tree.specs.Changes.{Descends, arrived, onward, ChangesOnly, TakesIn, placed, parted, GoesAway, below_it, named, Removes}
 use Rattle.h2_inode.specs.declared.inode.Inode.{Inode}
-use Rattle.h2_inode.specs.Nodes.{Fields, held_by, HasInode, IsNamed, IsUnloaded}
+use Rattle.h2_inode.specs.Nodes.{Fields, held_by, HasInode, IsNamed}
 use Rattle.h2_inode.specs.NodeLaws.{named_stays, named_back, inode_held}
-use Rattle.h2_pfs.specs.Others.{BelongsToNone, KeepsTree, KeepsOtherTrees}
+use Rattle.h2_pfs.specs.Others.{BelongsToNone, KeepsOtherTrees}
 use Rattle.h2_pfs.specs.Addition.{Founds}
 use Rattle.h2_pfs.proofs.Renewed.{SameRules, fixed_rules}
 use Rattle.h2_pfs.proofs.Added.{steps_rules, steps_renew}
@@ -161,15 +161,15 @@ removes_others fields f g old new top leaf sound stands_top root_top beside rem 
     let at : h.root n ≡ top = end.0 ∙ top_h.root ∙ root_top in
     let bare = λ (t k : ℕ) (e : h.belongs n t k ≡ true). none t k (sym (top_h.belongs t k) ∙ sym (end.1 t k) ∙ e) in
     let here = λ (m : ℕ) (st : h.stands m ≡ true) (same : (t k : ℕ) → h.belongs m t k ≡ h.belongs c t k) (root_m : h.root m ≡ c) (away : GoesAway h n goes.place leaf m).
-        not_away h n goes.place leaf m (λ e. other (sym root_m ∙ e ∙ at)) (λ e. left (sym (first.place.belongs top leaf.key) ∙ sym (same top leaf.key) ∙ subst (λ t. h.belongs m t leaf.key ≡ true) at e)) away in
+    not_away h n goes.place leaf m (λ e. other (sym root_m ∙ e ∙ at)) (λ e. left (sym (first.place.belongs top leaf.key) ∙ sym (same top leaf.key) ∙ subst (λ t. h.belongs m t leaf.key ≡ true) at e)) away in
     let second = changed_tree h g n top c (GoesAway h n goes.place leaf) walks.sound rem.sound goes.only at bare first.place.stands (first.place.root ∙ root) other here in
     let tree = tree_trans f h g c first second in
     let before = λ (key d : ℕ) (is : IsNamed g c key d).
-        let there = goes.only.still d (goes.none_new d is.stands) (λ away. let clash : true ≡ false = sym is.stands ∙ goes.gone d (goes.none_new d is.stands) away in absurd (cc)) in
-        let stood = walks.roots d (goes.none_new d is.stands) (sym there.root ∙ is.root) in
-        named_back f g c key d tree.place stood (InPlace-trans f h g d (walks.stays d stood).place there) is in
+    let there = goes.only.still d (goes.none_new d is.stands) (λ away. let clash : true ≡ false = sym is.stands ∙ goes.gone d (goes.none_new d is.stands) away in absurd (cc)) in
+    let stood = walks.roots d (goes.none_new d is.stands) (sym there.root ∙ is.root) in
+    named_back f g c key d tree.place stood (InPlace-trans f h g d (walks.stays d stood).place there) is in
     let below = λ (key d : ℕ) (is : IsNamed f c key d).
-        (rem.above d is.stands (named_apart f top c key d sound none root_top is) (λ e. named_left f top leaf.key c key d other left is (subst (λ t. f.belongs d t leaf.key ≡ true) root_top e))).place in
+    (rem.above d is.stands (named_apart f top c key d sound none root_top is) (λ e. named_left f top leaf.key c key d other left is (subst (λ t. f.belongs d t leaf.key ≡ true) root_top e))).place in
     record {
       place = tree.place;
       inode = λ i has. tree_inode fields f g old new c i tree (fixed_rules f g c stands tree.place.stands rem.fixed) beside has;
@@ -230,14 +230,14 @@ founds_others fields f g old new top leaf inode sound stands_top root_top beside
     let tree = tree_trans f it.put g c (tree_trans f b it.put c two third) fourth in
     let new_fields = held_by fields new in
     let before = λ (key d : ℕ) (is : IsNamed g c key d).
-        let in_put = put_before it.put g top leaf.key c key d it.plants.only it.plants.brings.new other is in
-        let in_put_root = sym (it.plants.brings.same d in_put).place.root ∙ is.root in
-        let in_b = taken_before b it.put n leaf goes.blocks prep.sound it.inserts.sound goes.stands goes.only goes.change d in_put in_put_root in
-        let in_b_root = sym (goes.only.still d in_b (λ z. z)).root ∙ in_put_root in
-        let in_a = loaded_before a b top d (λ m new st. goes.touched.tree m new st ∙ top_a.root ∙ root_top) top_a.stands in_b in_b_root in
-        let stood = it.readies.none_new d in_a in
-        let place_d = InPlace-trans f it.put g d (InPlace-trans f b it.put d (InPlace-trans f a b d (it.readies.same d stood).place (prep.stays d in_a).place) (goes.only.still d in_b (λ z. z))) (it.plants.brings.same d in_put).place in
-        named_back f g c key d tree.place stood place_d is in
+    let in_put = put_before it.put g top leaf.key c key d it.plants.only it.plants.brings.new other is in
+    let in_put_root = sym (it.plants.brings.same d in_put).place.root ∙ is.root in
+    let in_b = taken_before b it.put n leaf goes.blocks prep.sound it.inserts.sound goes.stands goes.only goes.change d in_put in_put_root in
+    let in_b_root = sym (goes.only.still d in_b (λ z. z)).root ∙ in_put_root in
+    let in_a = loaded_before a b top d (λ m new st. goes.touched.tree m new st ∙ top_a.root ∙ root_top) top_a.stands in_b in_b_root in
+    let stood = it.readies.none_new d in_a in
+    let place_d = InPlace-trans f it.put g d (InPlace-trans f b it.put d (InPlace-trans f a b d (it.readies.same d stood).place (prep.stays d in_a).place) (goes.only.still d in_b (λ z. z))) (it.plants.brings.same d in_put).place in
+    named_back f g c key d tree.place stood place_d is in
     record {
       place = tree.place;
       inode = λ i has. tree_inode fields f g old new c i tree (steps_rules f g new_fields top leaf inode c it stands) beside has;
