@@ -91,7 +91,7 @@ absent_named p (q ∷ qs) absent = decide (pointwise nat_eq q.name p.name) refl 
         (cc)) (rest it)
 
 -- a root that was renewed on the way
-steps_renew : (f g : Forest) (new : ℕ → Option Fields) (top : ℕ) (leaf : Ref) (inode : Inode) (c : ℕ) → Founds f g new top leaf inode → f.stands c ≡ true → (f.root c ≡ f.root top → ⊥) → f.stands top ≡ true → Renews f g c
+pub steps_renew : (f g : Forest) (new : ℕ → Option Fields) (top : ℕ) (leaf : Ref) (inode : Inode) (c : ℕ) → Founds f g new top leaf inode → f.stands c ≡ true → (f.root c ≡ f.root top → ⊥) → f.stands top ≡ true → Renews f g c
 steps_renew f g new top leaf inode c it stands other stands_top =
     let first = it.readies.same c stands in
     let above = (it.readies.same top stands_top).place in
@@ -106,13 +106,13 @@ steps_place f g new top leaf inode it stands =
     let third = (it.plants.brings.same top second.stands).place in
     InPlace-trans f it.put g top (InPlace-trans f it.ready it.put top first second) third
 
-steps_rules : (f g : Forest) (new : ℕ → Option Fields) (top : ℕ) (leaf : Ref) (inode : Inode) (c : ℕ) → Founds f g new top leaf inode → f.stands c ≡ true → SameRules f g c
+pub steps_rules : (f g : Forest) (new : ℕ → Option Fields) (top : ℕ) (leaf : Ref) (inode : Inode) (c : ℕ) → Founds f g new top leaf inode → f.stands c ≡ true → SameRules f g c
 steps_rules f g new top leaf inode c it stands =
     let first = (it.readies.same c stands).place.stands in
     let second = (it.inserts.still c first).stands in
     record {
-      leaf_bits = it.plants.brings.leaf_bits c second ∙ it.inserts.fixed.leaf_bits c ∙ it.readies.fixed.leaf_bits c;
-      allows = λ r. it.plants.brings.allows c r second ∙ it.inserts.fixed.allows c r ∙ it.readies.fixed.allows c r;
+      leaf_bits = it.plants.brings.leaf_bits c second ∙ it.inserts.fixed.leaf_bits c first second ∙ it.readies.fixed.leaf_bits c stands first;
+      allows = λ r. it.plants.brings.allows c r second ∙ it.inserts.fixed.allows c r first second ∙ it.readies.fixed.allows c r stands first;
     }
 
 pfs_name : (kind : InodeKind) (name : List ℕ) → kind ≡ Pfs_kind → IsNameOf kind name → IsPfsName name
