@@ -139,7 +139,7 @@ module _ (h : Forest) (holds : ℕ → Option Fields) (at : ℕ) (file : IsFile 
 
 -- The whole
 
-module _ (f w o p g : Forest) (at : ℕ) (rs : List Ref) (sound : IsSound f) (stands : f.stands at ≡ true) (top : f.root at ≡ at) (prepares : Prepares f w) (loads : LoadsEach f w rs) (loaded : PathsLoaded w at rs) (opens : Opens w at o) (puts : PutsEach at o rs p) (sizes : Sizes p g at) (are : AreBlocks rs) (contents : HasContents o at) where
+module _ (f w o p g : Forest) (at : ℕ) (rs : List Ref) (sound : IsSound f) (stands : f.stands at ≡ true) (top : f.root at ≡ at) (prepares : Prepares f w) (loads : LoadsEach f w at rs) (loaded : PathsLoaded w at rs) (opens : Opens w at o) (puts : PutsEach at o rs p) (sizes : Sizes p g at) (are : AreBlocks rs) (contents : HasContents o at) where
   place_w : (m : ℕ) → f.stands m ≡ true → InPlace f w m
   place_w m st = (prepares.stays m st).place
 

@@ -1,20 +1,21 @@
 -- Paths of several keys that are loaded one after the other.
-use Rattle.std.proofs.Common.{◌≡◌, ℕ, ◌+◌, ◌<◌, ◌^◌, true, arith, refl, ap, List, [], ◌∷◌, length, Option, Some, subst, ◌⊎◌, inl, inr, slice_get, suc, zero}
+use Rattle.std.proofs.Common.{◌≡◌, ℕ, ◌+◌, ◌<◌, ◌^◌, true, arith, refl, ◌∙◌, ap, List, [], ◌∷◌, length, Option, Some, subst, ◌⊎◌, inl, inr, slice_get, suc, zero}
 use Rattle.std.specs.Prelude.{slice_index_or}
+use Rattle.std.proofs.lemmas.Bool.{cases_Bool}
 use Rattle.h2_ref.specs.declared.reference.Ref.{Ref}
 use Rattle.h2_set.specs.Forest.{Forest, IsSound, InPlace, Walks, ReadiesOnly, Reaches}
 use Rattle.h2_set.specs.StayLaws.{Reaches-walks, Same-Stays, stands_below}
 use Rattle.h2_set.specs.PathLaws.{reaches_stay}
 use Rattle.h2_set.specs.ChangeLaws.{same_or_not}
-use Rattle.h2_tree.specs.Changes.{LoadsTouched, PathUnloaded}
+use Rattle.h2_tree.specs.Changes.{LoadsIn, PathUnloaded}
 use Rattle.h2_file.specs.Linking.{PathsLoaded, IsOnPath, LoadsEach}
 
-pub Each-refl : (f : Forest) (rs : List Ref) → LoadsEach f f rs
-Each-refl f rs = record { only = λ m st. inl st }
+pub Each-refl : (f : Forest) (at : ℕ) (rs : List Ref) → LoadsEach f f at rs
+Each-refl f at rs = record { only = λ m st. inl st }
 
 -- where no node was loaded
-pub none_loaded : (f g : Forest) (rs : List Ref) → ((m : ℕ) → g.stands m ≡ true → f.stands m ≡ true) → LoadsEach f g rs
-none_loaded f g rs none_new = record { only = λ m st. inl (none_new m st) }
+pub none_loaded : (f g : Forest) (at : ℕ) (rs : List Ref) → ((m : ℕ) → g.stands m ≡ true → f.stands m ≡ true) → LoadsEach f g at rs
+none_loaded f g at rs none_new = record { only = λ m st. inl (none_new m st) }
 
 place_moves : (f g : Forest) (m : ℕ) (rs : List Ref) → InPlace f g m → IsOnPath f m rs → IsOnPath g m rs
 place_moves f g m rs place on = record {
@@ -25,23 +26,26 @@ place_moves f g m rs place on = record {
   high = (let e = place.low in let b = ap (λ z. 2 ^ z) place.bits in let h = on.high in omega (arith, e, b, h));
 }
 
-pub each_on : (f g h : Forest) (rs : List Ref) → ((m : ℕ) → g.stands m ≡ true → InPlace g h m) → LoadsEach f g rs → LoadsEach g h rs → LoadsEach f h rs
-each_on f g h rs placed a b = record {
-  only = λ m st. elim (b.only m st) as (λ _. (f.stands m ≡ true) ⊎ IsOnPath h m rs) [
-    | inr new ↦ inr new
-    | inl was ↦ elim (a.only m was) as (λ _. (f.stands m ≡ true) ⊎ IsOnPath h m rs) [
+pub each_on : (f g h : Forest) (at : ℕ) (rs : List Ref) → g.root at ≡ f.root at → ((m : ℕ) → g.stands m ≡ true → InPlace g h m) → LoadsEach f g at rs → LoadsEach g h at rs → LoadsEach f h at rs
+each_on f g h at rs root placed a b = record {
+  only = λ m st. elim (b.only m st) as (λ _. (f.stands m ≡ true) ⊎ (IsOnPath h m rs × (h.root m ≡ f.root at))) [
+    | inr new ↦ inr (new.0, new.1 ∙ root)
+    | inl was ↦ elim (a.only m was) as (λ _. (f.stands m ≡ true) ⊎ (IsOnPath h m rs × (h.root m ≡ f.root at))) [
       | inl first ↦ inl first
-      | inr on ↦ inr (place_moves g h m rs (placed m was) on)
+      | inr on ↦ inr (place_moves g h m rs (placed m was) on.0, (placed m was).root ∙ on.1)
     ]
   ];
 }
 
 -- the path of one of them was loaded
-pub one_loaded : (f g : Forest) (rs : List Ref) (i : ℕ) (r : Ref) → slice_get rs i ≡ Some r → LoadsTouched f g r.key r.key → LoadsEach f g rs
-one_loaded f g rs i r read touched = record {
-  only = λ m st. elim (touched.only m st) as (λ _. (f.stands m ≡ true) ⊎ IsOnPath g m rs) [
+pub one_loaded : (f g : Forest) (at : ℕ) (rs : List Ref) (i : ℕ) (r : Ref) → slice_get rs i ≡ Some r → LoadsIn f g at r.key r.key → LoadsEach f g at rs
+one_loaded f g at rs i r read loads = record {
+  only = λ m st. elim (cases_Bool (f.stands m)) as (λ _. (f.stands m ≡ true) ⊎ (IsOnPath g m rs × (g.root m ≡ f.root at))) [
     | inl was ↦ inl was
-    | inr new ↦ inr (record { place = i; ref = r; read = read; low = new.0; high = new.1 })
+    | inr out ↦ elim (loads.touched.only m st) as (λ _. (f.stands m ≡ true) ⊎ (IsOnPath g m rs × (g.root m ≡ f.root at))) [
+      | inl was ↦ inl was
+      | inr new ↦ inr (record { place = i; ref = r; read = read; low = new.0; high = new.1 }, loads.tree m out st)
+    ]
   ];
 }
 

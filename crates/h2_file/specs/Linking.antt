@@ -52,9 +52,9 @@ pub record IsOnPath (f : Forest) (m : ℕ) (rs : List Ref) : Type 0 where
   pub low : f.low m ≤ ref.key
   pub high : ref.key < f.low m + 2 ^ f.bits m
 
--- each node that was loaded has the key of one of the references in its range
-pub record LoadsEach (f g : Forest) (rs : List Ref) : Type 0 where
-  pub only : (m : ℕ) → g.stands m ≡ true → (f.stands m ≡ true) ⊎ IsOnPath g m rs
+-- each node that was loaded has the key of one of the references in its range, and is in the tree of node at
+pub record LoadsEach (f g : Forest) (at : ℕ) (rs : List Ref) : Type 0 where
+  pub only : (m : ℕ) → g.stands m ≡ true → (f.stands m ≡ true) ⊎ (IsOnPath g m rs × (g.root m ≡ f.root at))
 
 -- a node on the path of the key of one of the references isn't loaded
 pub record PathMissing (f : Forest) (at : ℕ) (rs : List Ref) : Type 0 where
@@ -90,8 +90,8 @@ pub record LinksNodes (f g : Forest) (at : ℕ) (rs : List Ref) : Type 0 where
   -- after the loads
   pub walked : Forest
   pub prepares : Prepares f walked
-  -- no node off the paths of the keys was loaded
-  pub touched : LoadsEach f walked rs
+  -- no node off the paths of the keys was loaded, and none of another tree
+  pub touched : LoadsEach f walked at rs
   pub loaded : PathsLoaded walked at rs
   -- once the root was made writable
   pub opened : Forest

@@ -27,7 +27,7 @@ fn load_paths<N: Sets>(alloc: Global, n: &mut N, root: NodeId, refs: &[Ref]) -> 
     requires stands { let f = N.forest n.old in f.stands root.0 ≡ true }
     ensures loaded { OnOk result (PathsLoaded (N.forest n.new) root.0 refs.now) }
     ensures walks { Walks (N.forest n.old) (N.forest n.new) }
-    ensures touched { LoadsEach (N.forest n.old) (N.forest n.new) refs.now }
+    ensures touched { LoadsEach (N.forest n.old) (N.forest n.new) root.0 refs.now }
     ensures err { IfErr result (HasCause (N.forest n.old) (N.forest n.new)) }
     ensures unloaded { OnErr result (PathMissing (N.forest n.old) root.0 refs.now) }
     ensures beside { KeepsBeside (N.forest n.old) (N.forest n.new) (N.beside n.old) (N.beside n.new) }
@@ -48,7 +48,7 @@ fn prepare<N: Sets>(alloc: Global, n: &mut N, root: NodeId, refs: &[Ref]) -> Res
     ensures loaded { OnOk result (PathsLoaded (N.forest n.new) root.0 refs.now) }
     ensures spare { OnOk result (let g = N.forest n.new in length refs.now ≤ g.spare) }
     ensures walks { OnErr result (Walks (N.forest n.old) (N.forest n.new)) }
-    ensures touched { LoadsEach (N.forest n.old) (N.forest n.new) refs.now }
+    ensures touched { LoadsEach (N.forest n.old) (N.forest n.new) root.0 refs.now }
     ensures err { IfErr result (HasCause (N.forest n.old) (N.forest n.new)) }
     ensures unloaded { OnErr result (let f = N.forest n.old in PathMissing f root.0 refs.now ⊎ (f.spare < length refs.now)) }
     ensures beside { KeepsBeside (N.forest n.old) (N.forest n.new) (N.beside n.old) (N.beside n.new) }
@@ -151,7 +151,7 @@ pub fn link_blocks<N: Nodes>(
     ensures inode { OnOk result ((i : Inode) → HasInode (N.forest n.old) (held_by N.fields (N.beside n.old)) inode.0 i → HasResized (N.forest n.new) (held_by N.fields (N.beside n.new)) inode.0 i size) }
     ensures walks { OnErr result (Walks (N.forest n.old) (N.forest n.new)) }
     ensures err { IfErr result (HasCause (N.forest n.old) (N.forest n.new)) }
-    ensures touched { OnErr result (LoadsEach (N.forest n.old) (N.forest n.new) refs.now) }
+    ensures touched { OnErr result (LoadsEach (N.forest n.old) (N.forest n.new) inode.0 refs.now) }
     ensures unloaded { OnErr result (let f = N.forest n.old in PathMissing f inode.0 refs.now ⊎ (f.spare < length refs.now)) }
     ensures beside { KeepsOthersBeside (N.forest n.old) (N.forest n.new) inode.0 (N.beside n.old) (N.beside n.new) }
     ensures same { OnErr result (KeepsBeside (N.forest n.old) (N.forest n.new) (N.beside n.old) (N.beside n.new)) }

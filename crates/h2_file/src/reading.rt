@@ -2,7 +2,7 @@ ghost use Rattle.std.specs.Prelude.{◌≡◌, ℕ, true, List, Option, IfOk, If
 ghost use Rattle.h2_ref.specs.declared.reference.Ref.{Ref};
 ghost use Rattle.h2_set.specs.Ranges.{find};
 ghost use Rattle.h2_set.specs.Forest.{IsSound, Walks, HasCause, LeavesOf, Reaches, KeepsBeside};
-ghost use Rattle.h2_tree.specs.Changes.{LoadsTouched, PathUnloaded};
+ghost use Rattle.h2_tree.specs.Changes.{LoadsTouched, LoadsIn, PathUnloaded};
 ghost use Rattle.h2_inode.specs.Nodes.{held_by};
 ghost use Rattle.h2_file.specs.Blocks.{IsFileOfRefs};
 ghost use Rattle.h2_file.specs.FileContents.{FileHas, IsBlockOf};
@@ -15,8 +15,8 @@ use h2_tree::lookup;
 use std::alloc::Global;
 
 /// The content reference of the file's block that holds the byte `start`; None exactly at a hole. The file's body is
-/// references. Afterwards every node on the path of `start` is loaded, and no other was. Trouble only where one
-/// wasn't. Nothing but loads takes place.
+/// references. Afterwards every node on the path of `start` is loaded, and no other was, in no tree. Trouble only where
+/// one wasn't. Nothing but loads takes place.
 pub fn read_block<N: Nodes>(
     alloc: Global,
     n: &mut N,
@@ -30,6 +30,7 @@ pub fn read_block<N: Nodes>(
     ensures path { IfOk result (Reaches (N.forest n.new) start inode.0) }
     ensures walks { Walks (N.forest n.old) (N.forest n.new) }
     ensures touched { LoadsTouched (N.forest n.old) (N.forest n.new) start start }
+    ensures tree { LoadsIn (N.forest n.old) (N.forest n.new) inode.0 start start }
     ensures err { IfErr result (HasCause (N.forest n.old) (N.forest n.new)) }
     ensures unloaded { OnErr result (PathUnloaded (N.forest n.old) inode.0 start) }
     ensures beside { KeepsBeside (N.forest n.old) (N.forest n.new) (N.beside n.old) (N.beside n.new) }

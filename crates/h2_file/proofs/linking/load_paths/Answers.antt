@@ -8,7 +8,7 @@ use Rattle.h2_file.proofs.linking.load_paths.Goals as goal
 pub loop-at-init : goal.loop-at-init
 loop-at-init g c = record {
   walks = Walks-refl _ c.requires.sound;
-  touched = Each-refl _ _;
+  touched = Each-refl _ _ _;
   beside = beside_same _ _;
   later = g.met.N.Sets.same_later _;
   loaded = λ j r read lt. absurd (omega (arith, lt));
@@ -24,7 +24,7 @@ loop-at-preserved g c =
     let read = at_place c.args.refs.now c.loop-at.at _ c.loop-at-test.true in
     record {
       walks = Walks-trans _ _ _ inv.walks step.walks;
-      touched = each_on _ _ _ _ (λ m st. (step.walks.stays m st).place) inv.touched (one_loaded _ _ _ c.loop-at.at _ read step.touched);
+      touched = each_on _ _ _ _ _ (inv.walks.stays c.args.root.0 c.requires.stands).place.root (λ m st. (step.walks.stays m st).place) inv.touched (one_loaded _ _ _ _ c.loop-at.at _ read step.tree);
       beside = beside_on _ _ _ _ _ _ (λ m st. (inv.walks.stays m st).place.stands) inv.beside step.beside;
       later = g.met.N.Sets.later_later _ _ _ inv.later step.later;
       loaded = loaded_more _ _ _ c.args.refs.now c.loop-at.at _ _ inv.walks.sound (inv.walks.stays c.args.root.0 c.requires.stands).place.stands step.walks read step.path inv.loaded;
@@ -37,7 +37,7 @@ pub returns-in_err-lookup-clause-touched : goal.returns-in_err-lookup-clause-tou
 returns-in_err-lookup-clause-touched g c =
     let step = c.in_err-lookup.ensures in
     let read = at_place c.args.refs.now c.loop-at.at _ c.loop-at-test.true in
-    each_on _ _ _ _ (λ m st. (step.walks.stays m st).place) c.loop-at.invariant.touched (one_loaded _ _ _ c.loop-at.at _ read step.touched)
+    each_on _ _ _ _ _ (c.loop-at.invariant.walks.stays c.args.root.0 c.requires.stands).place.root (λ m st. (step.walks.stays m st).place) c.loop-at.invariant.touched (one_loaded _ _ _ _ c.loop-at.at _ read step.tree)
 
 pub returns-in_err-lookup-clause-unloaded : goal.returns-in_err-lookup-clause-unloaded
 returns-in_err-lookup-clause-unloaded g c =

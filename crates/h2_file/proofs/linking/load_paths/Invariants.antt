@@ -10,7 +10,7 @@ invariant-loop-at g l =
     let now = g.N.Sets.forest l.n in
     record {
       walks : Walks f now;
-      touched : LoadsEach f now l.refs;
+      touched : LoadsEach f now l.root.0 l.refs;
       beside : KeepsBeside f now (g.N.Sets.beside l.fn.n) (g.N.Sets.beside l.n);
       later : g.N.Sets.later l.fn.n l.n;
       loaded : (j : ℕ) (r : Ref) → slice_get l.refs j ≡ Some r → j < l.at → (o : Option Ref) × Reaches now r.key l.root.0 o;

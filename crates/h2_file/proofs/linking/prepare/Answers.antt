@@ -13,10 +13,10 @@ returns-in-Ok-clause-loaded g c =
     loaded_on _ _ _ _ (readied_paths _ _ c.args.root.0 walks.sound (walks.stays c.args.root.0 c.requires.stands).place.stands c.ready.ensures.same) c.in_ok-load_paths.ensures.loaded
 
 pub returns-in-Ok-clause-touched : goal.returns-in-Ok-clause-touched
-returns-in-Ok-clause-touched g c = each_on _ _ _ _ (λ m st. (c.ready.ensures.same.same m st).place) c.in_ok-load_paths.ensures.touched (none_loaded _ _ _ c.ready.ensures.same.none_new)
+returns-in-Ok-clause-touched g c = each_on _ _ _ _ _ (c.in_ok-load_paths.ensures.walks.stays c.args.root.0 c.requires.stands).place.root (λ m st. (c.ready.ensures.same.same m st).place) c.in_ok-load_paths.ensures.touched (none_loaded _ _ _ _ c.ready.ensures.same.none_new)
 
 pub returns-in-Err-clause-touched : goal.returns-in-Err-clause-touched
-returns-in-Err-clause-touched g c = each_on _ _ _ _ (λ m st. (c.ready.ensures.same.same m st).place) c.in_ok-load_paths.ensures.touched (none_loaded _ _ _ c.ready.ensures.same.none_new)
+returns-in-Err-clause-touched g c = each_on _ _ _ _ _ (c.in_ok-load_paths.ensures.walks.stays c.args.root.0 c.requires.stands).place.root (λ m st. (c.ready.ensures.same.same m st).place) c.in_ok-load_paths.ensures.touched (none_loaded _ _ _ _ c.ready.ensures.same.none_new)
 
 pub returns-in-Err-clause-walks : goal.returns-in-Err-clause-walks
 returns-in-Err-clause-walks g c = Walks-trans _ _ _ c.in_ok-load_paths.ensures.walks (Unchanged-walks _ _ (Readies-unchanged _ _ c.in-Err.ensures.same c.in-Err.ensures.err))
