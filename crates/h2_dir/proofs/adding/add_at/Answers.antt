@@ -1,4 +1,4 @@
-use Rattle.std.proofs.Common.{◌≡◌, ◌+◌, ℕ, None, Some, sym, subst, ap, ◌∙◌, false, refl}
+use Rattle.std.proofs.Common.{◌≡◌, ◌+◌, None, Some, sym, subst, ap, ◌∙◌, false, refl}
 use Rattle.std.specs.Prelude.{Option}
 use Rattle.h2_num.specs.declared.block.Block.{Block}
 use Rattle.h2_ref.specs.declared.reference.Check.{Check}

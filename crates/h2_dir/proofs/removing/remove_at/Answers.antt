@@ -149,9 +149,10 @@ returns-clause-entries g c may size entries name entry h found =
     let rising = tree_rising now dir (without leaf.key h.leaves) c.resize.ensures.replaces.sound c.resize.ensures.replaces.place.stands leaves in
     let old = held_by g.N.Nodes.fields (g.N.Sets.beside c.args.n.now) in
     let new = held_by g.N.Nodes.fields (g.N.Sets.beside c.resize.new.n) in
-    let told = g.N.Nodes.told c.resize.new.n in
-    (entry_number f now old new _ told may dir size entries h names leaf name c.says.result is found.named (returns-clause-says g c leaf found.path),
-    entries_less f now old new _ told may dir size entries h names leaf name is found.named leaves rising)
+    let told = g.N.Nodes.told c.resize.new.n in (
+      entry_number f now old new _ told may dir size entries h names leaf name c.says.result is found.named (returns-clause-says g c leaf found.path),
+      entries_less f now old new _ told may dir size entries h names leaf name is found.named leaves rising,
+    )
 
 pub returns-clause-other_entries : goal.returns-clause-other_entries
 returns-clause-other_entries g c m i may size entries has kind ne h =
