@@ -1,4 +1,4 @@
-use Rattle.std.proofs.Common.{◌≡◌, ◌-◌, None, Some, sym, subst, ap, ◌∙◌, false, refl}
+use Rattle.std.proofs.Common.{◌≡◌, ◌-◌, None, Some, sym, subst, ap, ◌∙◌, arith, false, refl}
 use Rattle.h2_ref.specs.declared.reference.Ref.{Ref}
 use Rattle.h2_set.specs.Ranges.{without, holds, find}
 use Rattle.h2_set.specs.Forest.{Reaches, LeavesOf}
@@ -160,3 +160,9 @@ returns-clause-other_entries g c m i may size entries has kind ne h =
     let names : (x : Ref) → now.name x ≡ (g.N.Sets.forest c.args.n.now).name x = λ x. c.resize.ensures.replaces.name x ∙ c.take_out-leaf.ensures.removes.fixed.name x in
     let tree = returns-clause-others g c m i has (λ e. let clash : Directory ≡ Pfs = sym kind ∙ e in cc) ne in
     entries_same (g.N.Sets.forest c.args.n.now) now (held_by g.N.Nodes.fields (g.N.Sets.beside c.args.n.now)) (held_by g.N.Nodes.fields (g.N.Sets.beside c.resize.new.n)) _ (g.N.Nodes.told c.resize.new.n) may m size entries h names tree.leaves
+
+pub returns-clause-spends : goal.returns-clause-spends
+returns-clause-spends g c =
+    let change = c.take_out-leaf.ensures.removes in
+    let resizes = c.resize.ensures.replaces in
+    (omega (arith, change.room, resizes.room), omega (arith, change.spare, resizes.spare))
