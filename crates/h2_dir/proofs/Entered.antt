@@ -1,11 +1,10 @@
 -- An entry that goes into a directory's list of leaves, or out of it, and the map that the directory stands for.
-use Rattle.std.specs.Prelude.{◌≡◌, ◌≢◌, ◌<◌, ◌≤◌, ℕ, zero, suc, ◌+◌, ◌^◌, Bool, true, false, cond, if◌then◌else◌, nat_lt, ◌==◌, List, [], ◌∷◌, length, Contains, Option, Some, None, IsPermutation, refl}
-use Rattle.std.proofs.Common.{ap, sym, ◌∙◌, arith, inl, inr, subst, get_or}
-use Rattle.std.proofs.lemmas.Bool.{cases_Bool}
+use Rattle.std.specs.Prelude.{◌≡◌, ◌≢◌, ◌<◌, ℕ, zero, suc, Bool, true, false, cond, if◌then◌else◌, nat_lt, ◌==◌, List, [], ◌∷◌, length, Contains, Option, Some, None, IsPermutation, refl}
+use Rattle.std.proofs.Common.{ap, sym, ◌∙◌, arith, subst, get_or}
 use Rattle.std.proofs.lemmas.Bool.Decides.{nat_tests}
 use Rattle.std.proofs.lemmas.Nat.{pow_pos}
 use Rattle.std.proofs.lemmas.Option.{none-some, same_Some, slice_get-get_or}
-use Rattle.std.proofs.lemmas.List.Sorted.{IsPermutation-refl, IsPermutation-sym, IsPermutation-trans, IsPermutation-cons, IsPermutation-middle, length_permutation}
+use Rattle.std.proofs.lemmas.List.Sorted.{IsPermutation-refl, IsPermutation-sym, IsPermutation-trans, IsPermutation-cons, IsPermutation-middle}
 use Rattle.std.specs.Ordering.{eq_by_cmp}
 use Rattle.std.specs.FinMap.{get, insert, remove, from_entries, get-remove, get-insert, same_map}
 use Rattle.h2_ref.specs.declared.reference.Ref.{Ref}
@@ -148,5 +147,5 @@ map_cut y ys named same differ =
     let apart = differ_still named (y ∷ ys) back differ in
     let whole : from_entries {R = order} named ≡ insert (from_entries ys) y.0 y.1 = map_put y ys named same apart in
     same_map names_total exact_names _ _ (λ q.
-        get-remove names_total (from_entries {R = order} named) y.0 q ∙ ap (λ m. cond (eq_by_cmp order q y.0) None (get m q)) whole
-        ∙ ap (cond (eq_by_cmp order q y.0) None) (get-insert names_total (from_entries ys) y.0 y.1 q) ∙ removed_at y ys q apart (eq_by_cmp order q y.0) refl)
+    get-remove names_total (from_entries {R = order} named) y.0 q ∙ ap (λ m. cond (eq_by_cmp order q y.0) None (get m q)) whole
+    ∙ ap (cond (eq_by_cmp order q y.0) None) (get-insert names_total (from_entries ys) y.0 y.1 q) ∙ removed_at y ys q apart (eq_by_cmp order q y.0) refl)

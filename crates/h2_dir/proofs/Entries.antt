@@ -1,5 +1,5 @@
 -- The entries that a directory holds, where one went in or out.
-use Rattle.std.specs.Prelude.{◌≡◌, ◌≤◌, ◌⊎◌, ℕ, ◌+◌, ◌-◌, ◌^◌, Bool, true, false, if◌then◌else◌, List, [], ◌∷◌, replicate, length, Contains, Option, Some, None, refl}
+use Rattle.std.specs.Prelude.{◌≡◌, ◌≤◌, ℕ, ◌+◌, ◌-◌, ◌^◌, Bool, true, false, if◌then◌else◌, List, [], ◌∷◌, replicate, length, Contains, Option, Some, None, refl}
 use Rattle.std.proofs.Common.{ap, sym, ◌∙◌, arith, inl, inr, subst}
 use Rattle.std.proofs.lemmas.List.{take_at}
 use Rattle.std.proofs.lemmas.List.Sorted.{IsPermutation-sym, length_permutation}
@@ -15,7 +15,6 @@ use Rattle.h2_set.specs.Forest.{Forest, IsSound, LeavesOf, KeepsLeaves}
 use Rattle.h2_set.specs.LeafLaws.{Rising-low, leaves_rising}
 use Rattle.h2_dirkey.specs.Key.{IsNameUnder}
 use Rattle.h2_inode.specs.Nodes.{Fields, Told}
-use Rattle.h2_inode.specs.Access.{OneByOne}
 use Rattle.h2_inode.specs.Loaded.{at_root, loaded_nodes, no_content}
 use Rattle.h2_inode.specs.Directory.{Entries, IsEntry}
 use Rattle.h2_dir.specs.Changing.{entry_ref, short_entry, long_entry, TellsName}

@@ -1,7 +1,6 @@
 -- An entry that goes into a directory or out of it changes no reference of other directories and files.
 use Rattle.std.specs.Prelude.{◌≡◌, ℕ, true, Option, None, Some, slice_get, refl}
 use Rattle.std.proofs.Common.{ap, sym, ◌∙◌, subst}
-use Rattle.h2_ref.specs.declared.reference.Kind.TheVariants as kinds
 use Rattle.h2_ref.specs.declared.reference.Ref.{Ref}
 use Rattle.h2_set.specs.RefSet.{RefSet}
 use Rattle.h2_set.specs.Forest.{Forest, refs, IsSound, InPlace, Fixed, Renews, OnWay, inside, across}

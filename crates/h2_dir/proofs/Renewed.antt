@@ -5,7 +5,7 @@ use Rattle.std.proofs.lemmas.Option.{same_Some}
 use Rattle.h2_ref.specs.declared.reference.Kind.TheVariants as kinds
 use Rattle.h2_ref.specs.declared.reference.Ref.{Ref}
 use Rattle.h2_set.specs.RefSet.{RefSet}
-use Rattle.h2_set.specs.Forest.{Forest, refs, loaded, IsSound, InPlace, Fixed, Alike, AllRenewed, Renews, Same, Stays, KeepsLeaves, Reaches}
+use Rattle.h2_set.specs.Forest.{Forest, refs, loaded, IsSound, InPlace, Fixed, Alike, AllRenewed, Renews, Same, Stays}
 use Rattle.h2_set.specs.StayLaws.{Alike-refl, InPlace-trans, leaves_stay}
 use Rattle.h2_set.specs.ChangeLaws.{same_or_not}
 use Rattle.h2_set.specs.RenewLaws.{Keeps-Renews, Renews-trans, trees_renewed}
@@ -15,7 +15,7 @@ use Rattle.h2_inode.specs.declared.kind.InodeKind.TheVariants.{Directory, File, 
 use Rattle.h2_inode.specs.declared.inode.Body.{Body}
 use Rattle.h2_inode.specs.declared.inode.Body.TheVariants.{Refs, Bytes}
 use Rattle.h2_inode.specs.declared.inode.Inode.{Inode}
-use Rattle.h2_inode.specs.Nodes.{Fields, fields_of, bytes_of, set_of, MayHave, HasInode, Replaces}
+use Rattle.h2_inode.specs.Nodes.{Fields, bytes_of, set_of, MayHave, HasInode, Replaces}
 use Rattle.h2_inode.specs.NodeLaws.{named_stays, inode_held}
 use Rattle.h2_dir.specs.Others.{body_with, with_set, KeepsTree, RenewsTree}
 use Rattle.h2_dir.proofs.Resized.{others_same}

@@ -43,11 +43,12 @@ fn put_in<N: Sets>(alloc: Global, n: &mut N, root: NodeId, leaf: Ref)
 /// Adds an entry to a directory, with the epoch as its id, and raises the directory's size by one. Where no entry had
 /// the name, the directory stands for its entries and this one.
 ///
-/// No entry has the key, its path is loaded, and it has the upper bits of the name's keys (`spot` gives such a key). The size
-/// is below 4096. The number is from 1 to 2^62 - 1, and the target 1 for a directory or 2 for a file. A name of more
-/// than 64 bytes has a block of 1 KiB, and no other has: it is given with its check. At least one node is spare, and
-/// the room is at least 63. It can't be refused. No node is unloaded, and all loaded paths stay. Other directories and
-/// files stay the same, and the trees of PFSs do, but for where the blocks of inodes lie.
+/// No entry has the key, its path is loaded, and it has the upper bits of the name's keys (`spot` gives such a key).
+/// The size is below 4096. The number is from 1 to 2^62 - 1, and the target 1 for a directory or 2 for a file. A name
+/// of more than 64 bytes has a block of 1 KiB, and no other has: it is given with its check. At least one node is
+/// spare, and the room is at least 63; they are lowered by at most this. It can't be refused. No node is unloaded, and
+/// all loaded paths stay. Other directories and files stay the same, and the trees of PFSs do, but for where the blocks
+/// of inodes lie.
 pub fn add_at<N: Nodes>(
     alloc: Global,
     n: &mut N,
@@ -75,6 +76,7 @@ pub fn add_at<N: Nodes>(
     ensures above { RenewsOtherTrees (N.forest n.old) (N.forest n.new) (held_by N.fields (N.beside n.old)) (held_by N.fields (N.beside n.new)) dir.0 }
     ensures other_entries { KeepsOtherEntries (N.forest n.old) (N.forest n.new) (held_by N.fields (N.beside n.old)) (held_by N.fields (N.beside n.new)) (N.told n.old) (N.told n.new) dir.0 }
     ensures beside { KeepsOthersBeside (N.forest n.old) (N.forest n.new) dir.0 (N.beside n.old) (N.beside n.new) }
+    ensures spends { let f = N.forest n.old in let g = N.forest n.new in (f.room ≤ g.room + 63) × (f.spare ≤ g.spare + 1) }
     ensures later { N.later n.old n.new }
 {
     let size = n.inode(dir).size;

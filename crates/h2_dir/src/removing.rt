@@ -1,4 +1,4 @@
-ghost use Rattle.std.specs.Prelude.{◌≡◌, ◌≤◌, ◌-◌, ℕ, Bool, true, List, Some, None, IsSome};
+ghost use Rattle.std.specs.Prelude.{◌≡◌, ◌≤◌, ◌+◌, ◌-◌, ℕ, Bool, true, List, Some, None, IsSome};
 ghost use Rattle.std.specs.FinMap.{get, remove};
 ghost use Rattle.h2_ref.specs.declared.reference.Ref.{Ref};
 ghost use Rattle.h2_ref.specs.declared.reference.Dirent.{Dirent};
@@ -73,9 +73,9 @@ fn says(leaf: Ref) -> Dirent
 /// Takes the entry under a key out of a directory, and lowers the directory's size by one, unless it is 0. What the
 /// entry said is answered. The directory stands for its entries without the one of this name.
 ///
-/// The entry is there, its path is loaded, and the room is at least 62. It can't be refused. Of the tree nothing goes
-/// but indirect blocks that would be left empty, and loaded paths to other keys stay. Other directories and files stay
-/// the same, and the trees of PFSs do, but for where the blocks of inodes lie.
+/// The entry is there, its path is loaded, and the room is at least 62, and lowered by at most this. It can't be
+/// refused. Of the tree nothing goes but indirect blocks that would be left empty, and loaded paths to other keys stay.
+/// Other directories and files stay the same, and the trees of PFSs do, but for where the blocks of inodes lie.
 pub fn remove_at<N: Nodes>(alloc: Global, n: &mut N, dir: NodeId, key: u64) -> Dirent
     requires sound { IsSound (N.forest n.old) }
     requires directory { IsDirectoryRoot (N.forest n.old) (held_by N.fields (N.beside n.old)) dir.0 }
@@ -93,6 +93,7 @@ pub fn remove_at<N: Nodes>(alloc: Global, n: &mut N, dir: NodeId, key: u64) -> D
     ensures above { RenewsOtherTrees (N.forest n.old) (N.forest n.new) (held_by N.fields (N.beside n.old)) (held_by N.fields (N.beside n.new)) dir.0 }
     ensures other_entries { KeepsOtherEntries (N.forest n.old) (N.forest n.new) (held_by N.fields (N.beside n.old)) (held_by N.fields (N.beside n.new)) (N.told n.old) (N.told n.new) dir.0 }
     ensures beside { KeepsOthersBeside (N.forest n.old) (N.forest n.new) dir.0 (N.beside n.old) (N.beside n.new) }
+    ensures spends { let f = N.forest n.old in let g = N.forest n.new in (f.room ≤ g.room + 62) × (g.spare ≡ f.spare) }
     ensures later { N.later n.old n.new }
 {
     let size = n.inode(dir).size;

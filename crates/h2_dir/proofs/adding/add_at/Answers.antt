@@ -1,4 +1,4 @@
-use Rattle.std.proofs.Common.{◌≡◌, ◌+◌, ℕ, None, Some, sym, subst, ap, ◌∙◌, false, refl}
+use Rattle.std.proofs.Common.{◌≡◌, ◌+◌, None, Some, sym, subst, ap, ◌∙◌, arith, false, refl}
 use Rattle.std.specs.Prelude.{Option}
 use Rattle.h2_num.specs.declared.block.Block.{Block}
 use Rattle.h2_ref.specs.declared.reference.Check.{Check}
@@ -159,3 +159,9 @@ returns-clause-other_entries g c m i may size entries has kind ne h =
     let names : (x : Ref) → now.name x ≡ (g.N.Sets.forest c.args.n.now).name x = λ x. c.resize.ensures.replaces.name x ∙ c.put_in.ensures.inserts.fixed.name x in
     let tree = returns-clause-others g c m i has (λ e. let clash : Directory ≡ Pfs = sym kind ∙ e in cc) ne in
     entries_same (g.N.Sets.forest c.args.n.now) now (held_by g.N.Nodes.fields (g.N.Sets.beside c.args.n.now)) (held_by g.N.Nodes.fields (g.N.Sets.beside c.resize.new.n)) _ (g.N.Nodes.told c.resize.new.n) may m size entries h names tree.leaves
+
+pub returns-clause-spends : goal.returns-clause-spends
+returns-clause-spends g c =
+    let change = c.put_in.ensures.inserts in
+    let resizes = c.resize.ensures.replaces in
+    (omega (arith, change.room, resizes.room), omega (arith, change.spare, resizes.spare))

@@ -1,4 +1,4 @@
-use Rattle.std.proofs.Common.{◌≡◌, ◌-◌, None, Some, sym, subst, ap, ◌∙◌, false, refl}
+use Rattle.std.proofs.Common.{◌≡◌, ◌-◌, None, Some, sym, subst, ap, ◌∙◌, arith, false, refl}
 use Rattle.h2_ref.specs.declared.reference.Ref.{Ref}
 use Rattle.h2_set.specs.Ranges.{without, holds, find}
 use Rattle.h2_set.specs.Forest.{Reaches, LeavesOf}
@@ -149,9 +149,10 @@ returns-clause-entries g c may size entries name entry h found =
     let rising = tree_rising now dir (without leaf.key h.leaves) c.resize.ensures.replaces.sound c.resize.ensures.replaces.place.stands leaves in
     let old = held_by g.N.Nodes.fields (g.N.Sets.beside c.args.n.now) in
     let new = held_by g.N.Nodes.fields (g.N.Sets.beside c.resize.new.n) in
-    let told = g.N.Nodes.told c.resize.new.n in
-    (entry_number f now old new _ told may dir size entries h names leaf name c.says.result is found.named (returns-clause-says g c leaf found.path),
-    entries_less f now old new _ told may dir size entries h names leaf name is found.named leaves rising)
+    let told = g.N.Nodes.told c.resize.new.n in (
+      entry_number f now old new _ told may dir size entries h names leaf name c.says.result is found.named (returns-clause-says g c leaf found.path),
+      entries_less f now old new _ told may dir size entries h names leaf name is found.named leaves rising,
+    )
 
 pub returns-clause-other_entries : goal.returns-clause-other_entries
 returns-clause-other_entries g c m i may size entries has kind ne h =
@@ -159,3 +160,9 @@ returns-clause-other_entries g c m i may size entries has kind ne h =
     let names : (x : Ref) → now.name x ≡ (g.N.Sets.forest c.args.n.now).name x = λ x. c.resize.ensures.replaces.name x ∙ c.take_out-leaf.ensures.removes.fixed.name x in
     let tree = returns-clause-others g c m i has (λ e. let clash : Directory ≡ Pfs = sym kind ∙ e in cc) ne in
     entries_same (g.N.Sets.forest c.args.n.now) now (held_by g.N.Nodes.fields (g.N.Sets.beside c.args.n.now)) (held_by g.N.Nodes.fields (g.N.Sets.beside c.resize.new.n)) _ (g.N.Nodes.told c.resize.new.n) may m size entries h names tree.leaves
+
+pub returns-clause-spends : goal.returns-clause-spends
+returns-clause-spends g c =
+    let change = c.take_out-leaf.ensures.removes in
+    let resizes = c.resize.ensures.replaces in
+    (omega (arith, change.room, resizes.room), omega (arith, change.spare, resizes.spare))
