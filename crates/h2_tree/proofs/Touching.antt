@@ -11,31 +11,12 @@ use Rattle.h2_ref.specs.declared.faults.Trouble.{Trouble}
 use Rattle.h2_ref.specs.declared.faults.Trouble.TheVariants.{NoMemory}
 use Rattle.h2_set.specs.RefSet.{RefSet}
 use Rattle.h2_set.specs.Ranges.{Rising, limit, holds, is_indirect}
-use Rattle.h2_set.specs.LeafLaws.{Rising-le, holds_inside, holds_outside, leaves_rising}
+use Rattle.h2_set.specs.LeafLaws.{Rising-le, holds_inside, leaves_rising}
 use Rattle.h2_set.specs.Forest.{Link, loaded, told, untold, Forest, refs, HasLeaves, IsSound, InPlace, Walks, Loads}
 use Rattle.h2_tree.specs.Changes.{is_between, touches, RangeUnloaded, missing, deeper, LoadsTouched, LoadsIn, Prepares}
 
-pub touches_none : (from to : ℕ) (r : Ref) → to < from → touches from to r ≡ false
-touches_none from to r lt = grind (arith, nat_tests)
-
-pub touches_not : (from to : ℕ) (r : Ref) → to < r.key → touches from to r ≡ false
-touches_not from to r lt = grind (arith, nat_tests)
-
-pub touches_before : (from to : ℕ) (r : Ref) → r.key ≤ to → from < r.key → touches from to r ≡ true
-touches_before from to r le lt = let pos = pow_pos r.keybits in grind (arith, nat_tests)
-
-pub touches_holds : (from to : ℕ) (r : Ref) (b : Bool) → from ≤ to → r.key ≤ to → r.key ≤ from → holds from r ≡ b → touches from to r ≡ b
-touches_holds from to r true some le ge e = let it = holds_inside from r e in let high = it.1 in grind (arith, nat_tests)
-touches_holds from to r false some le ge e = elim (holds_outside from r e) as (λ _. touches from to r ≡ false) [
-  | inl low ↦ absurd (omega (arith, low, ge))
-  | inr high ↦ grind (arith, nat_tests)
-]
-
-pub Touched-refl : (f : Forest) (from to : ℕ) → LoadsTouched f f from to
-Touched-refl f from to = record { only = λ m st. inl st }
-
 -- where no node was loaded
-pub none_touched : (f g : Forest) (from to : ℕ) → ((m : ℕ) → g.stands m ≡ true → f.stands m ≡ true) → LoadsTouched f g from to
+none_touched : (f g : Forest) (from to : ℕ) → ((m : ℕ) → g.stands m ≡ true → f.stands m ≡ true) → LoadsTouched f g from to
 none_touched f g from to none_new = record { only = λ m st. inl (none_new m st) }
 
 -- where each node that stood in between stands where it stood
@@ -52,12 +33,6 @@ Touched-placed f g h from to placed a b = record {
   ];
 }
 
-pub Touched-prepared : (f g h : Forest) (from to : ℕ) → Prepares g h → LoadsTouched f g from to → LoadsTouched g h from to → LoadsTouched f h from to
-Touched-prepared f g h from to p a b = Touched-placed f g h from to (λ m st. (p.stays m st).place) a b
-
-pub Touched-trans : (f g h : Forest) (from to : ℕ) → Walks g h → LoadsTouched f g from to → LoadsTouched g h from to → LoadsTouched f h from to
-Touched-trans f g h from to walks a b = Touched-placed f g h from to (λ m st. (walks.stays m st).place) a b
-
 pub touches_inside : (from to : ℕ) (r : Ref) → touches from to r ≡ true → (r.key ≤ to) × (from < limit r) × (from ≤ to)
 touches_inside from to r e = (grind (arith, nat_tests), grind (arith, nat_tests), grind (arith, nat_tests))
 
@@ -65,11 +40,11 @@ all_touch : (from to : ℕ) (r : Ref) → from ≤ to → r.key ≤ to → from 
 all_touch from to r some low high = grind (arith, nat_tests)
 
 -- one key
-pub touches_one : (key : ℕ) (r : Ref) → holds key r ≡ true → touches key key r ≡ true
+touches_one : (key : ℕ) (r : Ref) → holds key r ≡ true → touches key key r ≡ true
 touches_one key r e = let it = holds_inside key r e in let low = it.0 in let high = it.1 in grind (arith, nat_tests)
 
 -- the load of a child whose reference is touched
-pub touched_load : (f g : Forest) (at i : ℕ) (r : Ref) (from to : ℕ) → f.stands at ≡ true → slice_get (refs f at) i ≡ Some r → is_indirect r ≡ true → touches from to r ≡ true → Walks f g → Loads f g at r.key → LoadsTouched f g from to
+touched_load : (f g : Forest) (at i : ℕ) (r : Ref) (from to : ℕ) → f.stands at ≡ true → slice_get (refs f at) i ≡ Some r → is_indirect r ≡ true → touches from to r ≡ true → Walks f g → Loads f g at r.key → LoadsTouched f g from to
 touched_load f g at i r from to stands read ind touch walks loads = record {
   only = λ m st. elim (loads.new m st) as (λ _. (f.stands m ≡ true) ⊎ ((g.low m ≤ to) × (from < g.low m + 2 ^ g.bits m))) [
     | inl was ↦ inl was
@@ -86,7 +61,7 @@ touched_load f g at i r from to stands read ind touch walks loads = record {
 -- The same, with the tree in which nodes are loaded
 
 -- nothing stands and doesn't
-pub not_both : {A : Type 0} (b : Bool) → b ≡ false → b ≡ true → A
+not_both : {A : Type 0} (b : Bool) → b ≡ false → b ≡ true → A
 not_both b out there = let clash : false ≡ true = sym out ∙ there in cc
 
 pub none_in : (f g : Forest) (at from to : ℕ) → ((m : ℕ) → g.stands m ≡ true → f.stands m ≡ true) → LoadsIn f g at from to

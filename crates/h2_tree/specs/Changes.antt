@@ -111,7 +111,8 @@ pub record Prepares (f g : Forest) : Type 0 where
 pub record LoadsTouched (f g : Forest) (from to : ℕ) : Type 0 where
   pub only : (m : ℕ) → g.stands m ≡ true → (f.stands m ≡ true) ⊎ ((g.low m ≤ to) × (from < g.low m + 2 ^ g.bits m))
 
--- and it stands in the tree of node at; where there is no key from `from` to `to`, none was loaded
+-- each node that was loaded has such a key, and stands in the tree of node at; where no key is from `from` to `to`, none
+-- was loaded
 pub record LoadsIn (f g : Forest) (at from to : ℕ) : Type 0 where
   pub touched : LoadsTouched f g from to
   pub tree : (m : ℕ) → f.stands m ≡ false → g.stands m ≡ true → g.root m ≡ f.root at
