@@ -64,6 +64,12 @@ changes_only f h g at goes alters place others = record {
   exact = λ m i r st differs not_gone read off.
       let first = altered_place f h at alters m st in
       subst (λ (s : RefSet). slice_get s.refs i ≡ Some r) (sym (others m first.stands differs not_gone).set) (alters.exact m i r st read off);
+  kept = λ m i c r st differs not_gone read link was_writable.
+      let first = altered_place f h at alters m st in
+      subst (λ (s : RefSet). slice_get s.refs i ≡ Some r) (sym (others m first.stands differs not_gone).set) (alters.kept m i c r st read link was_writable);
+  dated = λ m i r q st differs not_gone read read_now.
+      let first = altered_place f h at alters m st in
+      alters.dated m i r q st read (subst (λ (s : RefSet). slice_get s.refs i ≡ Some q) (others m first.stands differs not_gone).set read_now);
   writable = λ m st not_gone not_above.
       let first = altered_place f h at alters m st in
       (others m first.stands (λ e. not_above (itself e)) not_gone).writable ∙ alters.others m st not_above;

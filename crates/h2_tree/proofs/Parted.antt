@@ -77,6 +77,7 @@ module _ (f h g : Forest) (at c : ℕ) (leaf : Ref) (set : RefSet) (s : Split) (
     indirect = makes.indirect;
     ref_key = makes.key;
     ref_bits = makes.keybits;
+    dated = makes.dated ∙ alters.fixed.epoch;
     link = makes.child;
     set =
         let kept = ap (λ (z : List Ref). let t : RefSet = record { refs = put makes.ref z; capacity = set.capacity } in t) made.kept in

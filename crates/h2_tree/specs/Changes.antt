@@ -39,6 +39,10 @@ pub record ChangesOnly (h g : Forest) (n : ℕ) (goes : ℕ → Type 0) : Type 0
   pub others : (m : ℕ) → h.stands m ≡ true → (h.root m ≡ h.root n → ⊥) → (goes m → ⊥) → Renews h g m
   -- no reference changes but on the way to the node
   pub exact : (m i : ℕ) (r : Ref) → h.stands m ≡ true → (m ≡ n → ⊥) → (goes m → ⊥) → slice_get (refs h m) i ≡ Some r → (OnWay h m r n → ⊥) → slice_get (refs g m) i ≡ Some r
+  -- nor does one to a node that was writable
+  pub kept : (m i c : ℕ) (r : Ref) → h.stands m ≡ true → (m ≡ n → ⊥) → (goes m → ⊥) → slice_get (refs h m) i ≡ Some r → h.link m r.key ≡ loaded c → h.writable c ≡ true → slice_get (refs g m) i ≡ Some r
+  -- one that changes has the epoch as its id
+  pub dated : (m i : ℕ) (r q : Ref) → h.stands m ≡ true → (m ≡ n → ⊥) → (goes m → ⊥) → slice_get (refs h m) i ≡ Some r → slice_get (refs g m) i ≡ Some q → (q ≡ r) ⊎ (q.id ≡ h.epoch)
   pub writable : (m : ℕ) → h.stands m ≡ true → (goes m → ⊥) → (IsAbove h m n → ⊥) → g.writable m ≡ h.writable m
   pub made : (m : ℕ) → h.stands m ≡ true → (goes m → ⊥) → IsAbove h m n → g.writable m ≡ true
   pub top : (goes (h.root n) → ⊥) → h.stands (h.root n) ≡ true → g.writable (h.root n) ≡ true
@@ -81,6 +85,8 @@ pub record Parts (h g : Forest) (n : ℕ) (leaf : Ref) : Type 0 where
   pub indirect : is_indirect ref ≡ true
   pub ref_key : ref.key ≡ key
   pub ref_bits : ref.keybits ≡ bits
+  -- it was made in this epoch
+  pub dated : ref.id ≡ h.epoch
   pub link : g.link n key ≡ loaded node
   -- what was loaded below the moved references is so below the new node
   pub sides : (i : ℕ) (r : Ref) → slice_get (put leaf (refs h n)) i ≡ Some r → Sides key bits r

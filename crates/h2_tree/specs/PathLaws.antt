@@ -1,13 +1,13 @@
--- What loaded paths lead to where a leaf goes in or out, and in other trees.
-use Rattle.std.proofs.Common.{◌≡◌, ℕ, ◌^◌, true, arith, refl, sym, ◌∙◌, ap, List, [], ◌∷◌, length, Option, Some, subst, slice_get}
+-- What loaded paths lead to where a leaf goes in or out.
+use Rattle.std.proofs.Common.{◌≡◌, ℕ, ◌^◌, true, arith, refl, ap, List, [], ◌∷◌, length, Option, Some, subst, slice_get}
 use Rattle.std.proofs.lemmas.Nat.{pow_pos}
 use Rattle.std.proofs.lemmas.Option.{same_Some}
 use Rattle.h2_ref.specs.declared.reference.Ref.{Ref}
 use Rattle.h2_set.specs.Ranges.{holds}
-use Rattle.h2_set.specs.Forest.{Forest, refs, loaded, IsSound, Reaches, nowhere, here, below}
+use Rattle.h2_set.specs.Forest.{Forest, refs, IsSound, Reaches, nowhere, here, below}
 use Rattle.h2_set.specs.LeafLaws.{holds_inside, place_above}
 use Rattle.h2_set.specs.SplitLaws.{below_high}
-use Rattle.h2_set.specs.PathLaws.{in_holds, PathRenewed, reaches_renew}
+use Rattle.h2_set.specs.PathLaws.{in_holds}
 use Rattle.h2_tree.specs.Changes.{Descends, arrived, onward, TakesIn, replaced, placed, parted, Inserts, LeadsOnly, itself, down, Removes}
 
 -- a way down leads to what its end leads to
@@ -69,17 +69,3 @@ pub removed_led : (f g : Forest) (at : ℕ) (leaf : Ref) → (rem : Removes f g 
 removed_led f g at leaf rem =
     let it = rem.goes in
     way_leads it.way (only_path it.walks.sound it.stands it.only_leaf)
-
--- a loaded path of another tree stays loaded where a leaf goes in
-pub inserted_others : (f g : Forest) (at m key : ℕ) (leaf : Ref) (old o : Option Ref) → IsSound f → Inserts f g at leaf old → f.stands m ≡ true → (f.root m ≡ f.root at → ⊥) → Reaches f key m o → PathRenewed g key m o
-inserted_others f g at m key leaf old o sound ins stands other reached =
-    let P : ℕ → Type 0 = λ n. (f.stands n ≡ true) × (f.root n ≡ f.root at → ⊥) in
-    let closed : (n k c : ℕ) → P n → f.link n k ≡ loaded c → P c = λ n k c p link. let child = (sound.node n p.0).child k c link in (child.stands, λ e. p.1 (sym child.root ∙ e)) in
-    reaches_renew f g P closed (λ n p. ins.above n p.0 p.1) (stands, other) reached
-
--- and where one goes out that the tree doesn't belong to
-pub removed_others : (f g : Forest) (at m key : ℕ) (leaf : Ref) (o : Option Ref) → IsSound f → Removes f g at leaf → f.stands m ≡ true → (f.root m ≡ f.root at → ⊥) → (f.belongs m (f.root at) leaf.key ≡ true → ⊥) → Reaches f key m o → PathRenewed g key m o
-removed_others f g at m key leaf o sound rem stands other free reached =
-    let P : ℕ → Type 0 = λ n. (f.stands n ≡ true) × (f.root n ≡ f.root at → ⊥) × (f.belongs n (f.root at) leaf.key ≡ true → ⊥) in
-    let closed : (n k c : ℕ) → P n → f.link n k ≡ loaded c → P c = λ n k c p link. let child = (sound.node n p.0).child k c link in (child.stands, λ e. p.1 (sym child.root ∙ e), λ e. p.2 (sym (child.belongs (f.root at) leaf.key) ∙ e)) in
-    reaches_renew f g P closed (λ n p. rem.above n p.0 p.1 p.2) (stands, other, free) reached

@@ -1,4 +1,5 @@
-use Rattle.h2_tree.specs.PathLaws.{inserted_led, inserted_range, removed_led, inserted_others, removed_others}
+use Rattle.h2_tree.specs.PathLaws.{inserted_led, inserted_range, removed_led}
+use Rattle.h2_tree.specs.OtherTrees.{inserted_others, inserted_lists, removed_others, removed_lists}
 use Rattle.h2_tree.specs.TreeLaws.{insert_fresh, lists_agree, lists_whole}
 use Rattle.h2_tree.proofs.laws.tree_law.Goals as goal
 
@@ -10,6 +11,8 @@ returns c = record {
   removed = λ f g root leaf out. removed_led f g root leaf out;
   others_inserted = λ f g root m key leaf old o sound ins stands other reached. inserted_others f g root m key leaf old o sound ins stands other reached;
   others_removed = λ f g root m key leaf o sound out stands other free reached. removed_others f g root m key leaf o sound out stands other free reached;
+  lists_inserted = λ f g root m leaf old l sound ins stands other leaves. inserted_lists f g root m leaf old l sound ins stands other leaves;
+  lists_removed = λ f g root m leaf l sound out stands other free leaves. removed_lists f g root m leaf l sound out stands other free leaves;
   agree = λ f at from to listed l sound stands lists leaves. lists_agree f at from to listed l sound stands lists leaves;
   whole = λ f at to listed sound stands last lists. lists_whole f to last sound at listed stands lists;
 }
