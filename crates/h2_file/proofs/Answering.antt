@@ -1,8 +1,9 @@
 -- What holds whatever was answered, what is kept beside sets, and what is loaded by calls one after the other.
-use Rattle.std.proofs.Common.{◌≡◌, ℕ, ◌+◌, ◌<◌, ◌≤◌, ◌^◌, true, arith, refl, ◌∙◌, ap, ◌⊎◌, inl, inr, Result, Ok, Err}
+use Rattle.std.proofs.Common.{◌≡◌, ℕ, ◌+◌, ◌<◌, ◌≤◌, ◌^◌, true, false, arith, refl, sym, ◌∙◌, ap, ◌⊎◌, inl, inr, Result, Ok, Err}
+use Rattle.std.proofs.lemmas.Bool.{cases_Bool}
 use Rattle.std.specs.Prelude.{OnErr}
 use Rattle.h2_set.specs.Forest.{Forest, InPlace, KeepsBeside}
-use Rattle.h2_tree.specs.Changes.{LoadsTouched}
+use Rattle.h2_tree.specs.Changes.{LoadsTouched, LoadsIn}
 
 pub always_err : {T E P : Type 0} (r : Result T E) → P → OnErr r P
 always_err (Ok o) p = tt
@@ -11,10 +12,7 @@ always_err (Err e) p = p
 pub beside_on : {B : Type 0} (f g h : Forest) (a b c : ℕ → B) → ((m : ℕ) → f.stands m ≡ true → g.stands m ≡ true) → KeepsBeside f g a b → KeepsBeside g h b c → KeepsBeside f h a c
 beside_on f g h a b c still first second = record { same = λ m st st'. let there = still m st in second.same m there st' ∙ first.same m st there }
 
-pub Touched-refl : (f : Forest) (from to : ℕ) → LoadsTouched f f from to
-Touched-refl f from to = record { only = λ m st. inl st }
-
-pub Touched-on : (f g h : Forest) (from to : ℕ) → ((m : ℕ) → g.stands m ≡ true → h.stands m ≡ true → InPlace g h m) → LoadsTouched f g from to → LoadsTouched g h from to → LoadsTouched f h from to
+Touched-on : (f g h : Forest) (from to : ℕ) → ((m : ℕ) → g.stands m ≡ true → h.stands m ≡ true → InPlace g h m) → LoadsTouched f g from to → LoadsTouched g h from to → LoadsTouched f h from to
 Touched-on f g h from to places a b = record {
   only = λ m st. elim (b.only m st) as (λ _. (f.stands m ≡ true) ⊎ ((h.low m ≤ to) × (from < h.low m + 2 ^ h.bits m))) [
     | inr new ↦ inr new
@@ -24,6 +22,31 @@ Touched-on f g h from to places a b = record {
           let place = places m was st in
           inr (omega (arith, place.low, new.0), omega (arith, place.low, ap (λ z. 2 ^ z) place.bits, new.1))
     ]
+  ];
+}
+
+-- where no node was loaded
+pub none_in : (f g : Forest) (at from to : ℕ) → ((m : ℕ) → g.stands m ≡ true → f.stands m ≡ true) → LoadsIn f g at from to
+none_in f g at from to none_new = record {
+  touched = record { only = λ m st. inl (none_new m st) };
+  tree = λ m out st. absurd (let was = none_new m st in let clash : true ≡ false = sym was ∙ out in cc);
+  some = λ m out st. absurd (let was = none_new m st in let clash : true ≡ false = sym was ∙ out in cc);
+}
+
+pub In-refl : (f : Forest) (at from to : ℕ) → LoadsIn f f at from to
+In-refl f at from to = none_in f f at from to (λ m st. st)
+
+-- loads in the tree of node at, and then in that of node c, which is the same
+pub In-on : (f g h : Forest) (at c from to : ℕ) → g.root c ≡ f.root at → ((m : ℕ) → g.stands m ≡ true → h.stands m ≡ true → InPlace g h m) → LoadsIn f g at from to → LoadsIn g h c from to → LoadsIn f h at from to
+In-on f g h at c from to root places a b = record {
+  touched = Touched-on f g h from to places a.touched b.touched;
+  tree = λ m out st. elim (cases_Bool (g.stands m)) as (λ _. h.root m ≡ f.root at) [
+    | inl was ↦ (places m was st).root ∙ a.tree m out was
+    | inr new ↦ b.tree m new st ∙ root
+  ];
+  some = λ m out st. elim (cases_Bool (g.stands m)) as (λ _. from ≤ to) [
+    | inl was ↦ a.some m out was
+    | inr new ↦ b.some m new st
   ];
 }
 

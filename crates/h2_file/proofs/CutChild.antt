@@ -13,28 +13,21 @@ use Rattle.h2_set.specs.StayLaws.{Alike-refl, Fixed-trans, InPlace-trans, Walks-
 use Rattle.h2_set.specs.LeafLaws.{holds_inside, leaves_rising, outside_holds}
 use Rattle.h2_set.specs.ChangeLaws.{Keeps-Stays, Keeps-trans, leaves_move, same_or_not}
 use Rattle.h2_set.specs.RenewLaws.{Keeps-Renews, Renews-trans, Alike-length, LikeAt, like_at, Alike-sym}
-use Rattle.h2_tree.specs.Changes.{Under, LoadsTouched, WalksUnder, PathUnloaded}
+use Rattle.h2_tree.specs.Changes.{Under, LoadsIn, WalksUnder, PathUnloaded}
 use Rattle.h2_file.specs.Blocks.{HasContents}
 use Rattle.h2_file.specs.Cutting.{IsCutBlock, cut_to, front, leads, Cuts, cut_block, ReachesBy, misses, arrives}
-use Rattle.h2_file.proofs.Answering.{Touched-on}
-use Rattle.h2_file.proofs.Parts.{cut_append, Parted, leaves_parted, leaves_join, take_from, taken_at, take_next, in_order}
+use Rattle.h2_file.proofs.Answering.{In-on}
+use Rattle.h2_file.proofs.Parts.{Alike-take, cut_append, Parted, leaves_parted, leaves_join, take_from, taken_at, take_next, in_order}
 use Rattle.h2_file.proofs.Onward.{contents_root, onward}
 use Rattle.h2_file.proofs.Fronts.{contents_keep, reaches_keeps, same_holds, same_holds_back}
 use Rattle.h2_file.proofs.CutLevels.{Readied, FrontLeft, nothing_left, none_before, none_upto, none_of, own_below, cut_parts, block_le}
 
-Alike-take : (n : ℕ) (rs qs : List Ref) → Alike rs qs → Alike (take n rs) (take n qs)
-Alike-take zero rs qs a = tt
-Alike-take (suc n) [] [] a = tt
-Alike-take (suc n) [] (q ∷ qs) a = absurd a
-Alike-take (suc n) (r ∷ rs) [] a = absurd a
-Alike-take (suc n) (r ∷ rs) (q ∷ qs) a = (a.0, Alike-take n rs qs a.1)
-
 -- A load of what the last reference below the size leads to
 
 module _ (f h : Forest) (at i size : ℕ) (r : Ref) (sound : IsSound f) (stands : f.stands at ≡ true) (read : slice_get (refs f at) i ≡ Some r) (ind : is_indirect r ≡ true) (in_r : holds size r ≡ true) (walks : Walks f h) (loads : Loads f h at r.key) where
-  pub load_touched : LoadsTouched f h size size
+  pub load_touched : LoadsIn f h at size size
   load_touched = record {
-    only = λ m st. elim (loads.new m st) as (λ _. (f.stands m ≡ true) ⊎ ((h.low m ≤ size) × (size < h.low m + 2 ^ h.bits m))) [
+    touched = record { only = λ m st. elim (loads.new m st) as (λ _. (f.stands m ≡ true) ⊎ ((h.low m ≤ size) × (size < h.low m + 2 ^ h.bits m))) [
       | inl was ↦ inl was
       | inr link ↦
           let node = walks.sound.node at (walks.stays at stands).place.stands in
@@ -43,7 +36,12 @@ module _ (f h : Forest) (at i size : ℕ) (r : Ref) (sound : IsSound f) (stands 
           let bits = node.bits i m r read_h ind link in
           let it = holds_inside size r in_r in
           inr (omega (arith, kid.low, it.0), omega (arith, kid.low, ap (λ z. 2 ^ z) bits, it.1))
+    ] };
+    tree = λ m out st. elim (loads.new m st) as (λ _. h.root m ≡ f.root at) [
+      | inl was ↦ absurd (let clash : true ≡ false = sym was ∙ out in cc)
+      | inr link ↦ let place = (walks.stays at stands).place in ((walks.sound.node at place.stands).child r.key m link).root ∙ place.root
     ];
+    some = λ m out st. omega arith;
   }
 
   pub unloaded_child : ((q : Ref) (c : ℕ) → slice_get (refs f at) i ≡ Some q → f.link at q.key ≡ loaded c → ⊥) → PathUnloaded f at size
@@ -64,6 +62,9 @@ module _ (f h : Forest) (at i size : ℕ) (r : Ref) (sound : IsSound f) (stands 
 
     bits_c : h.bits c ≡ r.keybits
     bits_c = node.bits i c r read_h ind link
+
+    pub child_root : h.root c ≡ f.root at
+    child_root = child.root ∙ there.root
 
     pub child_stands : h.stands c ≡ true
     child_stands = child.stands
@@ -106,7 +107,7 @@ module _ (f h : Forest) (at i size : ℕ) (r : Ref) (sound : IsSound f) (stands 
     at_outside u = (let kid = child in let more = pow_below (h.bits c) (h.bits at) kid.fewer in omega (arith, u.low, u.high, more))
 
     -- what was done below the child makes the node ready
-    readied : (k : Forest) → IsSound k → Fixed h k → InPlace h k at → ((m : ℕ) → h.stands m ≡ true → h.root m ≡ h.root c → (Under h m c → ⊥) → Keeps h k m) → ((m : ℕ) → h.stands m ≡ true → (h.root m ≡ h.root c → ⊥) → Renews h k m) → ((m : ℕ) → h.stands m ≡ true → k.stands m ≡ true → InPlace h k m) → LoadsTouched h k size size → h.room + k.copies at ≤ k.room + 62 → k.room ≤ h.room → k.spare ≡ h.spare → Readied f k at size
+    readied : (k : Forest) → IsSound k → Fixed h k → InPlace h k at → ((m : ℕ) → h.stands m ≡ true → h.root m ≡ h.root c → (Under h m c → ⊥) → Keeps h k m) → ((m : ℕ) → h.stands m ≡ true → (h.root m ≡ h.root c → ⊥) → Renews h k m) → ((m : ℕ) → h.stands m ≡ true → k.stands m ≡ true → InPlace h k m) → LoadsIn h k c size size → h.room + k.copies at ≤ k.room + 62 → k.room ≤ h.room → k.spare ≡ h.spare → Readied f k at size
     readied k sound_k fixed place tree above still touched room falls spare = record {
       sound = sound_k;
       fixed = Fixed-trans f h k (λ m st st'. (walks.stays m st).place.stands) walks.fixed fixed;
@@ -118,7 +119,7 @@ module _ (f h : Forest) (at i size : ℕ) (r : Ref) (sound : IsSound f) (stands 
           let first = loads.keeps m st (λ e. root (ap f.root e)) in
           Renews-trans f h k m (Keeps-Renews f h m first) (above m first.place.stands (λ e. root (sym first.place.root ∙ e ∙ child.root ∙ there.root)));
       still = λ m st st'. let first = (walks.stays m st).place in InPlace-trans f h k m first (still m first.stands st');
-      touched = Touched-on f h k size size still load_touched touched;
+      touched = In-on f h k at c size size child_root still load_touched touched;
       room = (let same = walks.room in omega (arith, same, room));
       room_falls = (let same = walks.room in omega (arith, same, falls));
       spare = spare ∙ walks.spare;
@@ -175,7 +176,7 @@ module _ (f h : Forest) (at i size : ℕ) (r : Ref) (sound : IsSound f) (stands 
           reaches_keeps h k P closed keep start reached
 
     -- the child has nothing below the size
-    module _ (k : Forest) (last : Option Ref) (under : WalksUnder h k c) (touched : LoadsTouched h k size size) where
+    module _ (k : Forest) (last : Option Ref) (under : WalksUnder h k c) (touched : LoadsIn h k c size size) where
       whole : Walks f k
       whole = Walks-trans f h k walks under.walks
 
@@ -201,8 +202,8 @@ module _ (f h : Forest) (at i size : ℕ) (r : Ref) (sound : IsSound f) (stands 
                 high = omega (arith, u.high, kid.within, stay.low, ap (λ z. 2 ^ z) stay.bits, here_at.low, ap (λ z. 2 ^ z) here_at.bits);
               }
 
-      pub touched_none : LoadsTouched f k size size
-      touched_none = Touched-on f h k size size (λ m st st'. (under.walks.stays m st).place) load_touched touched
+      pub touched_none : LoadsIn f k at size size
+      touched_none = In-on f h k at c size size child_root (λ m st st'. (under.walks.stays m st).place) load_touched touched
 
       pub whole_none : Walks f k
       whole_none = whole

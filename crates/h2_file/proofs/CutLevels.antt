@@ -12,10 +12,10 @@ use Rattle.h2_set.specs.StayLaws.{Fixed-refl, Fixed-trans, InPlace-refl, InPlace
 use Rattle.h2_set.specs.LeafLaws.{holds_inside, holds_outside, outside_holds}
 use Rattle.h2_set.specs.ChangeLaws.{Keeps-refl, Keeps-trans, same_or_not}
 use Rattle.h2_set.specs.RenewLaws.{Keeps-Renews, Renews-trans}
-use Rattle.h2_tree.specs.Changes.{Under, LoadsTouched, WalksUnder}
+use Rattle.h2_tree.specs.Changes.{Under, LoadsIn, WalksUnder}
 use Rattle.h2_file.specs.Blocks.{HasContents}
 use Rattle.h2_file.specs.Cutting.{cut_block, IsCutBlock, in_place, cut_to, front, FitsLast, ReachesBy, misses, arrives, IsLeft, KeepsFront, Cuts, leads}
-use Rattle.h2_file.proofs.Answering.{Touched-refl, Touched-on}
+use Rattle.h2_file.proofs.Answering.{In-refl, In-on, none_in}
 use Rattle.h2_file.proofs.Parts.{cut_append, cut_one, cut_key, end_block, Parted, leaves_parted, leaves_join, behind_gone, before_stays, take_from, drop_from, take_next, set_next, in_order, taken_at}
 
 -- each reference of a file's tree is a block long at least
@@ -35,7 +35,7 @@ pub record Readied (f k : Forest) (at size : ℕ) : Type 0 where
   pub tree : (m : ℕ) → f.stands m ≡ true → f.root m ≡ f.root at → (Under f m at → ⊥) → Keeps f k m
   pub above : (m : ℕ) → f.stands m ≡ true → (f.root m ≡ f.root at → ⊥) → Renews f k m
   pub still : (m : ℕ) → f.stands m ≡ true → k.stands m ≡ true → InPlace f k m
-  pub touched : LoadsTouched f k size size
+  pub touched : LoadsIn f k at size size
   pub room : f.room + k.copies at ≤ k.room + 62
   pub room_falls : k.room ≤ f.room
   pub spare : k.spare ≡ f.spare
@@ -48,7 +48,7 @@ readied_here f at size sound stands copies = record {
   tree = λ m st root out. Keeps-refl f m st;
   above = λ m st root. Keeps-Renews f f m (Keeps-refl f m st);
   still = λ m st _. InPlace-refl f m st;
-  touched = Touched-refl f size size;
+  touched = In-refl f at size size;
   room = omega (arith, copies);
   room_falls = omega arith;
   spare = refl;
@@ -106,7 +106,7 @@ cuts_front f k g at size count last last' mid keeps leaves past before = record 
       let first = mid.above m st root in
       Renews-trans f k g m first (keeps.above m first.place.stands (λ e. root (sym first.place.root ∙ e ∙ mid.place.root)));
   still = λ m st st'. InPlace-trans f k g m (mid.still m st (keeps.none_new m st')) (keeps.still m st');
-  touched = Touched-on f k g size size (λ m was st. keeps.still m st) mid.touched (record { only = λ m st. inl (keeps.none_new m st) });
+  touched = In-on f k g at at size size mid.place.root (λ m was st. keeps.still m st) mid.touched (none_in k g at size size keeps.none_new);
   room = omega (arith, mid.room, keeps.room);
   room_falls = omega (arith, mid.room_falls, keeps.room);
   spare = keeps.spare ∙ mid.spare;
@@ -375,7 +375,7 @@ under_refl f at sound = record { walks = Walks-refl f sound; keeps = λ m st out
 
 -- At a root, where nothing is below the size: all its references go
 
-pub root_ready : (f k : Forest) (at size : ℕ) → IsSound f → f.stands at ≡ true → f.root at ≡ at → WalksUnder f k at → LoadsTouched f k size size → Readied f k at size
+pub root_ready : (f k : Forest) (at size : ℕ) → IsSound f → f.stands at ≡ true → f.root at ≡ at → WalksUnder f k at → LoadsIn f k at size size → Readied f k at size
 root_ready f k at size sound stands top under touched = (let walks = under.walks in let copies = walks.copies at stands in let zero_is = (sound.node at stands).top top in let room = walks.room in record {
   sound = walks.sound;
   fixed = walks.fixed;
@@ -389,5 +389,5 @@ root_ready f k at size sound stands top under touched = (let walks = under.walks
   spare = walks.spare;
 })
 
-pub root_cut : (f k g : Forest) (at size : ℕ) (last : Option Ref) → IsSound f → f.stands at ≡ true → f.root at ≡ at → WalksUnder f k at → LoadsTouched f k size size → ((l : List Ref) → LeavesOf f at l → cut_to size last l ≡ []) → ((key : ℕ) (o : Option Ref) → key < size → Reaches f key at o → o ≡ None) → KeepsFront k g at 0 None → Cuts f g at size last
+pub root_cut : (f k g : Forest) (at size : ℕ) (last : Option Ref) → IsSound f → f.stands at ≡ true → f.root at ≡ at → WalksUnder f k at → LoadsIn f k at size size → ((l : List Ref) → LeavesOf f at l → cut_to size last l ≡ []) → ((key : ℕ) (o : Option Ref) → key < size → Reaches f key at o → o ≡ None) → KeepsFront k g at 0 None → Cuts f g at size last
 root_cut f k g at size last sound stands top under touched none clear keeps = cuts_front f k g at size 0 last None (root_ready f k at size sound stands top under touched) keeps (λ l hl. subst (λ z. HasLeaves k at (take 0 (refs k at)) z) (sym (none l hl)) done) (λ key le. nothing_left k at (take 0 (refs k at)) size last key (λ i r read. absurd (none-some r read))) (λ key o lt reached. subst (λ x. ReachesBy k key at (take 0 (refs k at)) x) (sym (clear key o (let b = block_le size in omega (arith, b, lt)) reached)) (misses (λ i r read. absurd (none-some r read))))

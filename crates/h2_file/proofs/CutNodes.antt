@@ -14,12 +14,12 @@ use Rattle.h2_set.specs.PathLaws.{in_holds}
 use Rattle.h2_set.specs.ChangeLaws.{same_or_not}
 use Rattle.h2_set.specs.SplitLaws.{nested}
 use Rattle.h2_set.specs.RenewLaws.{LikeAt, like_at}
-use Rattle.h2_tree.specs.Changes.{LoadsTouched, WalksUnder, Descends, arrived, onward}
+use Rattle.h2_tree.specs.Changes.{LoadsIn, WalksUnder, Descends, arrived, onward}
 use Rattle.h2_file.specs.declared.cutting.Left.{Left}
 use Rattle.h2_file.specs.declared.cutting.Left.TheVariants.{Nothing, All, Something}
 use Rattle.h2_file.specs.Cutting.{cut_block, cut_to, front, ReachesBy, misses, arrives, leads, IsChanged, KeepsFront, Shortens, Cuts, CutsNodes, Remains}
 use Rattle.h2_file.specs.Sizing.{Sizes}
-use Rattle.h2_file.proofs.Answering.{Touched-on}
+use Rattle.h2_file.proofs.Answering.{In-on}
 use Rattle.h2_file.proofs.Parts.{taken_at}
 use Rattle.h2_file.proofs.Fronts.{front_length}
 use Rattle.h2_file.proofs.CutLevels.{Readied, FrontLeft, cuts_front, root_ready}
@@ -68,7 +68,7 @@ ends_below rs count size r read_r in_r past i x read ends =
 
 -- Where the node itself is cut, or all goes at a root
 
-pub nodes_here : (f k g : Forest) (at size count : ℕ) (last last' : Option Ref) → Walks f k → LoadsTouched f k size size → k.stands at ≡ true → KeepsFront k g at count last' → (k.root at ≡ at) ⊎ IsChanged (refs k at) count last' → ((q : Ref) → last' ≡ Some q → last ≡ Some q) → ((i : ℕ) (x : Ref) → slice_get (refs k at) i ≡ Some x → limit x ≤ size → i < count) → CutsNodes f g at size last
+pub nodes_here : (f k g : Forest) (at size count : ℕ) (last last' : Option Ref) → Walks f k → LoadsIn f k at size size → k.stands at ≡ true → KeepsFront k g at count last' → (k.root at ≡ at) ⊎ IsChanged (refs k at) count last' → ((q : Ref) → last' ≡ Some q → last ≡ Some q) → ((i : ℕ) (x : Ref) → slice_get (refs k at) i ≡ Some x → limit x ≤ size → i < count) → CutsNodes f g at size last
 nodes_here f k g at size count last last' walks touched stands keeps changes given stay = record {
   walked = k;
   walks = walks;
@@ -105,7 +105,7 @@ nodes_here f k g at size count last last' walks touched stands keeps changes giv
 
 -- A node of which the child below one reference was cut, which is left its references up to that one
 
-module _ (f h k g : Forest) (at count c size : ℕ) (last : Option Ref) (r : Ref) (walks : Walks f h) (touched : LoadsTouched f h size size) (stands : h.stands at ≡ true) (pos : 0 < count) (read : slice_get (refs h at) (count - 1) ≡ Some r) (ind : is_indirect r ≡ true) (in_r : holds size r ≡ true) (link : h.link at r.key ≡ loaded c) (nodes : CutsNodes h k c size last) (at_k : Keeps h k at) (sound_k : IsSound k) (copies_k : k.copies at ≡ 0) (keeps : KeepsFront k g at count None) (stay : (i : ℕ) (x : Ref) → slice_get (refs h at) i ≡ Some x → limit x ≤ size → i < count) where
+module _ (f h k g : Forest) (at count c size : ℕ) (last : Option Ref) (r : Ref) (walks : Walks f h) (touched : LoadsIn f h at size size) (stands : h.stands at ≡ true) (root_h : h.root at ≡ f.root at) (pos : 0 < count) (read : slice_get (refs h at) (count - 1) ≡ Some r) (ind : is_indirect r ≡ true) (in_r : holds size r ≡ true) (link : h.link at r.key ≡ loaded c) (nodes : CutsNodes h k c size last) (at_k : Keeps h k at) (sound_k : IsSound k) (copies_k : k.copies at ≡ 0) (keeps : KeepsFront k g at count None) (stay : (i : ℕ) (x : Ref) → slice_get (refs h at) i ≡ Some x → limit x ≤ size → i < count) where
   abbrev t : Forest
   t = nodes.walked
 
@@ -252,7 +252,7 @@ module _ (f h k g : Forest) (at count c size : ℕ) (last : Option Ref) (r : Ref
   nodes_over = record {
     walked = t;
     walks = Walks-trans f h t walks nodes.walks;
-    touched = Touched-on f h t size size (λ m st st'. (nodes.walks.stays m st).place) touched nodes.touched;
+    touched = In-on f h t at c size size (((walks.sound.node at stands).child r.key c link).root ∙ root_h) (λ m st st'. (nodes.walks.stays m st).place) touched nodes.touched;
     node = nodes.node;
     stands = nodes.stands;
     way = onward {c = c} {r = r} (count - 1) read_t in_r ind link_t nodes.way;
@@ -334,7 +334,7 @@ root_kept f k g at size count last sound stands top cuts under whole keeps =
     let all : refs k at ≡ take count (refs k at) = sym (take_all count (refs k at) (omega (arith, whole))) in
     cuts_front f k g at size count last None (root_ready f k at size sound stands top under cuts.touched) keeps (λ l hl. subst (λ rs. HasLeaves k at rs (cut_to size last l)) all (cuts.leaves l hl)) (λ key le. let it = cuts.past key le in record { found = it.found; path = subst (λ rs. ReachesBy k key at rs it.found) all (by_path it.path); left = it.left }) (λ key o lt reached. subst (λ rs. ReachesBy k key at rs o) all (by_path (cuts.before key o lt reached)))
 
-pub root_nodes : (f k g : Forest) (at size count : ℕ) (last : Option Ref) → f.stands at ≡ true → f.root at ≡ at → WalksUnder f k at → LoadsTouched f k size size → KeepsFront k g at count None → ((i : ℕ) (x : Ref) → slice_get (refs k at) i ≡ Some x → limit x ≤ size → i < count) → CutsNodes f g at size last
+pub root_nodes : (f k g : Forest) (at size count : ℕ) (last : Option Ref) → f.stands at ≡ true → f.root at ≡ at → WalksUnder f k at → LoadsIn f k at size size → KeepsFront k g at count None → ((i : ℕ) (x : Ref) → slice_get (refs k at) i ≡ Some x → limit x ≤ size → i < count) → CutsNodes f g at size last
 root_nodes f k g at size count last stands top under touched keeps stay = let place = (under.walks.stays at stands).place in nodes_here f k g at size count last None under.walks touched place.stands keeps (inl (place.root ∙ top)) (none_given last) stay
 
 -- A file that is given its size after that

@@ -8,7 +8,7 @@ use Rattle.std.proofs.lemmas.List.{append-nil, append_assoc, map-append}
 use Rattle.std.proofs.lemmas.List.Elements.{filter-append}
 use Rattle.h2_ref.specs.declared.reference.Ref.{Ref}
 use Rattle.h2_set.specs.Ranges.{Rising, limit, IsAligned}
-use Rattle.h2_set.specs.Forest.{Forest, HasLeaves, done, one, near, far}
+use Rattle.h2_set.specs.Forest.{Forest, Alike, HasLeaves, done, one, near, far}
 use Rattle.h2_set.specs.LeafLaws.{Rising-le, place_above}
 use Rattle.h2_set.specs.ChangeLaws.{multiple_add, lower_power, same_or_not}
 use Rattle.h2_set.specs.RefSet.{RefSet, IsRefSet}
@@ -173,6 +173,13 @@ pub Rising-take : (low high n : ℕ) (rs : List Ref) → Rising low high rs → 
 Rising-take low high zero rs h = Rising-le low high rs h
 Rising-take low high (suc n) [] h = h
 Rising-take low high (suc n) (x ∷ rs) h = (h.0, Rising-take (limit x) high n rs h.1)
+
+pub Alike-take : (n : ℕ) (rs qs : List Ref) → Alike rs qs → Alike (take n rs) (take n qs)
+Alike-take zero rs qs a = tt
+Alike-take (suc n) [] [] a = tt
+Alike-take (suc n) [] (q ∷ qs) a = absurd a
+Alike-take (suc n) (r ∷ rs) [] a = absurd a
+Alike-take (suc n) (r ∷ rs) (q ∷ qs) a = (a.0, Alike-take n rs qs a.1)
 
 -- one that stands before another ends before it
 pub in_order : (low high : ℕ) (rs : List Ref) (i j : ℕ) (x y : Ref) → Rising low high rs → slice_get rs i ≡ Some x → slice_get rs j ≡ Some y → i < j → limit x ≤ y.key

@@ -5,7 +5,7 @@ use Rattle.h2_ref.specs.declared.reference.Kind.TheVariants.{Content}
 use Rattle.h2_set.specs.Ranges.{limit, holds, NoneHolds, IsAligned, is_indirect}
 use Rattle.h2_set.specs.SetBytes.{IsHeld}
 use Rattle.h2_set.specs.Forest.{Forest, refs, loaded, IsSound, HasLeaves, LeavesOf, Fixed, InPlace, Keeps, Renews, Reaches, Walks, OnWay, IsAbove}
-use Rattle.h2_tree.specs.Changes.{Under, LoadsTouched, WalksUnder, Descends}
+use Rattle.h2_tree.specs.Changes.{Under, LoadsIn, WalksUnder, Descends}
 use Rattle.h2_file.specs.declared.cutting.Left.{Left}
 use Rattle.h2_file.specs.declared.cutting.Left.TheVariants.{Nothing, All, Something}
 
@@ -115,8 +115,8 @@ pub record Cuts (f g : Forest) (at size : ℕ) (last : Option Ref) : Type 0 wher
   pub above : (m : ℕ) → f.stands m ≡ true → (f.root m ≡ f.root at → ⊥) → Renews f g m
   -- what stands before and after stands where it stood
   pub still : (m : ℕ) → f.stands m ≡ true → g.stands m ≡ true → InPlace f g m
-  -- no node off the path of the size was loaded
-  pub touched : LoadsTouched f g size size
+  -- no node off the path of the size was loaded, and none of another tree
+  pub touched : LoadsIn f g at size size
   pub room : f.room ≤ g.room + 62
   pub room_falls : g.room ≤ f.room
   pub spare : g.spare ≡ f.spare
@@ -128,8 +128,8 @@ pub record CutsNodes (f g : Forest) (at size : ℕ) (last : Option Ref) : Type 0
   -- after the loads
   pub walked : Forest
   pub walks : Walks f walked
-  -- no node off the path of the size was loaded
-  pub touched : LoadsTouched f walked size size
+  -- no node off the path of the size was loaded, and none of another tree
+  pub touched : LoadsIn f walked at size size
   pub node : ℕ
   pub stands : walked.stands node ≡ true
   pub way : Descends walked size at node
@@ -155,7 +155,7 @@ pub record CutsNodes (f g : Forest) (at size : ℕ) (last : Option Ref) : Type 0
 -- What a cut leaves of the tree below a node: the references below the size, which may be all, or, where there is none,
 -- all as it was. Only where some go or one is replaced has anything changed.
 abbrev pub Remains : Forest → Forest → ℕ → ℕ → Option Ref → Left → Type 0
-Remains f g at size last Nothing = WalksUnder f g at × LoadsTouched f g size size × ((l : List Ref) → LeavesOf f at l → cut_to size last l ≡ []) × ((key : ℕ) (o : Option Ref) → key < size → Reaches f key at o → o ≡ None) × ((i : ℕ) (r : Ref) → slice_get (refs f at) i ≡ Some r → limit r ≤ size → ⊥)
+Remains f g at size last Nothing = WalksUnder f g at × LoadsIn f g at size size × ((l : List Ref) → LeavesOf f at l → cut_to size last l ≡ []) × ((key : ℕ) (o : Option Ref) → key < size → Reaches f key at o → o ≡ None) × ((i : ℕ) (r : Ref) → slice_get (refs f at) i ≡ Some r → limit r ≤ size → ⊥)
 Remains f g at size last All = Cuts f g at size last × WalksUnder f g at
 Remains f g at size last Something = Cuts f g at size last × CutsNodes f g at size last
 
@@ -174,8 +174,8 @@ pub record CutsFile (f g : Forest) (at size : ℕ) (last : Option Ref) : Type 0 
   pub nodes : CutsNodes f g at size last
   pub others : (m : ℕ) → f.stands m ≡ true → (f.root m ≡ at → ⊥) → Renews f g m
   pub still : (m : ℕ) → f.stands m ≡ true → g.stands m ≡ true → InPlace f g m
-  -- no node off the path of the size was loaded
-  pub touched : LoadsTouched f g size size
+  -- no node off the path of the size was loaded, and none of another tree
+  pub touched : LoadsIn f g at size size
   pub leaf_bits : (m : ℕ) → f.stands m ≡ true → g.stands m ≡ true → g.leaf_bits m ≡ f.leaf_bits m
   pub allows : (m : ℕ) (r : Ref) → f.stands m ≡ true → g.stands m ≡ true → g.allows m r ≡ f.allows m r
   pub held : (m : ℕ) → g.held m ≡ f.held m

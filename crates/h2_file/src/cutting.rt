@@ -4,7 +4,7 @@ ghost use Rattle.h2_ref.specs.declared.reference.Kind.{Kind};
 ghost use Rattle.h2_set.specs.Ranges.{is_indirect, limit};
 ghost use Rattle.h2_set.specs.RefSet.{RefSet};
 ghost use Rattle.h2_set.specs.Forest.{Forest, refs, IsSound, Walks, HasCause, LeavesOf, HasLeaves, KeepsBeside};
-ghost use Rattle.h2_tree.specs.Changes.{LoadsTouched, PathUnloaded, WalksUnder};
+ghost use Rattle.h2_tree.specs.Changes.{LoadsIn, PathUnloaded, WalksUnder};
 ghost use Rattle.h2_inode.specs.Nodes.{held_by, KeepsOthersBeside};
 ghost use Rattle.h2_num.specs.Places.{Places};
 ghost use Rattle.h2_contents.specs.Bytes.{cut_to as bytes_to};
@@ -134,7 +134,7 @@ fn cut_below<N: Sets>(
     ensures left { IfOk result (Remains (N.forest n.old) (N.forest n.new) at.0 size last) }
     ensures walks { OnErr result (Walks (N.forest n.old) (N.forest n.new)) }
     ensures err { IfErr result (HasCause (N.forest n.old) (N.forest n.new)) }
-    ensures touched { OnErr result (LoadsTouched (N.forest n.old) (N.forest n.new) size size) }
+    ensures touched { OnErr result (LoadsIn (N.forest n.old) (N.forest n.new) at.0 size size) }
     ensures unloaded { OnErr result (PathUnloaded (N.forest n.old) at.0 size) }
     ensures beside { KeepsBeside (N.forest n.old) (N.forest n.new) (N.beside n.old) (N.beside n.new) }
     ensures later { N.later n.old n.new }
@@ -183,7 +183,7 @@ fn cut_tree<N: Sets>(
     ensures nodes { OnOk result (CutsNodes (N.forest n.old) (N.forest n.new) root.0 size last) }
     ensures walks { OnErr result (Walks (N.forest n.old) (N.forest n.new)) }
     ensures err { IfErr result (HasCause (N.forest n.old) (N.forest n.new)) }
-    ensures touched { OnErr result (LoadsTouched (N.forest n.old) (N.forest n.new) size size) }
+    ensures touched { OnErr result (LoadsIn (N.forest n.old) (N.forest n.new) root.0 size size) }
     ensures unloaded { OnErr result (PathUnloaded (N.forest n.old) root.0 size) }
     ensures beside { KeepsBeside (N.forest n.old) (N.forest n.new) (N.beside n.old) (N.beside n.new) }
     ensures later { N.later n.old n.new }
@@ -224,7 +224,7 @@ pub fn cut_blocks<N: Nodes>(
     ensures inode { OnOk result ((file : IsFileOfRefs (N.forest n.old) (held_by N.fields (N.beside n.old)) inode.0) → HasResized (N.forest n.new) (held_by N.fields (N.beside n.new)) inode.0 file.inode size) }
     ensures walks { OnErr result (Walks (N.forest n.old) (N.forest n.new)) }
     ensures err { IfErr result (HasCause (N.forest n.old) (N.forest n.new)) }
-    ensures touched { OnErr result (LoadsTouched (N.forest n.old) (N.forest n.new) size size) }
+    ensures touched { OnErr result (LoadsIn (N.forest n.old) (N.forest n.new) inode.0 size size) }
     ensures unloaded { OnErr result (PathUnloaded (N.forest n.old) inode.0 size) }
     ensures beside { KeepsOthersBeside (N.forest n.old) (N.forest n.new) inode.0 (N.beside n.old) (N.beside n.new) }
     ensures same { OnErr result (KeepsBeside (N.forest n.old) (N.forest n.new) (N.beside n.old) (N.beside n.new)) }

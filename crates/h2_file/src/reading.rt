@@ -2,7 +2,7 @@ ghost use Rattle.std.specs.Prelude.{◌≡◌, ℕ, true, List, Option, IfOk, If
 ghost use Rattle.h2_ref.specs.declared.reference.Ref.{Ref};
 ghost use Rattle.h2_set.specs.Ranges.{find};
 ghost use Rattle.h2_set.specs.Forest.{IsSound, Walks, HasCause, LeavesOf, Reaches, KeepsBeside};
-ghost use Rattle.h2_tree.specs.Changes.{LoadsTouched, LoadsIn, PathUnloaded};
+ghost use Rattle.h2_tree.specs.Changes.{LoadsIn, PathUnloaded};
 ghost use Rattle.h2_inode.specs.Nodes.{held_by};
 ghost use Rattle.h2_file.specs.Blocks.{IsFileOfRefs};
 ghost use Rattle.h2_file.specs.FileContents.{FileHas, IsBlockOf};
@@ -29,8 +29,7 @@ pub fn read_block<N: Nodes>(
     ensures contents { (blocks : Ref → Option Places) (size : ℕ) (bytes : List ℕ) → FileHas (N.forest n.old) (held_by N.fields (N.beside n.old)) (N.told n.old) blocks inode.0 size bytes → IfOk result (IsBlockOf (N.forest n.old) (held_by N.fields (N.beside n.old)) (N.told n.old) blocks inode.0 size bytes start) }
     ensures path { IfOk result (Reaches (N.forest n.new) start inode.0) }
     ensures walks { Walks (N.forest n.old) (N.forest n.new) }
-    ensures touched { LoadsTouched (N.forest n.old) (N.forest n.new) start start }
-    ensures tree { LoadsIn (N.forest n.old) (N.forest n.new) inode.0 start start }
+    ensures touched { LoadsIn (N.forest n.old) (N.forest n.new) inode.0 start start }
     ensures err { IfErr result (HasCause (N.forest n.old) (N.forest n.new)) }
     ensures unloaded { OnErr result (PathUnloaded (N.forest n.old) inode.0 start) }
     ensures beside { KeepsBeside (N.forest n.old) (N.forest n.new) (N.beside n.old) (N.beside n.new) }

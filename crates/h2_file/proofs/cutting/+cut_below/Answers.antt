@@ -7,11 +7,11 @@ use Rattle.h2_set.specs.Forest.{refs}
 use Rattle.h2_set.specs.StayLaws.{Walks-trans}
 use Rattle.h2_file.specs.Cutting.{Cuts, CutsNodes, Remains}
 use Rattle.h2_file.specs.declared.cutting.Left.TheVariants.{Nothing, All, Something}
-use Rattle.h2_file.proofs.Answering.{always_err, beside_over, Touched-refl, Touched-on}
+use Rattle.h2_file.proofs.Answering.{always_err, beside_over, In-refl, In-on}
 use Rattle.h2_file.proofs.Fronts.{contents_keep}
 use Rattle.h2_file.proofs.Parts.{all_past}
 use Rattle.h2_file.proofs.CutLevels.{readied_here, under_refl, cuts_front, ends_here, past_here, ends_in, past_in, last_fits, before_here, before_in, clear_here}
-use Rattle.h2_file.proofs.CutChild.{kept, none_to_copy, load_touched, unloaded_child, child_stands, child_fewer, child_room, child_contents, unloaded_below, ready_cut, stands_cut, copies_cut, length_cut, ready_none, under_none, touched_none, leaves_cut, past_cut, leaves_front, past_front, leaves_none, before_cut, before_front, clear_none}
+use Rattle.h2_file.proofs.CutChild.{child_root, kept, none_to_copy, load_touched, unloaded_child, child_stands, child_fewer, child_room, child_contents, unloaded_below, ready_cut, stands_cut, copies_cut, length_cut, ready_none, under_none, touched_none, leaves_cut, past_cut, leaves_front, past_front, leaves_none, before_cut, before_front, clear_none}
 use Rattle.h2_file.proofs.CutNodes.{ends_before, ends_below, cut_short, nodes_here, nodes_over, none_given, short_none_new}
 use Rattle.h2_file.proofs.cutting.+cut_below.Goals as goal
 
@@ -19,7 +19,7 @@ pub returns-then-count-eq0-clause-left : goal.returns-then-count-eq0-clause-left
 returns-then-count-eq0-clause-left g t c =
     let f = g.N.Sets.forest c.args.n.now in
     let none = c.if-count-eq0.true in
-    (under_refl f c.args.at.0 c.requires.sound, Touched-refl _ _ _, λ l hl. all_past c.args.size c.args.last hl (λ i r read. rw c.get-set.ensures at c.count_below-count.ensures.past i r read (omega (arith, none))), λ key o lt reached. clear_here c.args.size reached (λ i r read. rw c.get-set.ensures at c.count_below-count.ensures.past i r read (omega (arith, none))) lt, λ i r read ends. let a : c.args.size ≤ r.key = (rw c.get-set.ensures at c.count_below-count.ensures.past i r read (omega (arith, none))) in let some = pow_pos r.keybits in omega (arith, a, some, ends))
+    (under_refl f c.args.at.0 c.requires.sound, In-refl _ _ _ _, λ l hl. all_past c.args.size c.args.last hl (λ i r read. rw c.get-set.ensures at c.count_below-count.ensures.past i r read (omega (arith, none))), λ key o lt reached. clear_here c.args.size reached (λ i r read. rw c.get-set.ensures at c.count_below-count.ensures.past i r read (omega (arith, none))) lt, λ i r read ends. let a : c.args.size ≤ r.key = (rw c.get-set.ensures at c.count_below-count.ensures.past i r read (omega (arith, none))) in let some = pow_pos r.keybits in omega (arith, a, some, ends))
 
 pub returns-then-not-holds-clause-left : goal.returns-then-not-holds-clause-left
 returns-then-not-holds-clause-left g t c =
@@ -111,7 +111,7 @@ returns-in_err-cut_below-clause-touched g t c =
     let in_r : holds c.args.size c.at.result.now ≡ true = sym c.holds.ensures ∙ c.if-not-holds.false in
     let ind : is_indirect c.at.result.now ≡ true = sym c.is_indirect.ensures ∙ c.if-not-is_indirect.false in
     let child = c.in_ok-child.ensures in
-    always_err c.from_residual-in_err-cut_below.result (Touched-on _ _ _ _ _ (λ m st st'. (c.in_err-cut_below.ensures.walks.stays m st).place) (load_touched _ _ c.args.at.0 (count - 1) c.args.size c.at.result.now c.requires.sound c.requires.stands read ind in_r child.walks (child.loads _ read)) c.in_err-cut_below.ensures.touched)
+    always_err c.from_residual-in_err-cut_below.result (In-on _ _ _ _ _ _ _ (child_root _ _ c.args.at.0 (count - 1) c.args.size c.at.result.now c.requires.sound c.requires.stands read ind in_r child.walks (child.loads _ read) c.in_ok-child.child.0 (child.ok _ read)) (λ m st st'. (c.in_err-cut_below.ensures.walks.stays m st).place) (load_touched _ _ c.args.at.0 (count - 1) c.args.size c.at.result.now c.requires.sound c.requires.stands read ind in_r child.walks (child.loads _ read)) c.in_err-cut_below.ensures.touched)
 
 pub returns-in_err-cut_below-clause-unloaded : goal.returns-in_err-cut_below-clause-unloaded
 returns-in_err-cut_below-clause-unloaded g t c =
@@ -264,7 +264,7 @@ returns-in-Something-clause-left g t c =
     let child = c.in_ok-child.ensures in
     let left : Remains (g.N.Sets.forest c.child.new.self) (g.N.Sets.forest c.cut_below.new.n) c.in_ok-child.child.0 c.args.size c.args.last Something = subst (λ t. Remains (g.N.Sets.forest c.child.new.self) (g.N.Sets.forest c.cut_below.new.n) c.in_ok-child.child.0 c.args.size c.args.last t) c.in-Something.is c.in_ok-cut_below.ensures.left in
     let over : Cuts f (g.N.Sets.forest c.keep_front.new.n) c.args.at.0 c.args.size c.args.last = cuts_front _ _ _ _ _ _ _ _ (ready_cut _ _ c.args.at.0 (count - 1) c.args.size c.at.result.now c.requires.sound c.requires.stands read ind in_r child.walks (child.loads _ read) c.in_ok-child.child.0 (child.ok _ read) _ _ left.0 left.1.copies) c.keep_front.ensures.kept (leaves_cut _ _ c.args.at.0 count c.args.size c.args.last c.at.result.now c.requires.sound c.requires.stands c.requires.last c.requires.contents pos read low past ind in_r child.walks (child.loads _ read) c.in_ok-child.child.0 (child.ok _ read) _ left.0) (past_cut _ _ c.args.at.0 count c.args.size c.args.last c.at.result.now c.requires.sound c.requires.stands c.requires.last c.requires.contents pos read low past ind in_r child.walks (child.loads _ read) c.in_ok-child.child.0 (child.ok _ read) _ left.0) (before_cut _ _ c.args.at.0 count c.args.size c.args.last c.at.result.now c.requires.sound c.requires.stands c.requires.last c.requires.contents pos read low past ind in_r child.walks (child.loads _ read) c.in_ok-child.child.0 (child.ok _ read) _ left.0) in
-    let nodes : CutsNodes f (g.N.Sets.forest c.keep_front.new.n) c.args.at.0 c.args.size c.args.last = nodes_over _ _ _ _ c.args.at.0 count c.in_ok-child.child.0 c.args.size c.args.last c.at.result.now child.walks (load_touched _ _ c.args.at.0 (count - 1) c.args.size c.at.result.now c.requires.sound c.requires.stands read ind in_r child.walks (child.loads _ read)) (child.walks.stays c.args.at.0 c.requires.stands).place.stands pos (ap (λ (s : RefSet). slice_get s.refs (count - 1)) (child.walks.sets c.args.at.0 c.requires.stands) ∙ read) ind in_r (child.ok _ read) left.1 (kept _ _ c.args.at.0 (count - 1) c.args.size c.at.result.now c.requires.sound c.requires.stands read ind in_r child.walks (child.loads _ read) c.in_ok-child.child.0 (child.ok _ read) _ _ left.0) left.0.sound (none_to_copy _ _ c.args.at.0 (count - 1) c.args.size c.at.result.now c.requires.sound c.requires.stands read ind in_r child.walks (child.loads _ read) c.in_ok-child.child.0 (child.ok _ read) _ _ left.0 left.1.copies) c.keep_front.ensures.kept (λ i x read'. ends_before (refs f c.args.at.0) count c.args.size past i x (ap (λ (s : RefSet). slice_get s.refs i) (sym (child.walks.sets c.args.at.0 c.requires.stands)) ∙ read')) in
+    let nodes : CutsNodes f (g.N.Sets.forest c.keep_front.new.n) c.args.at.0 c.args.size c.args.last = nodes_over _ _ _ _ c.args.at.0 count c.in_ok-child.child.0 c.args.size c.args.last c.at.result.now child.walks (load_touched _ _ c.args.at.0 (count - 1) c.args.size c.at.result.now c.requires.sound c.requires.stands read ind in_r child.walks (child.loads _ read)) (child.walks.stays c.args.at.0 c.requires.stands).place.stands (child.walks.stays c.args.at.0 c.requires.stands).place.root pos (ap (λ (s : RefSet). slice_get s.refs (count - 1)) (child.walks.sets c.args.at.0 c.requires.stands) ∙ read) ind in_r (child.ok _ read) left.1 (kept _ _ c.args.at.0 (count - 1) c.args.size c.at.result.now c.requires.sound c.requires.stands read ind in_r child.walks (child.loads _ read) c.in_ok-child.child.0 (child.ok _ read) _ _ left.0) left.0.sound (none_to_copy _ _ c.args.at.0 (count - 1) c.args.size c.at.result.now c.requires.sound c.requires.stands read ind in_r child.walks (child.loads _ read) c.in_ok-child.child.0 (child.ok _ read) _ _ left.0 left.1.copies) c.keep_front.ensures.kept (λ i x read'. ends_before (refs f c.args.at.0) count c.args.size past i x (ap (λ (s : RefSet). slice_get s.refs i) (sym (child.walks.sets c.args.at.0 c.requires.stands)) ∙ read')) in
     (over, nodes)
 
 pub returns-in-Something-clause-beside : goal.returns-in-Something-clause-beside
