@@ -34,6 +34,7 @@ pub record AddsRoot (f g : Forest) (c : ℕ) (keys : KeyClass) (leaf_bits : ℕ)
   pub room : g.room ≡ f.room
   pub failed : g.failed ≡ f.failed
   pub bad : g.bad ≡ f.bad
+  pub met : g.met ≡ f.met
 
 -- the next epoch has begun, in which no node is writable, and nothing else has changed
 pub record BeginsEpoch (f g : Forest) : Type 0 where
@@ -55,6 +56,7 @@ pub record BeginsEpoch (f g : Forest) : Type 0 where
   pub room : g.room ≡ f.room
   pub failed : g.failed ≡ f.failed
   pub bad : g.bad ≡ f.bad
+  pub met : g.met ≡ f.met
 
 -- nothing has changed but that no node is loaded to which a reference with a key of `from` or more leads
 pub record Unloads (f g : Forest) (from : ℕ) : Type 0 where
@@ -72,3 +74,4 @@ pub record Unloads (f g : Forest) (from : ℕ) : Type 0 where
   pub room : g.room ≡ f.room
   pub failed : g.failed ≡ f.failed
   pub bad : g.bad ≡ f.bad
+  pub met : g.met ≡ f.met

@@ -6,7 +6,7 @@ use Rattle.h2_memory_sets.specs.View.{Block, block, forest_with}
 
 -- the forest that the value is seen as
 abbrev pub forest_of : MemorySets → Forest
-forest_of p = forest_with p.nodes.items p.spare p.epoch p.room p.failed p.bad
+forest_of p = forest_with p.nodes.items p.spare p.epoch p.room p.failed p.bad p.met
 
 -- the blocks of all nodes, loaded or not
 abbrev pub blocks_of : MemorySets → List Block

@@ -34,6 +34,8 @@ pub struct MemorySets {
     /// Faults of the disk, and bad blocks that were met.
     pub(crate) failed: u64,
     pub(crate) bad: u64,
+    /// Where the last bad block lies that was met, and what is wrong with it.
+    pub(crate) met: Option<(u64, Why)>,
     ghost small: { length nodes.items + spare < 2 ^ 32 },
     ghost roomy: { vec_len nodes + spare ≤ vec_capacity nodes },
     ghost rooted: { AllRooted nodes.items },
@@ -64,6 +66,7 @@ impl MemorySets {
             refused: 0,
             failed: 0,
             bad: 0,
+            met: None,
         }
     }
 
@@ -201,6 +204,7 @@ impl Sets for MemorySets {
         }
         let Some(c) = find_unspoiled(&self.nodes, at.0, &r, &mut self.spoiled) else {
             self.bad = one_more(self.bad);
+            self.met = Some((r.place, Why::Shape));
             return Err(Trouble::Bad {
                 place: r.place,
                 why: Why::Shape,
@@ -266,6 +270,7 @@ impl Sets for MemorySets {
             Ok(Some(name)) => Ok(name),
             Ok(None) => {
                 self.bad = one_more(self.bad);
+                self.met = Some((r.place, Why::Name));
                 Err(Trouble::Bad {
                     place: r.place,
                     why: Why::Name,
