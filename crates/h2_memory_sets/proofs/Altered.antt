@@ -3,6 +3,7 @@ use Rattle.std.proofs.Common.{◌≡◌, ℕ, ◌+◌, ◌<◌, ◌^◌, Bool, t
 use Rattle.std.specs.Prelude.{map, not}
 use Rattle.std.proofs.Math.Seq.{take-append_seam}
 use Rattle.std.proofs.lemmas.Nat.{pow_pos}
+use Rattle.h2_ref.specs.declared.faults.Why.{Why}
 use Rattle.h2_set.specs.RefSet.{RefSet}
 use Rattle.h2_set.specs.Forest.{Forest, refs, IsSound, Alike, Keeps, Alters, IsAbove, itself, by, inside, across}
 use Rattle.h2_set.specs.ChangeLaws.{same_or_not}
@@ -15,6 +16,7 @@ use Rattle.h2_memory_sets.specs.View.{stands_of, set_of, root_of, low_of, bits_o
 use Rattle.h2_memory_sets.specs.Roots.{BeginsEpoch}
 use Rattle.h2_memory_sets.proofs.Counting.{count_none}
 use Rattle.h2_memory_sets.proofs.Nesting.{in_holds, meet, one_range, leads_to}
+use Rattle.h2_memory_sets.proofs.Parting.{one_of}
 use Rattle.h2_memory_sets.proofs.Recounting.{Above, field, link_same, node_at, above_is, is_above_of, is_writable, counted, root_above, still}
 use Rattle.h2_memory_sets.proofs.Rooted.{map_field}
 use Rattle.h2_memory_sets.proofs.Storing.{tested}
@@ -39,9 +41,9 @@ shut true false b true = refl
 shut true false true false = refl
 shut true false false false = refl
 
-module _ (xs : List Node) (at : ℕ) (x : Node) (read : slice_get xs at ≡ Some x) (spare epoch room room' failed bad : ℕ) (sound : IsSound (forest_with xs spare epoch room failed bad)) (stands : stands_of (slice_get xs at) ≡ true) (room_is : room' + copies_of (slice_get xs at) ≡ room) where
+module _ (xs : List Node) (at : ℕ) (x : Node) (read : slice_get xs at ≡ Some x) (spare epoch room room' failed bad : ℕ) (met : Option (ℕ × Why)) (sound : IsSound (forest_with xs spare epoch room failed bad met)) (stands : stands_of (slice_get xs at) ≡ true) (room_is : room' + copies_of (slice_get xs at) ≡ room) where
   abbrev f : Forest
-  f = forest_with xs spare epoch room failed bad
+  f = forest_with xs spare epoch room failed bad met
 
   abbrev new : Node → Bool
   new = λ u. u.dirty || is_above (place_of x) u
@@ -50,10 +52,10 @@ module _ (xs : List Node) (at : ℕ) (x : Node) (read : slice_get xs at ≡ Some
   ys = recounted_all (marked_all (place_of x) xs)
 
   abbrev g : Forest
-  g = forest_with ys spare epoch room' failed bad
+  g = forest_with ys spare epoch room' failed bad met
 
   same : {X : Type 0} (F : Option Node → X) → ((b : Bool) (u : Node) → F (Some (with_dirty b u)) ≡ F (Some u)) → ((n : ℕ) (u : Node) → F (Some (with_copies n u)) ≡ F (Some u)) → (m : ℕ) → F (slice_get ys m) ≡ F (slice_get xs m)
-  same F a b m = field xs new spare epoch room failed bad sound F a b m
+  same F a b m = field xs new spare epoch room failed bad met sound F a b m
 
   stands_same : (m : ℕ) → stands_of (slice_get ys m) ≡ stands_of (slice_get xs m)
   stands_same = same stands_of (λ b u. refl) (λ n u. refl)
@@ -62,10 +64,10 @@ module _ (xs : List Node) (at : ℕ) (x : Node) (read : slice_get xs at ≡ Some
   set_same = same set_of (λ b u. refl) (λ n u. refl)
 
   links : (m k : ℕ) → link_of ys m k ≡ link_of xs m k
-  links = link_same xs new spare epoch room failed bad sound
+  links = link_same xs new spare epoch room failed bad met sound
 
   now_writable : (m : ℕ) (u : Node) → slice_get xs m ≡ Some u → writable_of (slice_get ys m) ≡ new u
-  now_writable = is_writable xs new spare epoch room failed bad sound
+  now_writable = is_writable xs new spare epoch room failed bad met sound
 
   -- what is above is what leads there
   above_of : (m : ℕ) → f.stands m ≡ true → IsAbove f m at → Above f m at
@@ -102,21 +104,21 @@ module _ (xs : List Node) (at : ℕ) (x : Node) (read : slice_get xs at ≡ Some
 
   made : (m : ℕ) → f.stands m ≡ true → Above f m at → g.writable m ≡ true
   made m st a =
-      let u = node_at xs new spare epoch room failed bad sound m st in
-      now_writable m u.0 u.1 ∙ or_right (u.0).dirty (is_above (place_of x) u.0) (is_above_of xs new spare epoch room failed bad sound m at u.0 x u.1 read a)
+      let u = node_at xs new spare epoch room failed bad met sound m st in
+      now_writable m u.0 u.1 ∙ or_right (u.0).dirty (is_above (place_of x) u.0) (is_above_of xs new spare epoch room failed bad met sound m at u.0 x u.1 read a)
 
   others : (m : ℕ) → f.stands m ≡ true → (IsAbove f m at → ⊥) → g.writable m ≡ f.writable m
   others m st off =
-      let u = node_at xs new spare epoch room failed bad sound m st in
+      let u = node_at xs new spare epoch room failed bad met sound m st in
       let miss : is_above (place_of x) u.0 ≡ false = elim (tested (is_above (place_of x) u.0)) as (λ _. is_above (place_of x) u.0 ≡ false) [
-        | inl e ↦ absurd (off (leads_there m st (above_is xs new spare epoch room failed bad sound m at u.0 x u.1 read e)))
+        | inl e ↦ absurd (off (leads_there m st (above_is xs new spare epoch room failed bad met sound m at u.0 x u.1 read e)))
         | inr e ↦ e
       ] in
       now_writable m u.0 u.1 ∙ or_neither (u.0).dirty (is_above (place_of x) u.0) miss ∙ ap writable_of (sym u.1)
 
   keeps : (m : ℕ) → f.stands m ≡ true → Keeps f g m
   keeps m st =
-      let u = node_at xs new spare epoch room failed bad sound m st in
+      let u = node_at xs new spare epoch room failed bad met sound m st in
       record {
         place = record {
           stands = stands_same m ∙ st;
@@ -135,15 +137,17 @@ module _ (xs : List Node) (at : ℕ) (x : Node) (read : slice_get xs at ≡ Some
 
   pub alters : Alters f g at
   alters = record {
-    sound = still xs new spare epoch room failed bad sound spare epoch room' sound.epoch;
-    fixed = record { leaf_bits = same leaf_bits_of (λ b u. refl) (λ n u. refl); allows = λ m r. refl; held = λ m. refl; name = λ r. refl; epoch = refl; failed = omega arith; bad = omega arith };
+    sound = still xs new spare epoch room failed bad met sound spare epoch room' sound.epoch;
+    fixed = record { leaf_bits = λ m st now. same leaf_bits_of (λ b u. refl) (λ n u. refl) m; allows = λ m r st now. refl; held = λ m. refl; name = λ r. refl; epoch = refl; failed = omega arith; bad = omega arith };
     writable = made at stands self;
-    top = made (f.root at) (sound.top at stands).0 (root_above xs new spare epoch room failed bad sound at stands);
+    top = made (f.root at) (sound.top at stands).0 (root_above xs new spare epoch room failed bad met sound at stands);
     made = λ m st a. made m st (above_of m st a);
-    copies = counted xs new spare epoch room failed bad sound at x read ∙ count_none (is_copied (place_of x)) (marked_all (place_of x) xs) (λ i t got. let it = map_item (λ u. with_dirty (new u) u) xs i t got in ap (is_copied (place_of x)) it.1 ∙ shut (it.0).loaded (it.0).dirty _ (is_above (place_of x) it.0));
+    copies = counted xs new spare epoch room failed bad met sound at x read ∙ count_none (is_copied (place_of x)) (marked_all (place_of x) xs) (λ i t got. let it = map_item (λ u. with_dirty (new u) u) xs i t got in ap (is_copied (place_of x)) it.1 ∙ shut (it.0).loaded (it.0).dirty _ (is_above (place_of x) it.0));
     room = room_is;
     exact = λ m i r st got off. ap (λ (t : RefSet). slice_get t.refs i) (set_same m) ∙ got;
     kept = λ m i c r st got link w. ap (λ (t : RefSet). slice_get t.refs i) (set_same m) ∙ got;
+    dated = λ m i r q st got now. inl (one_of q r (sym now ∙ ap (λ (t : RefSet). slice_get t.refs i) (set_same m) ∙ got));
+    still = λ all m st. set_same m;
     others = others;
     tree = λ m st root. keeps m st;
     above = λ m st root. Keeps-Renews f g m (keeps m st);
@@ -154,12 +158,12 @@ module _ (xs : List Node) (at : ℕ) (x : Node) (read : slice_get xs at ≡ Some
     bad = refl;
   }
 
-module _ (xs : List Node) (spare epoch room failed bad : ℕ) (sound : IsSound (forest_with xs spare epoch room failed bad)) (less : epoch < 2 ^ 62) where
+module _ (xs : List Node) (spare epoch room failed bad : ℕ) (met : Option (ℕ × Why)) (sound : IsSound (forest_with xs spare epoch room failed bad met)) (less : epoch < 2 ^ 62) where
   abbrev cs : List Node
   cs = recounted_all (cleaned_all xs)
 
   unchanged : {X : Type 0} (F : Option Node → X) → ((b : Bool) (u : Node) → F (Some (with_dirty b u)) ≡ F (Some u)) → ((n : ℕ) (u : Node) → F (Some (with_copies n u)) ≡ F (Some u)) → (m : ℕ) → F (slice_get cs m) ≡ F (slice_get xs m)
-  unchanged F a b m = field xs (λ u. false) spare epoch room failed bad sound F a b m
+  unchanged F a b m = field xs (λ u. false) spare epoch room failed bad met sound F a b m
 
   none_writable : (zs : List Node) (h : Node → Node) → ((u : Node) → (h u).dirty ≡ false) → (m : ℕ) → writable_of (slice_get (map h zs) m) ≡ false
   none_writable zs h off m = go zs m
@@ -169,9 +173,9 @@ module _ (xs : List Node) (spare epoch room failed bad : ℕ) (sound : IsSound (
       go (u ∷ l) zero = off u
       go (u ∷ l) (suc m) = go l m
 
-  pub begins : BeginsEpoch (forest_with xs spare epoch room failed bad) (forest_with (recounted_all (cleaned_all xs)) spare (epoch + 1) room failed bad)
+  pub begins : BeginsEpoch (forest_with xs spare epoch room failed bad met) (forest_with (recounted_all (cleaned_all xs)) spare (epoch + 1) room failed bad met)
   begins = record {
-    sound = still xs (λ u. false) spare epoch room failed bad sound spare (epoch + 1) room (omega arith, omega (arith, less));
+    sound = still xs (λ u. false) spare epoch room failed bad met sound spare (epoch + 1) room (omega arith, omega (arith, less));
     epoch = refl;
     clean = λ m. clean m;
     stands = unchanged stands_of (λ b u. refl) (λ n u. refl);
@@ -179,7 +183,7 @@ module _ (xs : List Node) (spare epoch room failed bad : ℕ) (sound : IsSound (
     low = unchanged low_of (λ b u. refl) (λ n u. refl);
     bits = unchanged bits_of (λ b u. refl) (λ n u. refl);
     set = unchanged set_of (λ b u. refl) (λ n u. refl);
-    link = link_same xs (λ u. false) spare epoch room failed bad sound;
+    link = link_same xs (λ u. false) spare epoch room failed bad met sound;
     belongs = λ m t k. refl;
     leaf_bits = unchanged leaf_bits_of (λ b u. refl) (λ n u. refl);
     allows = λ m r. refl;
@@ -189,6 +193,7 @@ module _ (xs : List Node) (spare epoch room failed bad : ℕ) (sound : IsSound (
     room = refl;
     failed = refl;
     bad = refl;
+    met = refl;
   }
     where
       clean : (m : ℕ) → writable_of (slice_get (recounted_all (cleaned_all xs)) m) ≡ false

@@ -4,13 +4,14 @@ use Rattle.std.specs.Prelude.{not}
 use Rattle.std.specs.List.{position}
 use Rattle.std.proofs.Math.ListN.{length-set}
 use Rattle.std.proofs.lemmas.Option.{slice_get_within}
+use Rattle.h2_ref.specs.declared.faults.Why.{Why}
 use Rattle.h2_ref.specs.declared.reference.Ref.{Ref}
 use Rattle.h2_set.specs.Ranges.{is_indirect}
-use Rattle.h2_set.specs.Forest.{Link, loaded, untold, Forest, Loads, Walks, IsSound}
+use Rattle.h2_set.specs.Forest.{Link, loaded, told, untold, Forest, Loads, Walks, IsSound}
 use Rattle.h2_set.specs.ChangeLaws.{same_or_not}
 use Rattle.h2_set.specs.StayLaws.{Alike-refl}
 use Rattle.h2_memory_sets.specs.declared.node.Node.{Node}
-use Rattle.h2_memory_sets.specs.View.{stands_of, set_of, root_of, low_of, bits_of, writable_of, copies_of, leaf_bits_of, is_up, is_below, is_child, link_of, forest_with, brought, IsLoadable}
+use Rattle.h2_memory_sets.specs.View.{stands_of, set_of, root_of, low_of, bits_of, writable_of, copies_of, leaf_bits_of, is_up, is_below, is_child, link_to, link_of, forest_with, brought, IsLoadable}
 use Rattle.h2_memory_sets.proofs.Lists.{below_names}
 use Rattle.h2_memory_sets.proofs.Loading.{DiffersByLoad, walks, loads}
 use Rattle.h2_memory_sets.proofs.Nodes.{settled_of, position_same, get_set, get_set_other, field_stays}
@@ -105,9 +106,9 @@ module _ (xs : List Node) (at c : ℕ) (r : Ref) (stands : stands_of (slice_get 
   pub was_untold : link_of xs at r.key ≡ untold
   was_untold = rw none (cond_same _ untold)
 
-  pub differs_by_load : (root_of (slice_get xs at) ≡ c → ⊥) → (spare epoch room failed bad : ℕ) (i : ℕ) → slice_get (let s = set_of (slice_get xs at) in s.refs) i ≡ Some r → is_indirect r ≡ true → DiffersByLoad (forest_with xs spare epoch room failed bad) (forest_with (slice_set xs c (brought (root_of (slice_get xs at)) (copies_of (slice_get xs at)) r.keybits l.node)) spare epoch room failed bad) at c r
-  differs_by_load under spare epoch room failed bad i read ind = record {
-    settled = settled_of xs ys spare spare epoch room room failed failed bad bad leaf (omega arith) (omega arith) (λ m st. let off = off_c m (not_fresh m st) in (ap stands_of off ∙ st, ap root_of off, ap low_of off, ap bits_of off, ap writable_of off, ap copies_of off));
+  pub differs_by_load : (root_of (slice_get xs at) ≡ c → ⊥) → (spare epoch room failed bad : ℕ) (met : Option (ℕ × Why)) (i : ℕ) → slice_get (let s = set_of (slice_get xs at) in s.refs) i ≡ Some r → is_indirect r ≡ true → DiffersByLoad (forest_with xs spare epoch room failed bad met) (forest_with (slice_set xs c (brought (root_of (slice_get xs at)) (copies_of (slice_get xs at)) r.keybits l.node)) spare epoch room failed bad met) at c r
+  differs_by_load under spare epoch room failed bad met i read ind = record {
+    settled = settled_of xs ys spare spare epoch room room failed failed bad bad met met leaf (omega arith) (omega arith) (λ m st. let off = off_c m (not_fresh m st) in (ap stands_of off ∙ st, ap root_of off, ap low_of off, ap bits_of off, ap writable_of off, ap copies_of off));
     fresh = fresh;
     under = under;
     new = ap stands_of at_c;
@@ -119,6 +120,7 @@ module _ (xs : List Node) (at c : ℕ) (r : Ref) (stands : stands_of (slice_get 
     copies = ap copies_of at_c;
     set = rw (ap set_of at_c) l.fits.set;
     fits = rw (ap set_of at_c) l.fits;
+    allowed = λ q. refl;
     there = λ m st. set_same m;
     link = λ m k st ne. rw (set_same m, first_same m k ne) refl;
     child = (let named = below_names _ r.key i r read ind refl in rw (set_same at, first_new, named) refl);
@@ -137,8 +139,8 @@ module _ (xs : List Node) (at i : ℕ) (x : Node) (q : Ref) (read : slice_get xs
   ref_same r got = one_of q r (sym ref_there ∙ got)
 
 -- nothing was loaded, though the counts rose
-pub loads_nothing : (xs : List Node) (spare epoch room failed failed' bad bad' at k : ℕ) → Loads (forest_with xs spare epoch room failed bad) (forest_with xs spare epoch room failed' bad') at k
-loads_nothing xs spare epoch room failed failed' bad bad' at k = record {
+pub loads_nothing : (xs : List Node) (spare epoch room failed failed' bad bad' : ℕ) (met met' : Option (ℕ × Why)) (at k : ℕ) → Loads (forest_with xs spare epoch room failed bad met) (forest_with xs spare epoch room failed' bad' met') at k
+loads_nothing xs spare epoch room failed failed' bad bad' met met' at k = record {
   keeps = λ m st ne. record { place = record { stands = st; root = refl; low = refl; bits = refl; belongs = λ t j. refl; writable = λ e. e }; alike = Alike-refl _; link = λ j. refl };
   link = λ j ne. refl;
   new = λ m st. inl st;
@@ -147,6 +149,15 @@ loads_nothing xs spare epoch room failed failed' bad bad' at k = record {
 -- where no node was found, none is loaded
 pub not_loaded : (xs : List Node) (at k d : ℕ) → position (is_child at k) xs ≡ None → link_of xs at k ≡ loaded d → ⊥
 not_loaded xs at k d none e = let it : untold ≡ loaded d = sym (rw none (cond_same _ untold)) ∙ e in cc
+
+-- nobody tells what isn't loaded
+pub not_told : (xs : List Node) (at k : ℕ) (l : List Ref) → link_of xs at k ≡ told l → ⊥
+not_told xs at k l e = go _ (position (is_child at k) xs) e
+  where
+    go : (b : Bool) (o : Option ℕ) → cond b (link_to o) untold ≡ told l → ⊥
+    go true None e = cc
+    go true (Some c) e = cc
+    go false o e = cc
 
 -- where one was found, it is
 pub is_loaded : (xs : List Node) (at i c : ℕ) (r : Ref) → position (is_child at r.key) xs ≡ Some c → slice_get (let s = set_of (slice_get xs at) in s.refs) i ≡ Some r → is_indirect r ≡ true → link_of xs at r.key ≡ loaded c
@@ -174,14 +185,14 @@ pub record Brings (f g : Forest) (at c : ℕ) (q : Ref) : Type 0 where
   pub link : g.link at q.key ≡ loaded c
   pub loaded_there : Loads f g at q.key
 
-brings_new : (xs : List Node) (spare epoch room failed bad at i c : ℕ) (q : Ref) → IsSound (forest_with xs spare epoch room failed bad) → stands_of (slice_get xs at) ≡ true → (l : IsLoadable xs at q c) → position (is_child at q.key) xs ≡ None → (root_of (slice_get xs at) ≡ c → ⊥) → slice_get (let s = set_of (slice_get xs at) in s.refs) i ≡ Some q → is_indirect q ≡ true → Brings (forest_with xs spare epoch room failed bad) (forest_with (slice_set xs c (brought (root_of (slice_get xs at)) (copies_of (slice_get xs at)) q.keybits l.node)) spare epoch room failed bad) at c q
-brings_new xs spare epoch room failed bad at i c q sound stands l none under read ind =
-    let d = differs_by_load xs at c q stands l none under spare epoch room failed bad i read ind in
+brings_new : (xs : List Node) (spare epoch room failed bad : ℕ) (met : Option (ℕ × Why)) (at i c : ℕ) (q : Ref) → IsSound (forest_with xs spare epoch room failed bad met) → stands_of (slice_get xs at) ≡ true → (l : IsLoadable xs at q c) → position (is_child at q.key) xs ≡ None → (root_of (slice_get xs at) ≡ c → ⊥) → slice_get (let s = set_of (slice_get xs at) in s.refs) i ≡ Some q → is_indirect q ≡ true → Brings (forest_with xs spare epoch room failed bad met) (forest_with (slice_set xs c (brought (root_of (slice_get xs at)) (copies_of (slice_get xs at)) q.keybits l.node)) spare epoch room failed bad met) at c q
+brings_new xs spare epoch room failed bad met at i c q sound stands l none under read ind =
+    let d = differs_by_load xs at c q stands l none under spare epoch room failed bad met i read ind in
     record {
       walked = walks _ _ at c i q d sound stands read ind;
       link = d.child;
       loaded_there = loads _ _ at c i q d sound stands read ind;
     }
 
-pub brings : (xs : List Node) (spare epoch room failed bad at i c : ℕ) (q : Ref) (x y z : Node) → IsSound (forest_with xs spare epoch room failed bad) → stands_of (slice_get xs at) ≡ true → IsLoadable xs at q c → position (is_child at q.key) xs ≡ None → (root_of (slice_get xs at) ≡ c → ⊥) → slice_get (let s = set_of (slice_get xs at) in s.refs) i ≡ Some q → is_indirect q ≡ true → slice_get xs at ≡ Some x → slice_get xs c ≡ Some y → z ≡ brought x.root x.copies q.keybits y → Brings (forest_with xs spare epoch room failed bad) (forest_with (slice_set xs c z) spare epoch room failed bad) at c q
-brings xs spare epoch room failed bad at i c q x y z sound stands l none under read ind at_x at_y z_is = subst (λ (zs : List Node). Brings (forest_with xs spare epoch room failed bad) (forest_with zs spare epoch room failed bad) at c q) (brought_is xs at c q x y z l at_x at_y z_is) (brings_new xs spare epoch room failed bad at i c q sound stands l none under read ind)
+pub brings : (xs : List Node) (spare epoch room failed bad : ℕ) (met : Option (ℕ × Why)) (at i c : ℕ) (q : Ref) (x y z : Node) → IsSound (forest_with xs spare epoch room failed bad met) → stands_of (slice_get xs at) ≡ true → IsLoadable xs at q c → position (is_child at q.key) xs ≡ None → (root_of (slice_get xs at) ≡ c → ⊥) → slice_get (let s = set_of (slice_get xs at) in s.refs) i ≡ Some q → is_indirect q ≡ true → slice_get xs at ≡ Some x → slice_get xs c ≡ Some y → z ≡ brought x.root x.copies q.keybits y → Brings (forest_with xs spare epoch room failed bad met) (forest_with (slice_set xs c z) spare epoch room failed bad met) at c q
+brings xs spare epoch room failed bad met at i c q x y z sound stands l none under read ind at_x at_y z_is = subst (λ (zs : List Node). Brings (forest_with xs spare epoch room failed bad met) (forest_with zs spare epoch room failed bad met) at c q) (brought_is xs at c q x y z l at_x at_y z_is) (brings_new xs spare epoch room failed bad met at i c q sound stands l none under read ind)

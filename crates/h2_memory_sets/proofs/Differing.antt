@@ -4,6 +4,7 @@ use Rattle.std.specs.List.{position}
 use Rattle.std.proofs.lemmas.Bool.Decides.{nat_tests}
 use Rattle.std.proofs.lemmas.Nat.{pow_pos}
 use Rattle.std.proofs.lemmas.Option.{slice_get_within, slice_get_past}
+use Rattle.h2_ref.specs.declared.faults.Why.{Why}
 use Rattle.h2_ref.specs.declared.reference.Ref.{Ref}
 use Rattle.h2_set.specs.declared.set.Split.{Split}
 use Rattle.h2_set.specs.Ranges.{holds, limit, put}
@@ -112,9 +113,9 @@ module _ (xs : List Node) (at : ℕ) (x : Node) (set : RefSet) (s : Split) (ref 
     | inl e ↦ subst (λ z. leaf_bits_of (slice_get ys z) ≡ leaf_bits_of (slice_get xs z)) (sym e) (ap leaf_bits_of (at_new xs at x kept s.moved ref read) ∙ ap leaf_bits_of (sym (slice_get_past xs (length xs) (omega arith))))
   ]
 
-  pub differs_by_make : (root_of (slice_get xs at) ≡ length xs → ⊥) → (spare spare' epoch room room' failed bad : ℕ) → spare' + 1 ≡ spare → room' + 1 ≡ room → DiffersByMake (forest_with xs spare epoch room failed bad) (forest_with (parted xs at x (record { refs = put ref (with_rest s.rest set.refs); capacity = set.capacity }) s.moved ref) spare' epoch room' failed bad) at (length xs) set s ref
-  differs_by_make under spare spare' epoch room room' failed bad spare_is room_is = record {
-    settled = settled_of xs ys spare spare' epoch room room' failed failed bad bad leaf (omega arith) (omega arith) (λ m st. let ne = not_fresh m st in (stays stands_of (λ y. refl) refl m ne ∙ st, stays root_of (λ y. refl) refl m ne, stays low_of (λ y. refl) refl m ne, stays bits_of (λ y. refl) refl m ne, stays writable_of (λ y. refl) refl m ne, stays copies_of (λ y. refl) refl m ne));
+  pub differs_by_make : (root_of (slice_get xs at) ≡ length xs → ⊥) → (spare spare' epoch room room' failed bad : ℕ) (met : Option (ℕ × Why)) → spare' + 1 ≡ spare → room' + 1 ≡ room → DiffersByMake (forest_with xs spare epoch room failed bad met) (forest_with (parted xs at x (record { refs = put ref (with_rest s.rest set.refs); capacity = set.capacity }) s.moved ref) spare' epoch room' failed bad met) at (length xs) set s ref
+  differs_by_make under spare spare' epoch room room' failed bad met spare_is room_is = record {
+    settled = settled_of xs ys spare spare' epoch room room' failed failed bad bad met met leaf (omega arith) (omega arith) (λ m st. let ne = not_fresh m st in (stays stands_of (λ y. refl) refl m ne ∙ st, stays root_of (λ y. refl) refl m ne, stays low_of (λ y. refl) refl m ne, stays bits_of (λ y. refl) refl m ne, stays writable_of (λ y. refl) refl m ne, stays copies_of (λ y. refl) refl m ne));
     fresh = fresh;
     under = under;
     new = ap stands_of (at_new xs at x kept s.moved ref read);

@@ -7,6 +7,7 @@ use Rattle.std.proofs.lemmas.Bool.{cases_lt}
 use Rattle.std.proofs.lemmas.Bool.Decides.{nat_tests}
 use Rattle.std.proofs.lemmas.List.{length-map}
 use Rattle.std.proofs.lemmas.Option.{slice_get_within, slice_get_past}
+use Rattle.h2_ref.specs.declared.faults.Why.{Why}
 use Rattle.h2_ref.specs.declared.reference.Ref.{Ref}
 use Rattle.h2_set.specs.Ranges.{holds, is_indirect}
 use Rattle.h2_set.specs.RefSet.{RefSet}
@@ -145,8 +146,8 @@ module _ (xs : List Node) (at : ℕ) (x y : Node) (s : RefSet) (read : slice_get
       ap (λ (t : RefSet). cond (names t.refs k) (link_to (position (is_child m k) dropped_with)) untold) set ∙ link_by _ _ _ (λ named. first m k (λ c e. stay c (rw (e, named) refl)))
 
   -- what a missing reference means
-  loses_is : (spare epoch room failed bad key : ℕ) → loses (let t = x.set in t.refs) s.refs key ≡ true → Loses (forest_with xs spare epoch room failed bad) at s key
-  loses_is spare epoch room failed bad key e =
+  loses_is : (spare epoch room failed bad : ℕ) (met : Option (ℕ × Why)) (key : ℕ) → loses (let t = x.set in t.refs) s.refs key ≡ true → Loses (forest_with xs spare epoch room failed bad met) at s key
+  loses_is spare epoch room failed bad met key e =
       let it = any_true _ _ e in
       let parts = and_parts (holds key it.ref) (lacks s.refs it.ref) it.passes in
       let none = not_true _ parts.1 in
@@ -158,8 +159,8 @@ module _ (xs : List Node) (at : ℕ) (x y : Node) (s : RefSet) (read : slice_get
         held = parts.0;
       }
 
-  is_losing : (spare epoch room failed bad key : ℕ) → Loses (forest_with xs spare epoch room failed bad) at s key → loses (let t = x.set in t.refs) s.refs key ≡ true
-  is_losing spare epoch room failed bad key l =
+  is_losing : (spare epoch room failed bad : ℕ) (met : Option (ℕ × Why)) (key : ℕ) → Loses (forest_with xs spare epoch room failed bad met) at s key → loses (let t = x.set in t.refs) s.refs key ≡ true
+  is_losing spare epoch room failed bad met key l =
       let none : any_of (names_same l.lost) s.refs ≡ false = any_none (names_same l.lost) s.refs (λ i r got. differs i r got) in
       any_some _ (let t = x.set in t.refs) l.place l.lost (sym (ap (λ (o : Option Node). slice_get (let t = set_of o in t.refs) l.place) read) ∙ l.was) (let held = l.held in rw (held, none) refl)
     where
@@ -192,12 +193,12 @@ module _ (xs : List Node) (at : ℕ) (x y : Node) (s : RefSet) (read : slice_get
         ]
       ]
 
-  module _ (spare epoch room failed bad : ℕ) where
+  module _ (spare epoch room failed bad : ℕ) (met : Option (ℕ × Why)) where
     abbrev f : Forest
-    f = forest_with xs spare epoch room failed bad
+    f = forest_with xs spare epoch room failed bad met
 
     abbrev g : Forest
-    g = forest_with dropped_with spare epoch room failed bad
+    g = forest_with dropped_with spare epoch room failed bad met
 
     goes_is : (m : ℕ) → stands_of (slice_get xs m) ≡ true → going m ≡ true → GoesBelow f m at s
     goes_is m st e =
@@ -209,7 +210,7 @@ module _ (xs : List Node) (at : ℕ) (x y : Node) (s : RefSet) (read : slice_get
         record {
           tree = ap root_of it.1 ∙ alike _ _ parts.0 ∙ ap root_of (sym read);
           fewer = rw (it.1, read) (let lt = more.0 in grind (arith, nat_tests));
-          loses = subst (Loses f at s) (sym low) (loses_is spare epoch room failed bad z.low more.1);
+          loses = subst (Loses f at s) (sym low) (loses_is spare epoch room failed bad met z.low more.1);
         }
 
     goes_all : (m : ℕ) → stands_of (slice_get xs m) ≡ true → GoesBelow f m at s → going m ≡ true
@@ -222,7 +223,7 @@ module _ (xs : List Node) (at : ℕ) (x y : Node) (s : RefSet) (read : slice_get
           let less : z.bits < x.bits = (let less = goes'.fewer in rw (it.1, read) at less) in
           let a : nat_eq z.root x.root ≡ true = grind (arith, nat_tests) in
           let b : nat_lt z.bits x.bits ≡ true = grind (arith, nat_tests) in
-          let c : loses (let t = x.set in t.refs) s.refs z.low ≡ true = is_losing spare epoch room failed bad z.low (subst (Loses f at s) (ap low_of it.1) goes'.loses) in
+          let c : loses (let t = x.set in t.refs) s.refs z.low ≡ true = is_losing spare epoch room failed bad met z.low (subst (Loses f at s) (ap low_of it.1) goes'.loses) in
           ap (goes_of x.root x.bits (let t = x.set in t.refs) s.refs) it.1 ∙ rw (a, b, c) refl
     ]
 
@@ -231,7 +232,7 @@ module _ (xs : List Node) (at : ℕ) (x y : Node) (s : RefSet) (read : slice_get
 
     pub differs_by_store : DiffersByStore f g at s
     differs_by_store = record {
-      loose = loose_of xs dropped_with spare spare epoch room room failed failed bad bad (field leaf_bits_of (λ z. refl) refl) (omega arith) (omega arith) (λ m st now. (field root_of (λ z. refl) refl m, field low_of (λ z. refl) refl m, field bits_of (λ z. refl) refl m, field writable_of (λ z. refl) refl m, field copies_of (λ z. refl) refl m));
+      loose = loose_of xs dropped_with spare spare epoch room room failed failed bad bad met met (field leaf_bits_of (λ z. refl) refl) (omega arith) (omega arith) (λ m st now. (field root_of (λ z. refl) refl m, field low_of (λ z. refl) refl m, field bits_of (λ z. refl) refl m, field writable_of (λ z. refl) refl m, field copies_of (λ z. refl) refl m));
       goes = λ m. going m;
       gone = gone;
       stays = stays;
@@ -275,12 +276,12 @@ pub dropped_written : (xs zs ys : List Node) (n root bits : ℕ) (old new : List
 dropped_written xs zs ys n root bits old new len same is = ap (λ k. take k (ys ++ drop (length ys) xs)) len ∙ take-append_seam ys _ ∙ is ∙ ap (dropped_all root bits old new) same
 
 -- what storing a set leaves, where y is the node that was read once the others were dropped
-pub stored : (xs items : List Node) (at : ℕ) (x y : Node) (s : RefSet) (old : List Ref) (spare epoch room failed bad : ℕ) → IsSound (forest_with xs spare epoch room failed bad) → stands_of (slice_get xs at) ≡ true → Storable (forest_with xs spare epoch room failed bad) at s → AllRooted xs → items ≡ dropped_all x.root x.bits old s.refs xs → old ≡ (let t = x.set in t.refs) → slice_get xs at ≡ Some x → slice_get items at ≡ Some y → Stores (forest_with xs spare epoch room failed bad) (forest_with (slice_set items at (with_set y s)) spare epoch room failed bad) at s × AllRooted (slice_set items at (with_set y s))
-stored xs items at x y s old spare epoch room failed bad sound stands storable rooted items_is old_is read read_y =
+pub stored : (xs items : List Node) (at : ℕ) (x y : Node) (s : RefSet) (old : List Ref) (spare epoch room failed bad : ℕ) (met : Option (ℕ × Why)) → IsSound (forest_with xs spare epoch room failed bad met) → stands_of (slice_get xs at) ≡ true → Storable (forest_with xs spare epoch room failed bad met) at s → AllRooted xs → items ≡ dropped_all x.root x.bits old s.refs xs → old ≡ (let t = x.set in t.refs) → slice_get xs at ≡ Some x → slice_get items at ≡ Some y → Stores (forest_with xs spare epoch room failed bad met) (forest_with (slice_set items at (with_set y s)) spare epoch room failed bad met) at s × AllRooted (slice_set items at (with_set y s))
+stored xs items at x y s old spare epoch room failed bad met sound stands storable rooted items_is old_is read read_y =
     let same : y ≡ x = one_of y x (sym read_y ∙ ap (λ (l : List Node). slice_get l at) items_is ∙ get_map (dropped x.root x.bits old s.refs) xs at x read ∙ ap Some (own_stays x old s.refs)) in
     let is : slice_set items at (with_set y s) ≡ dropped_with xs at x y s read same = ap (λ (l : List Node). slice_set l at (with_set y s)) (items_is ∙ ap (λ (o : List Ref). dropped_all x.root x.bits o s.refs xs) old_is) in
-    let d = differs_by_store xs at x y s read same spare epoch room failed bad in
-    subst (λ (ys : List Node). Stores (forest_with xs spare epoch room failed bad) (forest_with ys spare epoch room failed bad) at s × AllRooted ys) (sym is) (stores _ _ at s d sound stands storable, rooted_dropped xs at x y s read same spare epoch room failed bad sound stands rooted)
+    let d = differs_by_store xs at x y s read same spare epoch room failed bad met in
+    subst (λ (ys : List Node). Stores (forest_with xs spare epoch room failed bad met) (forest_with ys spare epoch room failed bad met) at s × AllRooted ys) (sym is) (stores _ _ at s d sound stands storable, rooted_dropped xs at x y s read same spare epoch room failed bad met sound stands rooted)
 
 pub dropped_length : (xs : List Node) (root bits : ℕ) (old new : List Ref) (items : List Node) (at : ℕ) → items ≡ dropped_all root bits old new xs → at < length xs → at < length items
 dropped_length xs root bits old new items at is lt = let n : length items ≡ length xs = ap length is ∙ length-map _ _ in omega (arith, n, lt)

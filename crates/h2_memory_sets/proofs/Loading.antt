@@ -26,6 +26,7 @@ pub record DiffersByLoad (f g : Forest) (at c : ℕ) (r : Ref) : Type 0 where
   pub copies : g.copies c ≡ f.copies at + 1
   pub set : IsRefSet (g.set c)
   pub fits : AllFitBelow r (f.leaf_bits (f.root at)) (g.set c)
+  pub allowed : (q : Ref) → f.allows (f.root at) q ≡ true
   pub there : (m : ℕ) → f.stands m ≡ true → g.set m ≡ f.set m
   pub link : (m k : ℕ) → f.stands m ≡ true → (m ≡ at → k ≡ r.key → ⊥) → g.link m k ≡ f.link m k
   pub child : g.link at r.key ≡ loaded c
@@ -126,13 +127,13 @@ module _ (f g : Forest) (at c i : ℕ) (r : Ref) (d : DiffersByLoad f g at c r) 
   new_fits : (j : ℕ) (q : Ref) → slice_get (refs g c) j ≡ Some q → Fits g c q
   new_fits j q got =
       let h = d.fits.each j q got in
-      let grain : g.leaf_bits (g.root c) ≡ f.leaf_bits (f.root at) = ap g.leaf_bits d.root ∙ d.settled.loose.fixed.leaf_bits (f.root at) in
+      let grain : g.leaf_bits (g.root c) ≡ f.leaf_bits (f.root at) = ap g.leaf_bits d.root ∙ d.settled.loose.leaf_bits (f.root at) in
       record {
         held = h.held;
         aligned = h.aligned;
         class = h.class;
         leaf = λ k. h.leaf k ∙ sym grain;
-        allowed = λ k. d.settled.loose.fixed.allows (g.root c) q ∙ d.settled.loose.all_allowed (g.root c) q;
+        allowed = λ k. ap (λ n. g.allows n q) d.root ∙ d.settled.loose.allows (f.root at) q ∙ d.allowed q;
         wide = λ k. rw grain (h.wide k);
         some_bits = h.some_bits;
         falls = λ k. rw d.bits h.fewer;
@@ -227,6 +228,10 @@ module _ (f g : Forest) (at c i : ℕ) (r : Ref) (d : DiffersByLoad f g at c r) 
     roots = λ m st own. elim (same_or_not m c) as (λ _. f.stands m ≡ true) [
       | inl e ↦ absurd (d.under (sym d.root ∙ subst (λ z. g.root z ≡ z) e own))
       | inr ne ↦ d.stands m ne st
+    ];
+    clean = λ m fresh st. elim (same_or_not m c) as (λ _. g.writable m ≡ false) [
+      | inl e ↦ ap g.writable e ∙ d.clean
+      | inr ne ↦ let clash : true ≡ false = sym (d.stands m ne st) ∙ fresh in absurd (cc)
     ];
     sets = λ m st. d.there m st;
     writable = λ m st. d.settled.loose.writable m st (stays m st);

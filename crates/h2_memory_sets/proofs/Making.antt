@@ -200,7 +200,7 @@ module _ (f : Forest) (at : ℕ) (set : RefSet) (s : Split) (ref leaf : Ref) (so
   pub whole_length : length (put ref (with_rest s.rest set.refs)) ≤ set.capacity
   whole_length = whole_set.fits
 
-  module _ (g : Forest) (c : ℕ) (d : DiffersByMake f g at c set s ref) (ref_held : IsHeld ref) where
+  module _ (g : Forest) (c : ℕ) (d : DiffersByMake f g at c set s ref) (ref_held : IsHeld ref) (ref_dated : ref.id ≡ f.epoch) where
     stays : (m : ℕ) → f.stands m ≡ true → g.stands m ≡ true
     stays = d.settled.stands
 
@@ -231,7 +231,7 @@ module _ (f : Forest) (at : ℕ) (set : RefSet) (s : Split) (ref leaf : Ref) (so
     -- the reference to the new node fits
     ref_fits : Fits g at ref
     ref_fits = fits_in f g d.settled.loose at ref stands (stays at stands) (record {
-      held = ref_held;
+      held = λ _. ref_held;
       aligned = rw (key_is, bits_is) made.split.half.aligned;
       class = rw key_is parts.class;
       leaf = λ miss. let clash : true ≡ false = sym is_ind ∙ miss in absurd (cc);
@@ -314,13 +314,13 @@ module _ (f : Forest) (at : ℕ) (set : RefSet) (s : Split) (ref leaf : Ref) (so
     new_fits i q read =
         let it = came i q read in
         let h = all_fits it.1 q it.2 in
-        let grain : g.leaf_bits (g.root c) ≡ f.leaf_bits (f.root at) = ap g.leaf_bits d.root ∙ d.settled.loose.fixed.leaf_bits (f.root at) in
+        let grain : g.leaf_bits (g.root c) ≡ f.leaf_bits (f.root at) = ap g.leaf_bits d.root ∙ d.settled.loose.leaf_bits (f.root at) in
         record {
           held = h.held;
           aligned = h.aligned;
           class = h.class;
           leaf = λ k. h.leaf k ∙ sym grain;
-          allowed = λ k. d.settled.loose.fixed.allows (g.root c) q ∙ d.settled.loose.all_allowed (g.root c) q;
+          allowed = λ k. ap (λ n. g.allows n q) d.root ∙ d.settled.loose.allows (f.root at) q ∙ h.allowed k;
           wide = λ k. rw grain (h.wide k);
           some_bits = h.some_bits;
           falls = λ k. rw d.bits (parts.shorter it.1 q it.2 it.0);
@@ -457,6 +457,7 @@ module _ (f : Forest) (at : ℕ) (set : RefSet) (s : Split) (ref leaf : Ref) (so
       indirect = is_ind;
       key = key_is;
       keybits = bits_is;
+      dated = ref_dated;
       now = d.now;
       place = place at stands;
       below_moved = below;

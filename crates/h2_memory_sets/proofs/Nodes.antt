@@ -3,6 +3,7 @@ use Rattle.std.proofs.Common.{◌≡◌, ℕ, ◌+◌, ◌<◌, ◌≤◌, Bool,
 use Rattle.std.specs.Prelude.{not}
 use Rattle.std.specs.List.{position, position_or_len}
 use Rattle.std.proofs.lemmas.Option.{slice_get_within}
+use Rattle.h2_ref.specs.declared.faults.Why.{Why}
 use Rattle.h2_ref.specs.declared.reference.Ref.{Ref}
 use Rattle.h2_set.specs.RefSet.{RefSet}
 use Rattle.h2_set.specs.Forest.{IsSound, ReadiesOnly, Unchanged}
@@ -47,29 +48,30 @@ is_there (x ∷ xs) zero h = omega arith
 is_there (x ∷ xs) (suc at) h = let it = is_there xs at h in omega arith
 
 -- what every change of a forest in memory leaves as it is
-pub loose_of : (xs ys : List Node) (spare spare' epoch room room' failed failed' bad bad' : ℕ) → ((m : ℕ) → leaf_bits_of (slice_get ys m) ≡ leaf_bits_of (slice_get xs m)) → failed ≤ failed' → bad ≤ bad' → ((m : ℕ) → stands_of (slice_get xs m) ≡ true → stands_of (slice_get ys m) ≡ true → (root_of (slice_get ys m) ≡ root_of (slice_get xs m)) × (low_of (slice_get ys m) ≡ low_of (slice_get xs m)) × (bits_of (slice_get ys m) ≡ bits_of (slice_get xs m)) × (writable_of (slice_get ys m) ≡ writable_of (slice_get xs m)) × (copies_of (slice_get ys m) ≡ copies_of (slice_get xs m))) → Loose (forest_with xs spare epoch room failed bad) (forest_with ys spare' epoch room' failed' bad')
-loose_of xs ys spare spare' epoch room room' failed failed' bad bad' leaf more_failed more_bad place = record {
-  fixed = record { leaf_bits = leaf; allows = λ m r. refl; held = λ m. refl; name = λ r. refl; epoch = refl; failed = more_failed; bad = more_bad };
+pub loose_of : (xs ys : List Node) (spare spare' epoch room room' failed failed' bad bad' : ℕ) (met met' : Option (ℕ × Why)) → ((m : ℕ) → leaf_bits_of (slice_get ys m) ≡ leaf_bits_of (slice_get xs m)) → failed ≤ failed' → bad ≤ bad' → ((m : ℕ) → stands_of (slice_get xs m) ≡ true → stands_of (slice_get ys m) ≡ true → (root_of (slice_get ys m) ≡ root_of (slice_get xs m)) × (low_of (slice_get ys m) ≡ low_of (slice_get xs m)) × (bits_of (slice_get ys m) ≡ bits_of (slice_get xs m)) × (writable_of (slice_get ys m) ≡ writable_of (slice_get xs m)) × (copies_of (slice_get ys m) ≡ copies_of (slice_get xs m))) → Loose (forest_with xs spare epoch room failed bad met) (forest_with ys spare' epoch room' failed' bad' met')
+loose_of xs ys spare spare' epoch room room' failed failed' bad bad' met met' leaf more_failed more_bad place = record {
+  fixed = record { leaf_bits = λ m st now. leaf m; allows = λ m r st now. refl; held = λ m. refl; name = λ r. refl; epoch = refl; failed = more_failed; bad = more_bad };
   place = λ m st now. let it = place m st now in record { stands = now; root = it.0; low = it.1; bits = it.2; belongs = λ t k. refl; writable = λ e. it.3 ∙ e };
   copies = λ m st now. (place m st now).4;
   writable = λ m st now. (place m st now).3;
-  all_allowed = λ m r. refl;
+  leaf_bits = leaf;
+  allows = λ m r. refl;
   none_held = λ m. refl;
   none_belonged = λ m t k. refl;
   none_belong = λ m t k. refl;
 }
 
-pub settled_of : (xs ys : List Node) (spare spare' epoch room room' failed failed' bad bad' : ℕ) → ((m : ℕ) → leaf_bits_of (slice_get ys m) ≡ leaf_bits_of (slice_get xs m)) → failed ≤ failed' → bad ≤ bad' → ((m : ℕ) → stands_of (slice_get xs m) ≡ true → (stands_of (slice_get ys m) ≡ true) × (root_of (slice_get ys m) ≡ root_of (slice_get xs m)) × (low_of (slice_get ys m) ≡ low_of (slice_get xs m)) × (bits_of (slice_get ys m) ≡ bits_of (slice_get xs m)) × (writable_of (slice_get ys m) ≡ writable_of (slice_get xs m)) × (copies_of (slice_get ys m) ≡ copies_of (slice_get xs m))) → Settled (forest_with xs spare epoch room failed bad) (forest_with ys spare' epoch room' failed' bad')
-settled_of xs ys spare spare' epoch room room' failed failed' bad bad' leaf more_failed more_bad place = record {
-  loose = loose_of xs ys spare spare' epoch room room' failed failed' bad bad' leaf more_failed more_bad (λ m st now. let it = place m st in (it.1, it.2, it.3, it.4, it.5));
+pub settled_of : (xs ys : List Node) (spare spare' epoch room room' failed failed' bad bad' : ℕ) (met met' : Option (ℕ × Why)) → ((m : ℕ) → leaf_bits_of (slice_get ys m) ≡ leaf_bits_of (slice_get xs m)) → failed ≤ failed' → bad ≤ bad' → ((m : ℕ) → stands_of (slice_get xs m) ≡ true → (stands_of (slice_get ys m) ≡ true) × (root_of (slice_get ys m) ≡ root_of (slice_get xs m)) × (low_of (slice_get ys m) ≡ low_of (slice_get xs m)) × (bits_of (slice_get ys m) ≡ bits_of (slice_get xs m)) × (writable_of (slice_get ys m) ≡ writable_of (slice_get xs m)) × (copies_of (slice_get ys m) ≡ copies_of (slice_get xs m))) → Settled (forest_with xs spare epoch room failed bad met) (forest_with ys spare' epoch room' failed' bad' met')
+settled_of xs ys spare spare' epoch room room' failed failed' bad bad' met met' leaf more_failed more_bad place = record {
+  loose = loose_of xs ys spare spare' epoch room room' failed failed' bad bad' met met' leaf more_failed more_bad (λ m st now. let it = place m st in (it.1, it.2, it.3, it.4, it.5));
   stands = λ m st. (place m st).0;
 }
 
 -- where the nodes are the same and there are more spare ones
-pub readies_nodes : (xs ys : List Node) (spare more epoch room failed bad : ℕ) → ys ≡ xs → spare ≤ more → IsSound (forest_with xs spare epoch room failed bad) → ReadiesOnly (forest_with xs spare epoch room failed bad) (forest_with ys more epoch room failed bad)
-readies_nodes xs ys spare more epoch room failed bad items le sound =
+pub readies_nodes : (xs ys : List Node) (spare more epoch room failed bad : ℕ) (met : Option (ℕ × Why)) → ys ≡ xs → spare ≤ more → IsSound (forest_with xs spare epoch room failed bad met) → ReadiesOnly (forest_with xs spare epoch room failed bad met) (forest_with ys more epoch room failed bad met)
+readies_nodes xs ys spare more epoch room failed bad met items le sound =
     let field : (X : Type 0) (F : Option Node → X) (m : ℕ) → F (slice_get ys m) ≡ F (slice_get xs m) = λ X F m. ap (λ (l : List Node). F (slice_get l m)) items in
-    readies _ _ (settled_of xs ys spare more epoch room room failed failed bad bad (field _ leaf_bits_of) (omega arith) (omega arith) (λ m st. (field _ stands_of m ∙ st, field _ root_of m, field _ low_of m, field _ bits_of m, field _ writable_of m, field _ copies_of m))) (field _ stands_of) (field _ set_of) (λ m k. ap (λ (l : List Node). link_of l m k) items) le refl refl refl sound
+    readies _ _ (settled_of xs ys spare more epoch room room failed failed bad bad met met (field _ leaf_bits_of) (omega arith) (omega arith) (λ m st. (field _ stands_of m ∙ st, field _ root_of m, field _ low_of m, field _ bits_of m, field _ writable_of m, field _ copies_of m))) (field _ stands_of) (field _ set_of) (λ m k. ap (λ (l : List Node). link_of l m k) items) le refl refl refl sound
 
 -- the nodes that a change of the set, a move of what is below, and one more node make
 pub parted_is : (xs zs items : List Node) (at n : ℕ) (x a b : Node) (kept part : RefSet) (r : Ref) → n ≡ length xs → slice_get xs at ≡ Some x → slice_get xs at ≡ Some a → slice_get xs at ≡ Some b → zs ≡ moved_all at n r (slice_set xs at (with_set b kept)) → items ≡ zs ++ new_node at a part r ∷ [] → items ≡ parted xs at x kept part r
@@ -79,5 +81,5 @@ parted_is xs zs items at n x a b kept part r n_is at_x at_a at_b zs_is items_is 
     items_is ∙ ap (λ (l : List Node). l ++ new_node at a part r ∷ []) zs_is ∙ ap (λ (y : Node). moved_all at n r (slice_set xs at (with_set b kept)) ++ new_node at y part r ∷ []) a_is ∙ ap (λ (y : Node). moved_all at n r (slice_set xs at (with_set y kept)) ++ new_node at x part r ∷ []) b_is ∙ ap (λ k. moved_all at k r (slice_set xs at (with_set x kept)) ++ new_node at x part r ∷ []) n_is
 
 -- where faults or bad blocks were met, and nothing else
-pub unchanged_nodes : (xs : List Node) (spare epoch room failed failed' bad bad' : ℕ) → failed ≤ failed' → bad ≤ bad' → IsSound (forest_with xs spare epoch room failed bad) → Unchanged (forest_with xs spare epoch room failed bad) (forest_with xs spare epoch room failed' bad')
-unchanged_nodes xs spare epoch room failed failed' bad bad' more_failed more_bad sound = counts_rise _ _ (settled_of xs xs spare spare epoch room room failed failed' bad bad' (λ m. refl) more_failed more_bad (λ m st. (st, refl, refl, refl, refl, refl))) (λ m. refl) (λ m. refl) (λ m k. refl) refl refl sound
+pub unchanged_nodes : (xs : List Node) (spare epoch room failed failed' bad bad' : ℕ) (met met' : Option (ℕ × Why)) → failed ≤ failed' → bad ≤ bad' → IsSound (forest_with xs spare epoch room failed bad met) → Unchanged (forest_with xs spare epoch room failed bad met) (forest_with xs spare epoch room failed' bad' met')
+unchanged_nodes xs spare epoch room failed failed' bad bad' met met' more_failed more_bad sound = counts_rise _ _ (settled_of xs xs spare spare epoch room room failed failed' bad bad' met met' (λ m. refl) more_failed more_bad (λ m st. (st, refl, refl, refl, refl, refl))) (λ m. refl) (λ m. refl) (λ m k. refl) refl refl sound

@@ -6,6 +6,7 @@ use Rattle.std.proofs.lemmas.Bool.{cases_lt}
 use Rattle.std.proofs.lemmas.Bool.Decides.{nat_tests}
 use Rattle.std.proofs.lemmas.List.{length-map}
 use Rattle.std.proofs.lemmas.Nat.{pow_pos}
+use Rattle.h2_ref.specs.declared.faults.Why.{Why}
 use Rattle.h2_set.specs.Forest.{Forest, loaded, IsSound, IsSoundNode, HasParent}
 use Rattle.h2_set.specs.ChangeLaws.{same_or_not}
 use Rattle.h2_memory_sets.specs.declared.node.Node.{Node}
@@ -63,9 +64,9 @@ never true true false a h = refl
 never true true true false h = refl
 never true true true true h = absurd (h refl refl)
 
-module _ (xs : List Node) (new : Node → Bool) (spare epoch room failed bad : ℕ) (sound : IsSound (forest_with xs spare epoch room failed bad)) where
+module _ (xs : List Node) (new : Node → Bool) (spare epoch room failed bad : ℕ) (met : Option (ℕ × Why)) (sound : IsSound (forest_with xs spare epoch room failed bad met)) where
   abbrev f : Forest
-  f = forest_with xs spare epoch room failed bad
+  f = forest_with xs spare epoch room failed bad met
 
   abbrev d : Node → Node
   d = λ x. with_dirty (new x) x
@@ -303,7 +304,7 @@ module _ (xs : List Node) (new : Node → Bool) (spare epoch room failed bad : �
   -- the forest once this is done
   module _ (spare' epoch' room' : ℕ) (epoch_fits : (1 ≤ epoch') × (epoch' ≤ 2 ^ 62)) where
     abbrev pub g : Forest
-    g = forest_with (recounted_all (map (λ x. with_dirty (new x) x) xs)) spare' epoch' room' failed bad
+    g = forest_with (recounted_all (map (λ x. with_dirty (new x) x) xs)) spare' epoch' room' failed bad met
 
     stands_same : (m : ℕ) → stands_of (slice_get ys m) ≡ stands_of (slice_get xs m)
     stands_same = field stands_of (λ b x. refl) (λ n x. refl)

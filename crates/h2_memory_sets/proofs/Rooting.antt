@@ -1,6 +1,7 @@
 -- A root that is added.
-use Rattle.std.proofs.Common.{◌≡◌, ℕ, ◌+◌, ◌%◌, ◌≤◌, ◌^◌, true, false, arith, refl, cond, sym, ◌∙◌, ap, List, [], ◌∷◌, ◌++◌, length, Some, subst, inl, inr, slice_get}
+use Rattle.std.proofs.Common.{◌≡◌, ℕ, ◌+◌, ◌%◌, ◌≤◌, ◌^◌, true, false, arith, refl, cond, sym, ◌∙◌, ap, List, [], ◌∷◌, ◌++◌, length, Option, Some, subst, inl, inr, slice_get}
 use Rattle.std.proofs.lemmas.Option.{none-some, slice_get_past}
+use Rattle.h2_ref.specs.declared.faults.Why.{Why}
 use Rattle.h2_ref.specs.declared.reference.Ref.{Ref}
 use Rattle.h2_set.specs.RefSet.{RefSet}
 use Rattle.h2_set.specs.Forest.{Forest, refs, loaded, untold, IsSound, IsSoundNode, Same, HasParent}
@@ -29,7 +30,7 @@ pub record Agrees (f g : Forest) (m : ℕ) : Type 0 where
   pub copies : g.copies m ≡ f.copies m
 
 -- a node stays sound where no more is loaded below it, and what is copied is counted
-pub still_counted : (f g : Forest) (m : ℕ) → ((n : ℕ) → f.stands n ≡ true → g.stands n ≡ true → Places f g n) → f.stands m ≡ true → g.stands m ≡ true → ((k c : ℕ) → g.link m k ≡ loaded c → (f.link m k ≡ loaded c) × (g.stands c ≡ true)) → g.leaf_bits (f.root m) ≡ f.leaf_bits (f.root m) → ((r : Ref) → g.allows (f.root m) r ≡ true) → ((n t j : ℕ) → g.belongs n t j ≡ false) → ((k c : ℕ) → g.link m k ≡ loaded c → g.copies c ≡ g.copies m + cond (g.writable c) 0 1) → (g.root m ≡ m → g.copies m ≡ 0) → g.copies m + g.bits m ≤ 63 → IsSoundNode f m → IsSoundNode g m
+pub still_counted : (f g : Forest) (m : ℕ) → ((n : ℕ) → f.stands n ≡ true → g.stands n ≡ true → Places f g n) → f.stands m ≡ true → g.stands m ≡ true → ((k c : ℕ) → g.link m k ≡ loaded c → (f.link m k ≡ loaded c) × (g.stands c ≡ true)) → g.leaf_bits (f.root m) ≡ f.leaf_bits (f.root m) → ((r : Ref) → g.allows (f.root m) r ≡ f.allows (f.root m) r) → ((n t j : ℕ) → g.belongs n t j ≡ false) → ((k c : ℕ) → g.link m k ≡ loaded c → g.copies c ≡ g.copies m + cond (g.writable c) 0 1) → (g.root m ≡ m → g.copies m ≡ 0) → g.copies m + g.bits m ≤ 63 → IsSoundNode f m → IsSoundNode g m
 still_counted f g m agrees old st links leaf allows none kids top slope node =
     let p = agrees m old st in
     let refs_is : refs g m ≡ refs f m = ap (λ (t : RefSet). t.refs) p.set in
@@ -46,7 +47,7 @@ still_counted f g m agrees old st links leaf allows none kids top slope node =
         aligned = h.aligned;
         class = h.class;
         leaf = λ k. h.leaf k ∙ sym grain;
-        allowed = λ k. ap (λ n. g.allows n r) p.root ∙ allows r;
+        allowed = λ k. ap (λ n. g.allows n r) p.root ∙ allows r ∙ h.allowed k;
         wide = λ k. rw grain (h.wide k);
         some_bits = h.some_bits;
         falls = λ k. rw p.bits (h.falls k);
@@ -77,7 +78,7 @@ still_counted f g m agrees old st links leaf allows none kids top slope node =
     }
 
 -- a node stays sound where no more is loaded below it
-pub still_sound : (f g : Forest) (m : ℕ) → ((n : ℕ) → f.stands n ≡ true → g.stands n ≡ true → Agrees f g n) → f.stands m ≡ true → g.stands m ≡ true → ((k c : ℕ) → g.link m k ≡ loaded c → (f.link m k ≡ loaded c) × (g.stands c ≡ true)) → g.leaf_bits (f.root m) ≡ f.leaf_bits (f.root m) → ((r : Ref) → g.allows (f.root m) r ≡ true) → ((n t j : ℕ) → g.belongs n t j ≡ false) → IsSoundNode f m → IsSoundNode g m
+pub still_sound : (f g : Forest) (m : ℕ) → ((n : ℕ) → f.stands n ≡ true → g.stands n ≡ true → Agrees f g n) → f.stands m ≡ true → g.stands m ≡ true → ((k c : ℕ) → g.link m k ≡ loaded c → (f.link m k ≡ loaded c) × (g.stands c ≡ true)) → g.leaf_bits (f.root m) ≡ f.leaf_bits (f.root m) → ((r : Ref) → g.allows (f.root m) r ≡ f.allows (f.root m) r) → ((n t j : ℕ) → g.belongs n t j ≡ false) → IsSoundNode f m → IsSoundNode g m
 still_sound f g m agrees old st links leaf allows none node =
     let p = agrees m old st in
     still_counted f g m (λ n was now. let q = agrees n was now in record { root = q.root; low = q.low; bits = q.bits; set = q.set }) old st links leaf allows none
@@ -97,7 +98,7 @@ keys_end : (keys : KeyClass) → first_key keys + 2 ^ 63 ≤ 2 ^ 64
 keys_end Low = omega arith
 keys_end High = omega arith
 
-module _ (xs : List Node) (keys : KeyClass) (leaf_bits spare epoch room failed bad : ℕ) where
+module _ (xs : List Node) (keys : KeyClass) (leaf_bits spare epoch room failed bad : ℕ) (met : Option (ℕ × Why)) where
   abbrev new : Node
   new = top_node (length xs) keys leaf_bits
 
@@ -105,10 +106,10 @@ module _ (xs : List Node) (keys : KeyClass) (leaf_bits spare epoch room failed b
   ys = xs ++ top_node (length xs) keys leaf_bits ∷ []
 
   abbrev f : Forest
-  f = forest_with xs spare epoch room failed bad
+  f = forest_with xs spare epoch room failed bad met
 
   abbrev g : Forest
-  g = forest_with (xs ++ top_node (length xs) keys leaf_bits ∷ []) spare epoch room failed bad
+  g = forest_with (xs ++ top_node (length xs) keys leaf_bits ∷ []) spare epoch room failed bad met
 
   here : slice_get ys (length xs) ≡ Some new
   here = get_last xs new
@@ -197,7 +198,7 @@ module _ (xs : List Node) (keys : KeyClass) (leaf_bits spare epoch room failed b
       let q = same h.parent h.stands in
       record { parent = h.parent; stands = q.place.stands; link = ap (g.link h.parent) p.place.low ∙ q.link (f.low m) ∙ h.link }
 
-  pub adds_root : AllRooted xs → IsSound f → AddsRoot (forest_with xs spare epoch room failed bad) (forest_with (xs ++ top_node (length xs) keys leaf_bits ∷ []) spare epoch room failed bad) (length xs) keys leaf_bits
+  pub adds_root : AllRooted xs → IsSound f → AddsRoot (forest_with xs spare epoch room failed bad met) (forest_with (xs ++ top_node (length xs) keys leaf_bits ∷ []) spare epoch room failed bad met) (length xs) keys leaf_bits
   adds_root rooted sound = record {
     top = record {
       sound = record {
@@ -240,4 +241,5 @@ module _ (xs : List Node) (keys : KeyClass) (leaf_bits spare epoch room failed b
     room = refl;
     failed = refl;
     bad = refl;
+    met = refl;
   }

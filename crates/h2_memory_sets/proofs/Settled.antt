@@ -12,7 +12,8 @@ pub record Loose (f g : Forest) : Type 0 where
   pub place : (m : ℕ) → f.stands m ≡ true → g.stands m ≡ true → InPlace f g m
   pub copies : (m : ℕ) → f.stands m ≡ true → g.stands m ≡ true → g.copies m ≡ f.copies m
   pub writable : (m : ℕ) → f.stands m ≡ true → g.stands m ≡ true → g.writable m ≡ f.writable m
-  pub all_allowed : (m : ℕ) (r : Ref) → f.allows m r ≡ true
+  pub leaf_bits : (m : ℕ) → g.leaf_bits m ≡ f.leaf_bits m
+  pub allows : (m : ℕ) (r : Ref) → g.allows m r ≡ f.allows m r
   pub none_held : (m : ℕ) → f.held m ≡ false
   pub none_belonged : (m top k : ℕ) → f.belongs m top k ≡ false
   pub none_belong : (m top k : ℕ) → g.belongs m top k ≡ false
@@ -37,13 +38,13 @@ module _ (f g : Forest) (s : Loose f g) where
   pub fits_in : (m : ℕ) (r : Ref) → f.stands m ≡ true → g.stands m ≡ true → Fits f m r → Fits g m r
   fits_in m r st now h =
       let p = s.place m st now in
-      let grain : g.leaf_bits (g.root m) ≡ f.leaf_bits (f.root m) = ap g.leaf_bits p.root ∙ s.fixed.leaf_bits (f.root m) in
+      let grain : g.leaf_bits (g.root m) ≡ f.leaf_bits (f.root m) = ap g.leaf_bits p.root ∙ s.leaf_bits (f.root m) in
       record {
         held = h.held;
         aligned = h.aligned;
         class = h.class;
         leaf = λ k. h.leaf k ∙ sym grain;
-        allowed = λ k. s.fixed.allows (g.root m) r ∙ s.all_allowed (g.root m) r;
+        allowed = λ k. ap (λ n. g.allows n r) p.root ∙ s.allows (f.root m) r ∙ h.allowed k;
         wide = λ k. rw grain (h.wide k);
         some_bits = h.some_bits;
         falls = λ k. rw p.bits (h.falls k);

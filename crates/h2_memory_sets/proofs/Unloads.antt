@@ -8,6 +8,7 @@ use Rattle.std.proofs.lemmas.Bool.Decides.{nat_tests}
 use Rattle.std.proofs.lemmas.List.{length-map}
 use Rattle.std.proofs.lemmas.List.Quantifiers.{position-Some}
 use Rattle.std.proofs.lemmas.Option.{none-some, slice_get-get_or}
+use Rattle.h2_ref.specs.declared.faults.Why.{Why}
 use Rattle.h2_set.specs.Forest.{Forest, loaded, untold, IsSound, InPlace, HasParent}
 use Rattle.h2_memory_sets.specs.declared.node.Node.{Node}
 use Rattle.h2_memory_sets.specs.View.{stands_of, set_of, root_of, low_of, bits_of, writable_of, copies_of, leaf_bits_of, is_up, is_bare, is_top, is_child, link_to, link_of, forest_with, Block, block, stays_loaded, unloaded, unloaded_all, AllRooted}
@@ -96,15 +97,15 @@ pub blocks_stay : (from : ℕ) (xs : List Node) → map block (unloaded_all from
 blocks_stay from [] = refl
 blocks_stay from (x ∷ xs) = ap (λ (l : List Block). block x ∷ l) (blocks_stay from xs)
 
-module _ (xs : List Node) (from spare epoch room failed bad : ℕ) where
+module _ (xs : List Node) (from spare epoch room failed bad : ℕ) (met : Option (ℕ × Why)) where
   abbrev ys : List Node
   ys = unloaded_all from xs
 
   abbrev f : Forest
-  f = forest_with xs spare epoch room failed bad
+  f = forest_with xs spare epoch room failed bad met
 
   abbrev g : Forest
-  g = forest_with (unloaded_all from xs) spare epoch room failed bad
+  g = forest_with (unloaded_all from xs) spare epoch room failed bad met
 
   field : {X : Type 0} (F : Option Node → X) → ((x : Node) → F (Some (unloaded from x)) ≡ F (Some x)) → (m : ℕ) → F (slice_get ys m) ≡ F (slice_get xs m)
   field F same m = map_field F (unloaded from) xs same m
@@ -157,7 +158,7 @@ module _ (xs : List Node) (from spare epoch room failed bad : ℕ) where
         | inr ge ↦ let clash : true ≡ false = sym st ∙ goes h.parent (f.low m) m ge h.link in absurd (cc)
       ]
 
-  pub unloads : AllRooted xs → IsSound f → Unloads (forest_with xs spare epoch room failed bad) (forest_with (unloaded_all from xs) spare epoch room failed bad) from
+  pub unloads : AllRooted xs → IsSound f → Unloads (forest_with xs spare epoch room failed bad met) (forest_with (unloaded_all from xs) spare epoch room failed bad met) from
   unloads rooted sound = record {
     sound = record {
       node = λ m st.
@@ -186,7 +187,7 @@ module _ (xs : List Node) (from spare epoch room failed bad : ℕ) where
       owner = λ m t k st b. absurd (cc);
       epoch = sound.epoch;
     };
-    fixed = record { leaf_bits = field leaf_bits_of (λ x. refl); allows = λ m r. refl; held = λ m. refl; name = λ r. refl; epoch = refl; failed = omega arith; bad = omega arith };
+    fixed = record { leaf_bits = λ m st now. field leaf_bits_of (λ x. refl) m; allows = λ m r st now. refl; held = λ m. refl; name = λ r. refl; epoch = refl; failed = omega arith; bad = omega arith };
     stays = λ m st why. place m (stays m rooted st why);
     goes = goes;
     none_new = stood from xs;
@@ -199,4 +200,5 @@ module _ (xs : List Node) (from spare epoch room failed bad : ℕ) where
     room = refl;
     failed = refl;
     bad = refl;
+    met = refl;
   }

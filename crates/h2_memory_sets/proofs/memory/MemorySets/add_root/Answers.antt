@@ -19,4 +19,4 @@ returns-in-Ok-clause-added c =
     let xs = p.nodes.items in
     let items : c.add_top.new.nodes.items ≡ xs ++ top_node (length xs) c.args.keys c.args.leaf_bits ∷ [] = c.add_top.ensures.pushed ∙ ap (λ (l : List Node). l ++ top_node (length l) c.args.keys c.args.leaf_bits ∷ []) c.reserve.ensures.items in
     let number : c.add_top.result ≡ length xs = c.add_top.ensures.number ∙ ap length c.reserve.ensures.items in
-    subst (λ (k : ℕ). AddsRoot (forest_with xs p.spare p.epoch p.room p.failed p.bad) (forest_with c.add_top.new.nodes.items p.spare p.epoch p.room p.failed p.bad) k c.args.keys c.args.leaf_bits) (sym number) (subst (λ (ys : List Node). AddsRoot (forest_with xs p.spare p.epoch p.room p.failed p.bad) (forest_with ys p.spare p.epoch p.room p.failed p.bad) (length xs) c.args.keys c.args.leaf_bits) (sym items) (adds_root xs c.args.keys c.args.leaf_bits p.spare p.epoch p.room p.failed p.bad p.rooted c.requires.sound))
+    subst (λ (k : ℕ). AddsRoot (forest_with xs p.spare p.epoch p.room p.failed p.bad p.met) (forest_with c.add_top.new.nodes.items p.spare p.epoch p.room p.failed p.bad p.met) k c.args.keys c.args.leaf_bits) (sym number) (subst (λ (ys : List Node). AddsRoot (forest_with xs p.spare p.epoch p.room p.failed p.bad p.met) (forest_with ys p.spare p.epoch p.room p.failed p.bad p.met) (length xs) c.args.keys c.args.leaf_bits) (sym items) (adds_root xs c.args.keys c.args.leaf_bits p.spare p.epoch p.room p.failed p.bad p.met p.rooted c.requires.sound))

@@ -14,7 +14,7 @@ invariant_of-self-clause-rooted c =
 pub returns-clause-unloads : goal.returns-clause-unloads
 returns-clause-unloads c =
     let p = c.args.self.now in
-    subst (λ (ys : List Node). Unloads (forest_with p.nodes.items p.spare p.epoch p.room p.failed p.bad) (forest_with ys p.spare p.epoch p.room p.failed p.bad) c.args.from) (sym (rewritten p.nodes.items c.deref_mut.result.now c.unload_all.new.nodes p.nodes.len c.args.from (sym (c.unload_all.auto.nodes ∙ c.deref_mut.ensures.len)) c.deref_mut.ensures.value c.unload_all.ensures)) (unloads p.nodes.items c.args.from p.spare p.epoch p.room p.failed p.bad p.rooted c.requires.sound)
+    subst (λ (ys : List Node). Unloads (forest_with p.nodes.items p.spare p.epoch p.room p.failed p.bad p.met) (forest_with ys p.spare p.epoch p.room p.failed p.bad p.met) c.args.from) (sym (rewritten p.nodes.items c.deref_mut.result.now c.unload_all.new.nodes p.nodes.len c.args.from (sym (c.unload_all.auto.nodes ∙ c.deref_mut.ensures.len)) c.deref_mut.ensures.value c.unload_all.ensures)) (unloads p.nodes.items c.args.from p.spare p.epoch p.room p.failed p.bad p.met p.rooted c.requires.sound)
 
 pub returns-clause-blocks : goal.returns-clause-blocks
 returns-clause-blocks c =

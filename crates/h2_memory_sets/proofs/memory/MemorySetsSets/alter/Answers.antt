@@ -19,7 +19,7 @@ returns-clause-alters c =
     let items = written recounted_all _ c.deref_mut-2.result.now c.recount_all.new.nodes p.nodes.len (sym (c.recount_all.auto.nodes ∙ c.deref_mut-2.ensures.len)) c.deref_mut-2.ensures.value c.recount_all.ensures ∙ ap recounted_all (one ∙ ap (λ (at : Place). marked_all at xs) c.place_of-place.ensures) in
     let copies : copies_of (slice_get xs c.args.at.0) ≡ x.copies = ap copies_of read in
     let enough = c.requires.room in
-    subst (λ (ys : List Node). Alters (forest_with xs p.spare p.epoch p.room p.failed p.bad) (forest_with ys p.spare p.epoch (p.room - x.copies) p.failed p.bad) c.args.at.0) (sym items) (alters xs c.args.at.0 x read p.spare p.epoch p.room (p.room - x.copies) p.failed p.bad c.requires.sound c.requires.stands (omega (arith, copies, enough)))
+    subst (λ (ys : List Node). Alters (forest_with xs p.spare p.epoch p.room p.failed p.bad p.met) (forest_with ys p.spare p.epoch (p.room - x.copies) p.failed p.bad p.met) c.args.at.0) (sym items) (alters xs c.args.at.0 x read p.spare p.epoch p.room (p.room - x.copies) p.failed p.bad p.met c.requires.sound c.requires.stands (omega (arith, copies, enough)))
 
 pub invariant_of-self-clause-rooted : goal.invariant_of-self-clause-rooted
 invariant_of-self-clause-rooted c =
@@ -29,4 +29,4 @@ invariant_of-self-clause-rooted c =
     let read = slice_get_read xs _ c.args.at.0 x refl (is_there xs c.args.at.0 c.requires.stands) c.index-x.ensures in
     let one = written (marked_all c.place_of-place.result) xs c.deref_mut.result.now c.mark_all.new.nodes p.nodes.len (sym (c.mark_all.auto.nodes ∙ c.deref_mut.ensures.len)) c.deref_mut.ensures.value c.mark_all.ensures in
     let items = written recounted_all _ c.deref_mut-2.result.now c.recount_all.new.nodes p.nodes.len (sym (c.recount_all.auto.nodes ∙ c.deref_mut-2.ensures.len)) c.deref_mut-2.ensures.value c.recount_all.ensures ∙ ap recounted_all (one ∙ ap (λ (at : Place). marked_all at xs) c.place_of-place.ensures) in
-    subst AllRooted (sym items) (rooted_still xs (λ u. u.dirty || is_above (place_of x) u) p.spare p.epoch p.room p.failed p.bad c.requires.sound p.rooted)
+    subst AllRooted (sym items) (rooted_still xs (λ u. u.dirty || is_above (place_of x) u) p.spare p.epoch p.room p.failed p.bad p.met c.requires.sound p.rooted)

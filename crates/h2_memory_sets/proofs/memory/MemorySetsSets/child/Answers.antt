@@ -6,7 +6,7 @@ use Rattle.h2_set.specs.StayLaws.{Walks-refl, Unchanged-walks}
 use Rattle.h2_set.specs.Forest.{Loads, loaded}
 use Rattle.h2_memory_sets.specs.View.{forest_with, is_child, link_of}
 use Rattle.h2_memory_sets.proofs.Nodes.{unchanged_nodes, is_there}
-use Rattle.h2_memory_sets.proofs.Bringing.{ref_there, ref_same, loads_nothing, not_loaded, is_loaded, loadable_in, loadable_within, loadable_away, brings}
+use Rattle.h2_memory_sets.proofs.Bringing.{ref_there, ref_same, loads_nothing, not_loaded, not_told, is_loaded, loadable_in, loadable_within, loadable_away, brings}
 use Rattle.h2_memory_sets.proofs.Rooted.{rooted_bring, root_not}
 use Rattle.h2_memory_sets.proofs.memory.MemorySetsSets.child.Goals as goal
 
@@ -22,15 +22,15 @@ returns-in-Some-clause-ok c = λ r read.
     is_loaded xs c.args.at.0 c.args.i c.in-Some.c r found read (c.requires.indirect.indirect r read)
 
 pub returns-in-Some-clause-loads : goal.returns-in-Some-clause-loads
-returns-in-Some-clause-loads c = λ r read. let p = c.args.self.now in loads_nothing p.nodes.items p.spare p.epoch p.room p.failed p.failed p.bad p.bad _ _
+returns-in-Some-clause-loads c = λ r read. let p = c.args.self.now in loads_nothing p.nodes.items p.spare p.epoch p.room p.failed p.failed p.bad p.bad p.met p.met _ _
 
 pub returns-then-is_due-clause-walks : goal.returns-then-is_due-clause-walks
 returns-then-is_due-clause-walks c =
     let p = c.args.self.now in
-    Unchanged-walks _ _ (unchanged_nodes p.nodes.items p.spare p.epoch p.room p.failed c.one_more-self.result p.bad p.bad c.one_more-self.ensures.more (omega arith) c.requires.sound)
+    Unchanged-walks _ _ (unchanged_nodes p.nodes.items p.spare p.epoch p.room p.failed c.one_more-self.result p.bad p.bad p.met p.met c.one_more-self.ensures.more (omega arith) c.requires.sound)
 
 pub returns-then-is_due-clause-loads : goal.returns-then-is_due-clause-loads
-returns-then-is_due-clause-loads c = λ r read. let p = c.args.self.now in loads_nothing p.nodes.items p.spare p.epoch p.room p.failed c.one_more-self.result p.bad p.bad _ _
+returns-then-is_due-clause-loads c = λ r read. let p = c.args.self.now in loads_nothing p.nodes.items p.spare p.epoch p.room p.failed c.one_more-self.result p.bad p.bad p.met p.met _ _
 
 pub returns-then-is_due-clause-unloaded : goal.returns-then-is_due-clause-unloaded
 returns-then-is_due-clause-unloaded c = λ r d read link.
@@ -46,10 +46,10 @@ find_unspoiled-requires-clause-there c = rw c.deref-2.ensures.value (is_there _ 
 pub returns-in_default-find_unspoiled-clause-walks : goal.returns-in_default-find_unspoiled-clause-walks
 returns-in_default-find_unspoiled-clause-walks c =
     let p = c.args.self.now in
-    Unchanged-walks _ _ (unchanged_nodes p.nodes.items p.spare p.epoch p.room p.failed p.failed p.bad c.one_more-self-in_default-find_unspoiled.result (omega arith) c.one_more-self-in_default-find_unspoiled.ensures.more c.requires.sound)
+    Unchanged-walks _ _ (unchanged_nodes p.nodes.items p.spare p.epoch p.room p.failed p.failed p.bad c.one_more-self-in_default-find_unspoiled.result p.met _ (omega arith) c.one_more-self-in_default-find_unspoiled.ensures.more c.requires.sound)
 
 pub returns-in_default-find_unspoiled-clause-loads : goal.returns-in_default-find_unspoiled-clause-loads
-returns-in_default-find_unspoiled-clause-loads c = λ r read. let p = c.args.self.now in loads_nothing p.nodes.items p.spare p.epoch p.room p.failed p.failed p.bad c.one_more-self-in_default-find_unspoiled.result _ _
+returns-in_default-find_unspoiled-clause-loads c = λ r read. let p = c.args.self.now in loads_nothing p.nodes.items p.spare p.epoch p.room p.failed p.failed p.bad c.one_more-self-in_default-find_unspoiled.result p.met _ _ _
 
 pub returns-in_default-find_unspoiled-clause-unloaded : goal.returns-in_default-find_unspoiled-clause-unloaded
 returns-in_default-find_unspoiled-clause-unloaded c = λ r d read link.
@@ -90,7 +90,7 @@ returns-clause-walks c =
     let y = slice_get_read xs _ k c.index_mut.result.now refl (loadable_within xs at k q l) c.index_mut.ensures.value in
     let none = ap (position (is_child at q.key)) (sym c.deref.ensures.value) ∙ sym c.find_child.ensures ∙ c.in_default.is in
     let read' = ref_there xs at c.args.i c.index.result.now q node c.at.ensures in
-    let b = brings xs p.spare p.epoch p.room p.failed p.bad at c.args.i k q c.index-x.result.now c.index_mut.result.now c.bring_in.new.x c.requires.sound c.requires.stands l none (root_not xs at k p.rooted c.requires.stands (loadable_away xs at k q l)) read' (c.requires.indirect.indirect q read') node' y c.bring_in.ensures in
+    let b = brings xs p.spare p.epoch p.room p.failed p.bad p.met at c.args.i k q c.index-x.result.now c.index_mut.result.now c.bring_in.new.x c.requires.sound c.requires.stands l none (root_not xs at k p.rooted c.requires.stands (loadable_away xs at k q l)) read' (c.requires.indirect.indirect q read') node' y c.bring_in.ensures in
     b.walked
 
 pub returns-clause-ok : goal.returns-clause-ok
@@ -107,7 +107,7 @@ returns-clause-ok c = λ r read.
     let y = slice_get_read xs _ k c.index_mut.result.now refl (loadable_within xs at k q l) c.index_mut.ensures.value in
     let none = ap (position (is_child at q.key)) (sym c.deref.ensures.value) ∙ sym c.find_child.ensures ∙ c.in_default.is in
     let read' = ref_there xs at c.args.i c.index.result.now q node c.at.ensures in
-    let b = brings xs p.spare p.epoch p.room p.failed p.bad at c.args.i k q c.index-x.result.now c.index_mut.result.now c.bring_in.new.x c.requires.sound c.requires.stands l none (root_not xs at k p.rooted c.requires.stands (loadable_away xs at k q l)) read' (c.requires.indirect.indirect q read') node' y c.bring_in.ensures in
+    let b = brings xs p.spare p.epoch p.room p.failed p.bad p.met at c.args.i k q c.index-x.result.now c.index_mut.result.now c.bring_in.new.x c.requires.sound c.requires.stands l none (root_not xs at k p.rooted c.requires.stands (loadable_away xs at k q l)) read' (c.requires.indirect.indirect q read') node' y c.bring_in.ensures in
     subst (λ (z : Ref). link_of (slice_set xs k c.bring_in.new.x) at z.key ≡ loaded k) (ref_same xs at c.args.i c.index.result.now q node c.at.ensures r read) b.link
 
 pub returns-clause-loads : goal.returns-clause-loads
@@ -124,8 +124,8 @@ returns-clause-loads c = λ r read.
     let y = slice_get_read xs _ k c.index_mut.result.now refl (loadable_within xs at k q l) c.index_mut.ensures.value in
     let none = ap (position (is_child at q.key)) (sym c.deref.ensures.value) ∙ sym c.find_child.ensures ∙ c.in_default.is in
     let read' = ref_there xs at c.args.i c.index.result.now q node c.at.ensures in
-    let b = brings xs p.spare p.epoch p.room p.failed p.bad at c.args.i k q c.index-x.result.now c.index_mut.result.now c.bring_in.new.x c.requires.sound c.requires.stands l none (root_not xs at k p.rooted c.requires.stands (loadable_away xs at k q l)) read' (c.requires.indirect.indirect q read') node' y c.bring_in.ensures in
-    subst (λ (z : Ref). Loads (forest_with xs p.spare p.epoch p.room p.failed p.bad) (forest_with (slice_set xs k c.bring_in.new.x) p.spare p.epoch p.room p.failed p.bad) at z.key) (ref_same xs at c.args.i c.index.result.now q node c.at.ensures r read) b.loaded_there
+    let b = brings xs p.spare p.epoch p.room p.failed p.bad p.met at c.args.i k q c.index-x.result.now c.index_mut.result.now c.bring_in.new.x c.requires.sound c.requires.stands l none (root_not xs at k p.rooted c.requires.stands (loadable_away xs at k q l)) read' (c.requires.indirect.indirect q read') node' y c.bring_in.ensures in
+    subst (λ (z : Ref). Loads (forest_with xs p.spare p.epoch p.room p.failed p.bad p.met) (forest_with (slice_set xs k c.bring_in.new.x) p.spare p.epoch p.room p.failed p.bad p.met) at z.key) (ref_same xs at c.args.i c.index.result.now q node c.at.ensures r read) b.loaded_there
 
 pub invariant_of-self-2-clause-rooted : goal.invariant_of-self-2-clause-rooted
 invariant_of-self-2-clause-rooted c =
@@ -143,9 +143,15 @@ invariant_of-self-2-clause-rooted c =
 pub returns-then-is_due-clause-same : goal.returns-then-is_due-clause-same
 returns-then-is_due-clause-same c =
     let p = c.args.self.now in
-    unchanged_nodes p.nodes.items p.spare p.epoch p.room p.failed c.one_more-self.result p.bad p.bad c.one_more-self.ensures.more (omega arith) c.requires.sound
+    unchanged_nodes p.nodes.items p.spare p.epoch p.room p.failed c.one_more-self.result p.bad p.bad p.met p.met c.one_more-self.ensures.more (omega arith) c.requires.sound
 
 pub returns-in_default-find_unspoiled-clause-same : goal.returns-in_default-find_unspoiled-clause-same
 returns-in_default-find_unspoiled-clause-same c =
     let p = c.args.self.now in
-    unchanged_nodes p.nodes.items p.spare p.epoch p.room p.failed p.failed p.bad c.one_more-self-in_default-find_unspoiled.result (omega arith) c.one_more-self-in_default-find_unspoiled.ensures.more c.requires.sound
+    unchanged_nodes p.nodes.items p.spare p.epoch p.room p.failed p.failed p.bad c.one_more-self-in_default-find_unspoiled.result p.met _ (omega arith) c.one_more-self-in_default-find_unspoiled.ensures.more c.requires.sound
+
+pub returns-then-is_due-clause-good : goal.returns-then-is_due-clause-good
+returns-then-is_due-clause-good c = λ r l read link bad. bad
+
+pub returns-in_default-find_unspoiled-clause-good : goal.returns-in_default-find_unspoiled-clause-good
+returns-in_default-find_unspoiled-clause-good c = λ r l read link bad. not_told c.args.self.now.nodes.items c.args.at.0 r.key l link

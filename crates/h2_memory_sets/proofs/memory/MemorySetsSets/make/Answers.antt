@@ -62,10 +62,10 @@ returns-clause-makes c =
     let items : c.add_node.new.nodes.items ≡ parted xs c.args.at.0 it.0 whole c.args.split.moved r = c.add_node.ensures.parted it.0 it.1 ∙ ap (λ (s : RefSet). parted xs c.args.at.0 it.0 s c.args.split.moved r) kept_is in
     let spare : p.spare - 1 + 1 ≡ p.spare = (let one = c.requires.space.0 in omega (arith, one)) in
     let room : p.room - 1 + 1 ≡ p.room = (let one = c.requires.space.1 in omega (arith, one)) in
-    let d = differs_by_make xs c.args.at.0 it.0 c.args.set c.args.split r it.1 n.key n.keybits (root_not xs c.args.at.0 (length xs) p.rooted c.requires.stands (ap stands_of (slice_get_past xs (length xs) (omega arith)))) p.spare (p.spare - 1) p.epoch p.room (p.room - 1) p.failed p.bad spare room in
-    let made = makes _ _ _ _ r _ c.requires.sound c.requires.stands c.requires.split.1 n.indirect n.key n.keybits _ _ d n.held in
+    let d = differs_by_make xs c.args.at.0 it.0 c.args.set c.args.split r it.1 n.key n.keybits (root_not xs c.args.at.0 (length xs) p.rooted c.requires.stands (ap stands_of (slice_get_past xs (length xs) (omega arith)))) p.spare (p.spare - 1) p.epoch p.room (p.room - 1) p.failed p.bad p.met spare room in
+    let made = makes _ _ _ _ r _ c.requires.sound c.requires.stands c.requires.split.1 n.indirect n.key n.keybits _ _ d n.held n.dated in
     let place : length xs ≡ c.len-c.result = sym (c.len-c.ensures ∙ p.nodes.ok.0) in
-    subst (λ (ys : List Node). Makes (forest_with xs p.spare p.epoch p.room p.failed p.bad) (forest_with ys (p.spare - 1) p.epoch (p.room - 1) p.failed p.bad) c.args.at.0 c.len-c.result c.args.set c.args.split) (sym items) (subst (λ (k : ℕ). Makes (forest_with xs p.spare p.epoch p.room p.failed p.bad) (forest_with (parted xs c.args.at.0 it.0 whole c.args.split.moved r) (p.spare - 1) p.epoch (p.room - 1) p.failed p.bad) c.args.at.0 k c.args.set c.args.split) place made)
+    subst (λ (ys : List Node). Makes (forest_with xs p.spare p.epoch p.room p.failed p.bad p.met) (forest_with ys (p.spare - 1) p.epoch (p.room - 1) p.failed p.bad p.met) c.args.at.0 c.len-c.result c.args.set c.args.split) (sym items) (subst (λ (k : ℕ). Makes (forest_with xs p.spare p.epoch p.room p.failed p.bad p.met) (forest_with (parted xs c.args.at.0 it.0 whole c.args.split.moved r) (p.spare - 1) p.epoch (p.room - 1) p.failed p.bad p.met) c.args.at.0 k c.args.set c.args.split) place made)
 
 pub invariant_of-self-clause-rooted : goal.invariant_of-self-clause-rooted
 invariant_of-self-clause-rooted c =
