@@ -1,5 +1,5 @@
 -- Roots of inodes, and what is read of them.
-use Rattle.std.specs.Prelude.{◌≡◌, ℕ, Bool, true, false, ◌&&◌, List, Option, Some, None, slice_get}
+use Rattle.std.specs.Prelude.{◌≡◌, ℕ, Bool, true, false, ◌&&◌, List, Option, Some, None, slice_get, map}
 use Rattle.std.specs.List.{position}
 use Rattle.h2_ref.specs.declared.reference.Ref.{Ref}
 use Rattle.h2_set.specs.RefSet.{RefSet, IsRefSet}
@@ -62,9 +62,13 @@ abbrev pub is_unowned : Option Owner → Bool
 is_unowned None = true
 is_unowned (Some o) = false
 
--- a node that stays loaded where its tree isn't that of an inode which a leaf names
-abbrev pub unsought : List Node → Node → Node
-unsought xs x = record { set = x.set; loaded = x.loaded && is_unowned (owner_of (slice_get xs x.root)); up = x.up; root = x.root; low = x.low; bits = x.bits; dirty = x.dirty; copies = x.copies; leaf_bits = x.leaf_bits; inode = x.inode; owner = x.owner; held = x.held; leaves = x.leaves }
+-- a node that is loaded or not
+abbrev pub with_loaded : Bool → Node → Node
+with_loaded loaded x = record { set = x.set; loaded = loaded; up = x.up; root = x.root; low = x.low; bits = x.bits; dirty = x.dirty; copies = x.copies; leaf_bits = x.leaf_bits; inode = x.inode; owner = x.owner; held = x.held; leaves = x.leaves }
+
+-- nodes of which those aren't loaded whose tree a leaf names
+abbrev pub unsought_all : List Node → List Node
+unsought_all xs = map (λ x. with_loaded (x.loaded && is_unowned (owner_of (slice_get xs x.root))) x) xs
 
 -- whether a root is held or not
 abbrev pub with_held : Bool → Node → Node

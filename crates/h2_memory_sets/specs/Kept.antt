@@ -1,5 +1,5 @@
 -- What stands at any time of the nodes of inodes, loaded or not.
-use Rattle.std.specs.Prelude.{◌≡◌, ℕ, ◌<◌, true, List, Option, Some, None, slice_get}
+use Rattle.std.specs.Prelude.{◌≡◌, ℕ, ◌<◌, true, List, Option, Some, None, length, slice_get}
 use Rattle.h2_inode.specs.declared.inode.Inode.{Inode}
 use Rattle.h2_inode.specs.Inode.{keys_from}
 use Rattle.h2_inode.specs.Nodes.{leaf_keybits, set_of as set_of_body}
@@ -23,8 +23,10 @@ pub record IsRootOf (i : ℕ) (x : Node) (v : Inode) : Type 0 where
   -- its number is the key of the leaf that names it
   pub number : (o : Owner) → x.owner ≡ Some o → v.number ≡ o.key
 
--- each node that a leaf names is a root, and so is each that has an inode; no leaf names two loaded roots
+-- each node that a leaf names is a root, and so is each that has an inode; no leaf names two loaded roots; nothing is
+-- below a node that isn't there
 pub record AreKept (xs : List Node) : Type 0 where
+  pub above : (i : ℕ) (x : Node) (u : ℕ) → slice_get xs i ≡ Some x → x.up ≡ Some u → u < length xs
   pub owner : (i : ℕ) (x : Node) (o : Owner) → slice_get xs i ≡ Some x → x.owner ≡ Some o → IsNamedRoot i x o
   pub inode : (i : ℕ) (x : Node) (v : Inode) → slice_get xs i ≡ Some x → x.inode ≡ Some v → IsRootOf i x v
   pub one : (i j : ℕ) (x y : Node) (o : Owner) → slice_get xs i ≡ Some x → slice_get xs j ≡ Some y → x.loaded ≡ true → y.loaded ≡ true → x.owner ≡ Some o → y.owner ≡ Some o → i ≡ j
