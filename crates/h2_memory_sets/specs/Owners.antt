@@ -1,5 +1,5 @@
 -- Which leaves name the roots of inodes, and which leaves their trees may have.
-use Rattle.std.specs.Prelude.{ℕ, zero, suc, Bool, true, false, ◌&&◌, ◌||◌, ◌==◌, List, [], Option, Some, None, slice_get}
+use Rattle.std.specs.Prelude.{ℕ, zero, suc, not, Bool, true, false, ◌&&◌, ◌||◌, ◌==◌, List, [], Option, Some, None, slice_get}
 use Rattle.h2_ref.specs.declared.reference.Kind.{Kind}
 use Rattle.h2_ref.specs.declared.reference.Kind.TheVariants.{Empty, Inode as Inode_kind, Indirect, Content, Dirent, MapNode, MapLeaf}
 use Rattle.h2_ref.specs.declared.reference.Ref.{Ref}
@@ -71,9 +71,10 @@ abbrev pub inode_allows : InodeKind → Body → Ref → Bool
 inode_allows kind (Refs s) r = is_leaf_of kind r.kind && is_held r
 inode_allows kind (Bytes bytes) r = false
 
--- whether the tree of a root without an inode may have the leaf
+-- whether the tree of a root without an inode may have the leaf: where it isn't one of inodes alone, it has none that
+-- names an inode
 abbrev pub tree_allows : Leaves → Ref → Bool
-tree_allows Any r = true
+tree_allows Any r = not (is_leaf_of Pfs r.kind)
 tree_allows Inodes r = is_leaf_of Pfs r.kind && is_held r
 
 abbrev pub allowed_by : Option Inode → Leaves → Ref → Bool
@@ -82,7 +83,7 @@ allowed_by (Some i) leaves r = inode_allows i.kind i.body r
 
 -- of a root, whether its tree may have the leaf
 abbrev pub allows_of : Option Node → Ref → Bool
-allows_of None r = true
+allows_of None r = false
 allows_of (Some x) r = allowed_by x.inode x.leaves r
 
 -- whether a root is held

@@ -24,11 +24,11 @@ pub record AddsRoot (f g : Forest) (c : ℕ) (keys : KeyClass) (leaf_bits : ℕ)
   pub set : g.set c ≡ record { refs = []; capacity = 4 }
   pub writable : g.writable c ≡ true
   pub link : (k : ℕ) → g.link c k ≡ untold
-  pub allows : (r : Ref) → g.allows c r ≡ true
+  pub allows : (r : Ref) → (r.kind ≡ Inode → ⊥) → g.allows c r ≡ true
   pub held : g.held c ≡ false
   pub others : (m : ℕ) → f.stands m ≡ true → Same f g m
   pub others_leaf_bits : (m : ℕ) → (m ≡ c → ⊥) → g.leaf_bits m ≡ f.leaf_bits m
-  pub others_allow : (m : ℕ) (r : Ref) → g.allows m r ≡ f.allows m r
+  pub others_allow : (m : ℕ) (r : Ref) → (m ≡ c → ⊥) → g.allows m r ≡ f.allows m r
   pub others_held : (m : ℕ) → g.held m ≡ f.held m
   pub none_new : (m : ℕ) → (m ≡ c → ⊥) → g.stands m ≡ f.stands m
   pub name : (r : Ref) → g.name r ≡ f.name r

@@ -1,5 +1,5 @@
 //! Which leaves a tree may have.
-ghost use Rattle.std.specs.Prelude.{◌≡◌, ◌&&◌, Some};
+ghost use Rattle.std.specs.Prelude.{◌≡◌, ◌&&◌, not, Some};
 ghost use Rattle.h2_memory_sets.specs.Held.{is_held};
 ghost use Rattle.h2_memory_sets.specs.Owners.{is_leaf_of, inode_allows, tree_allows, allows_of};
 
@@ -41,7 +41,7 @@ fn tree_allows(leaves: Leaves, r: &Ref) -> bool
     ensures { result ≡ tree_allows leaves r.now }
 {
     match leaves {
-        Leaves::Any => true,
+        Leaves::Any => !is_leaf_of(InodeKind::Pfs, r.kind),
         Leaves::Inodes => is_leaf_of(InodeKind::Pfs, r.kind) && is_held(r),
     }
 }

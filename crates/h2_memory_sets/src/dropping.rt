@@ -1,5 +1,5 @@
 //! Nodes below references that are lost.
-ghost use Rattle.std.specs.Prelude.{◌≡◌, ◌&&◌, ◌||◌, ◌<◌, length, slice_get, Some};
+ghost use Rattle.std.specs.Prelude.{◌≡◌, ◌&&◌, ◌||◌, ◌<◌, length, slice_get, Some, if◌then◌else◌};
 ghost use Rattle.h2_memory_sets.specs.declared.node.Node.{Node};
 ghost use Rattle.h2_set.specs.Ranges.{holds};
 ghost use Rattle.h2_memory_sets.specs.View.{names_same, lacks, loses, goes, goes_with, lost, dropped_all};
@@ -69,13 +69,15 @@ fn is_dropped(nodes: &[Node], i: usize, root: u32, bits: u8, old: &Set, new: &Se
         || is_over_lost(nodes, x.root as u64 + 1, x.root, root, old, new)
 }
 
-// Lets a node stand no longer, nor be loaded again.
-fn lose(x: &mut Node)
-    ensures { x.new ≡ lost x.old }
+// Lets a node stand no longer, nor be loaded again, where it is dropped.
+fn lose_one(x: &mut Node, is_dropped: bool)
+    ensures { x.new ≡ if is_dropped then lost x.old else x.old }
 {
-    x.loaded = false;
-    x.up = None;
-    x.inode = None;
+    if is_dropped {
+        x.loaded = false;
+        x.up = None;
+        x.inode = None;
+    }
 }
 
 /// Drops what is below references that are in `old` and not in `new`, or belongs to what these lead to, where `old` is
@@ -84,8 +86,7 @@ pub(crate) fn drop_all(nodes: &mut [Node], root: u32, bits: u8, old: &Set, new: 
     ensures { nodes.new ≡ dropped_all root bits old.now.refs new.now.refs nodes.old }
 {
     for i in 0..nodes.len() {
-        if is_dropped(nodes, i, root, bits, old, new) {
-            lose(&mut nodes[i]);
-        }
+        let is_gone = is_dropped(nodes, i, root, bits, old, new);
+        lose_one(&mut nodes[i], is_gone);
     }
 }

@@ -121,7 +121,7 @@ impl MemorySets {
         self.refused = which;
     }
 
-    /// Adds the root of a tree: a node with an empty set of capacity 4. After a refusal nothing has changed.
+    /// Adds the root of a tree without inodes: a node with an empty set of capacity 4. After a refusal nothing has changed.
     pub fn add_root(&mut self, keys: KeyClass, leaf_bits: u8) -> Result<NodeId, NoMemory>
         requires sound { IsSound (forest_of self.old) }
         ensures added { IfOk result (λ c. AddsRoot (forest_of self.old) (forest_of self.new) c.0 keys leaf_bits) }

@@ -21,7 +21,7 @@ pub(crate) struct Owner {
 /// Which leaves a tree may have whose root isn't that of an inode.
 #[derive(Clone, Copy)]
 pub(crate) enum Leaves {
-    /// Every leaf.
+    /// Every leaf but those that name inodes.
     Any,
     /// Those that name inodes, and can be written.
     Inodes,
