@@ -128,7 +128,8 @@ others_hold fields f g at old new tells later h = λ m ne stood stands. ap field
 pub walks_reread : (u v : View) → IsSound u.forest → Walks u.forest v.forest → HoldsOn u v → TellsOn u v → Rereads u v
 walks_reread u v sound h holds told =
     rootless_reread u v sound h.sound h.stays
-    (λ m i is. inode_held u.forest v.forest u.holds v.holds m i (h.stays m is.stands).place (h.fixed.leaf_bits m) (h.fixed.allows m) (h.sets m is.stands) (holds m is.stands (h.stays m is.stands).place.stands) is)
+    (λ m i is. inode_held u.forest v.forest u.holds v.holds m i (h.stays m is.stands).place (h.fixed.leaf_bits m is.stands (h.stays m is.stands).place.stands)
+    (λ r. h.fixed.allows m r is.stands (h.stays m is.stands).place.stands) (h.sets m is.stands) (holds m is.stands (h.stays m is.stands).place.stands) is)
     told h.roots h.fixed.name
 
 -- a load that failed
@@ -139,7 +140,8 @@ unchanged_reread u v sound h holds told = walks_reread u v sound (Unchanged-walk
 pub readies_reread : (u v : View) → IsSound u.forest → ReadiesOnly u.forest v.forest → HoldsOn u v → TellsOn u v → Rereads u v
 readies_reread u v sound h holds told =
     rootless_reread u v sound h.sound (λ m stands. Same-Stays u.forest v.forest m (h.same m stands))
-    (λ m i is. inode_held u.forest v.forest u.holds v.holds m i (h.same m is.stands).place (h.fixed.leaf_bits m) (h.fixed.allows m) (h.same m is.stands).set (holds m is.stands (h.same m is.stands).place.stands) is)
+    (λ m i is. inode_held u.forest v.forest u.holds v.holds m i (h.same m is.stands).place (h.fixed.leaf_bits m is.stands (h.same m is.stands).place.stands)
+    (λ r. h.fixed.allows m r is.stands (h.same m is.stands).place.stands) (h.same m is.stands).set (holds m is.stands (h.same m is.stands).place.stands) is)
     told (λ m stands root. h.none_new m stands) h.fixed.name
 
 -- The load of an inode

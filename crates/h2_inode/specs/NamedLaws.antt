@@ -129,7 +129,7 @@ module _ (u v : View) (at : ℕ) (s : RefSet) (h : Replaces u.forest v.forest at
     -- the inodes of other roots stay
     pub replaces_inode : (m : ℕ) (i : Inode) → (m ≡ at → ⊥) → v.forest.stands m ≡ true → HasInode u.forest u.holds m i → HasInode v.forest v.holds m i
     replaces_inode m i ne stands has =
-        inode_held u.forest v.forest u.holds v.holds m i (replaces_place m has.stands stands) (h.leaf_bits m has.stands) (λ r. h.allows m r has.stands ne) (replaces_kept m has.stands stands ne).set (holds m ne has.stands stands) has
+        inode_held u.forest v.forest u.holds v.holds m i (replaces_place m has.stands stands) (h.leaf_bits m has.stands stands) (λ r. h.allows m r has.stands stands ne) (replaces_kept m has.stands stands ne).set (holds m ne has.stands stands) has
 
     -- A leaf that named the root names the new inode. Each other one names the same as before, if the root that it names
     -- stands still, or if it isn't loaded.

@@ -1,8 +1,9 @@
 -- What callers over inodes may rely on: names and trees stay where nodes stay, and an inode's leaves are those of its set.
-use Rattle.std.specs.Prelude.{◌≡◌, ◌⊎◌, ◌↔◌, ◌<◌, ◌≤◌, ◌+◌, ◌^◌, ℕ, true, List, [], Option, refl}
-use Rattle.std.proofs.Common.{ap, sym, ◌∙◌, subst, inl}
+use Rattle.std.specs.Prelude.{◌≡◌, ◌⊎◌, ◌↔◌, ◌<◌, ◌≤◌, ◌+◌, ◌^◌, ℕ, true, false, List, [], Option, refl}
+use Rattle.std.proofs.Common.{ap, sym, ◌∙◌, subst, inl, inr}
+use Rattle.std.proofs.lemmas.Bool.{cases_Bool}
 use Rattle.h2_ref.specs.declared.reference.Ref.{Ref}
-use Rattle.h2_set.specs.Ranges.{Rising}
+use Rattle.h2_set.specs.Ranges.{Rising, is_indirect}
 use Rattle.h2_set.specs.RefSet.{RefSet}
 use Rattle.h2_inode.specs.declared.kind.InodeKind.{InodeKind}
 use Rattle.h2_set.specs.Forest.{Forest, refs, HasLeaves, done, LeavesOf, KeepsLeaves, Alike, IsSound, loaded, InPlace, Same, Stays, Fits, Storable, GoesWith, Stores}
@@ -106,15 +107,19 @@ no_leaves f holds at i h none = inode_leaves f holds at i [] h (subst (λ rs. Ha
 
 fits_in : (f : Forest) (at : ℕ) (kind : InodeKind) (t : RefSet) (r : Ref) → f.root at ≡ at → IsTreeOf f at kind (Refs t) → Fits f at r → FitsIn kind r
 fits_in f at kind t r root tree h = record {
-  held = h.held;
+  -- an indirect reference fits only where it can be written, and a leaf is one of those that the inode may have
+  held = elim (cases_Bool (is_indirect r)) [ inl ind ↦ h.held ind | inr leaf ↦ (may leaf).1 ];
   aligned = h.aligned;
   class = h.class;
   leaf = λ e. h.leaf e ∙ ap f.leaf_bits root ∙ tree.leaf_bits;
-  allowed = λ e. (tree.allows r).0 (subst (λ m. f.allows m r ≡ true) root (h.allowed e));
+  allowed = λ e. (may e).0;
   wide = λ e. subst (λ n. n ≤ r.keybits) (ap f.leaf_bits root ∙ tree.leaf_bits) (h.wide e);
   some_bits = h.some_bits;
   falls = λ e. subst (λ n. r.keybits < n) tree.bits (h.falls e);
 }
+  where
+    may : is_indirect r ≡ false → MayHave kind (Refs t) r
+    may e = (tree.allows r).0 (subst (λ m. f.allows m r ≡ true) root (h.allowed e))
 
 pub storable_replaceable : (f : Forest) (holds : ℕ → Option Fields) (at : ℕ) (i : Inode) (t s : RefSet) → i.body ≡ Refs t → t.capacity ≡ 4 → HasInode f holds at i → Storable f at s → Replaceable f at i.kind s
 storable_replaceable f holds at i t s body four h may = record {

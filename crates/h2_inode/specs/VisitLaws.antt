@@ -1,6 +1,7 @@
 -- Loads, of indirect blocks and of inodes: they chain, and keep the leaves of all trees, loaded paths, names, and inodes.
-use Rattle.std.specs.Prelude.{◌≡◌, ℕ, true, slice_get, Option}
-use Rattle.std.proofs.Common.{ap, sym, ◌∙◌, arith}
+use Rattle.std.specs.Prelude.{◌≡◌, ℕ, true, false, slice_get, Option}
+use Rattle.std.proofs.Common.{ap, sym, ◌∙◌, arith, inl, inr, subst}
+use Rattle.std.proofs.lemmas.Bool.{cases_Bool}
 use Rattle.h2_ref.specs.declared.reference.Ref.{Ref}
 use Rattle.h2_set.specs.RefSet.{RefSet}
 use Rattle.h2_set.specs.Forest.{Forest, KeepsLeaves, IsSound, Walks, Unchanged, KeepsBeside, Reaches, nowhere, here, below}
@@ -18,9 +19,10 @@ walks_visit f g h = record {
   stays = h.stays;
   sets = h.sets;
   writable = h.writable;
+  clean = h.clean;
   copies = h.copies;
-  leaf_bits = λ m stands. h.fixed.leaf_bits m;
-  allows = λ m r stands. h.fixed.allows m r;
+  leaf_bits = λ m stands. h.fixed.leaf_bits m stands (h.stays m stands).place.stands;
+  allows = λ m r stands. h.fixed.allows m r stands (h.stays m stands).place.stands;
   held = h.fixed.held;
   name = h.fixed.name;
   epoch = h.fixed.epoch;
@@ -37,9 +39,10 @@ unchanged_visits f g h = record {
   stays = λ m stands. same_stays f g m (h.same m stands);
   sets = λ m stands. (h.same m stands).set;
   writable = λ m stands. (h.same m stands).writable;
+  clean = λ m gone stands. let clash : true ≡ false = sym (h.none_new m stands) ∙ gone in absurd (cc);
   copies = λ m stands. (h.same m stands).copies;
-  leaf_bits = λ m stands. h.fixed.leaf_bits m;
-  allows = λ m r stands. h.fixed.allows m r;
+  leaf_bits = λ m stands. h.fixed.leaf_bits m stands (h.same m stands).place.stands;
+  allows = λ m r stands. h.fixed.allows m r stands (h.same m stands).place.stands;
   held = h.fixed.held;
   name = h.fixed.name;
   epoch = h.fixed.epoch;
@@ -56,6 +59,10 @@ seeks_visit f g top key c h = record {
   stays = λ m stands. same_stays f g m (h.brings.same m stands);
   sets = λ m stands. (h.brings.same m stands).set;
   writable = λ m stands. (h.brings.same m stands).writable;
+  clean = λ m gone stands. elim (h.brings.new m stands) as (λ _. g.writable m ≡ false) [
+    | inl e ↦ subst (λ n. g.writable n ≡ false) (sym e) (h.clean (subst (λ n. f.stands n ≡ false) e gone))
+    | inr stood ↦ let clash : true ≡ false = sym stood ∙ gone in absurd (cc)
+  ];
   copies = λ m stands. (h.brings.same m stands).copies;
   leaf_bits = h.brings.leaf_bits;
   allows = h.brings.allows;
@@ -80,6 +87,10 @@ visits_trans f g h a b =
       stays = λ m stands. Stays-trans f g h a.sound b.stays m (a.stays m stands);
       sets = λ m stands. b.sets m (there m stands) ∙ a.sets m stands;
       writable = λ m stands. b.writable m (there m stands) ∙ a.writable m stands;
+      clean = λ m gone stands. elim (cases_Bool (g.stands m)) as (λ _. h.writable m ≡ false) [
+        | inl between ↦ b.writable m between ∙ a.clean m gone between
+        | inr still ↦ b.clean m still stands
+      ];
       copies = λ m stands. b.copies m (there m stands) ∙ a.copies m stands;
       leaf_bits = λ m stands. b.leaf_bits m (there m stands) ∙ a.leaf_bits m stands;
       allows = λ m r stands. b.allows m r (there m stands) ∙ a.allows m r stands;

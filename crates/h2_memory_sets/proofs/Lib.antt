@@ -1,4 +1,5 @@
 pub mod Lists
+pub mod Owned
 pub mod Nesting
 pub mod Settled
 pub mod Passing

@@ -1,11 +1,12 @@
 -- Loaded paths: each key has one at most, and it stays where no node on it loses a reference.
-use Rattle.std.proofs.Common.{◌≡◌, ℕ, ◌<◌, ◌≤◌, Bool, true, false, arith, refl, sym, ◌∙◌, ap, List, [], ◌∷◌, Option, Some, None, subst, inl, inr, slice_get, suc, zero}
+use Rattle.std.proofs.Common.{◌≡◌, ℕ, ◌+◌, ◌^◌, ◌<◌, ◌≤◌, Bool, true, false, arith, refl, sym, ◌∙◌, ap, List, [], ◌∷◌, Option, Some, None, subst, inl, inr, slice_get, suc, zero}
 use Rattle.std.proofs.lemmas.Bool.Decides.{nat_tests}
 use Rattle.std.proofs.lemmas.Option.{none-some}
 use Rattle.h2_ref.specs.declared.reference.Ref.{Ref}
 use Rattle.h2_set.specs.Ranges.{leads_on, Rising, limit, holds, is_indirect}
 use Rattle.h2_set.specs.Forest.{Forest, refs, loaded, IsSound, Stays, Renews, AllRenewed, IsRenewed, Alters, Reaches, nowhere, here, below}
-use Rattle.h2_set.specs.LeafLaws.{holds_inside}
+use Rattle.h2_set.specs.LeafLaws.{holds_inside, place_above}
+use Rattle.h2_set.specs.SplitLaws.{below_high}
 use Rattle.h2_set.specs.StayLaws.{stands_below}
 use Rattle.h2_set.specs.ChangeLaws.{Keeps-Stays, apart_places, same_or_not}
 use Rattle.h2_set.specs.RenewLaws.{like_at, Alike-sym}
@@ -156,3 +157,45 @@ alters_paths {f} {g} {at} {key} {m} {o} sound alters stands reached = elim (same
   | inl same ↦ record { answer = o; path = alters_path sound alters stands same reached; renewed = answer_same o }
   | inr differs ↦ reaches_renew f g (λ m. (f.stands m ≡ true) × (f.root m ≡ f.root at → ⊥)) (λ m k c p link. let child = (sound.node m p.0).child k c link in (child.stands, λ e. p.1 (sym child.root ∙ e))) (λ m p. alters.above m p.0 p.1) (stands, differs) reached
 ]
+
+-- A loaded path through a node of the tree
+
+-- a path goes on through the child whose reference holds the key
+reaches_on : {f : Forest} {key at : ℕ} {o : Option Ref} (i c : ℕ) (r : Ref) → IsSound f → f.stands at ≡ true → slice_get (refs f at) i ≡ Some r → holds key r ≡ true → is_indirect r ≡ true → f.link at r.key ≡ loaded c → Reaches f key at o → Reaches f key c o
+reaches_on i c r sound stands read in_r ind link (nowhere miss) = let clash : true ≡ false = sym in_r ∙ miss i r read in cc
+reaches_on {f} {key} i c r sound stands read in_r ind link (here {at = at} {r = q} j read' in_q leaf) =
+    let same = same_holder _ _ key (refs f at) i j r q (sound.node at stands).inside read read' in_r in_q in
+    let clash : false ≡ true = sym leaf ∙ ap (λ (x : Ref). is_indirect x) same ∙ ind in
+    cc
+reaches_on {f} {key} {o = o} i c r sound stands read in_r ind link (below {at = at} {c = d} {r = q} j read' in_q ind' link' rest) =
+    let same = same_holder _ _ key (refs f at) i j r q (sound.node at stands).inside read read' in_r in_q in
+    let link_d : f.link at r.key ≡ loaded d = subst (λ (x : Ref). f.link at x.key ≡ loaded d) same link' in
+    let dc : d ≡ c = cc (link_d, link) in
+    subst (λ z. Reaches f key z o) dc rest
+
+-- In a tree, the loaded path of a key leads through each node in whose range the key is.
+module _ (f : Forest) (key top : ℕ) (o : Option Ref) (sound : IsSound f) (own : f.root top ≡ top) (path : Reaches f key top o) where
+  through_range : (n at : ℕ) → 64 ≤ f.bits at + n → f.stands at ≡ true → f.root at ≡ top → f.low at ≤ key → key < f.low at + 2 ^ f.bits at → Reaches f key at o
+  through_range zero at few stands root low high = absurd (let slope = (sound.node at stands).slope in omega (arith, few, slope))
+  through_range (suc n) at few stands root low high = elim (same_or_not (f.root at) at) as (λ _. Reaches f key at o) [
+    | inl is_top ↦ subst (λ z. Reaches f key z o) (sym root ∙ is_top) path
+    | inr ne ↦
+        let up = sound.parent at stands ne in
+        let node = sound.node up.parent up.stands in
+        let child = node.child (f.low at) at up.link in
+        let named = node.named (f.low at) at up.link in
+        let link : f.link up.parent named.ref.key ≡ loaded at = ap (f.link up.parent) named.key ∙ up.link in
+        let bits = node.bits named.place at named.ref named.read named.indirect link in
+        let in_ref = in_holds key named.ref (omega (arith, named.key, low)) (omega (arith, named.key, high, ap (λ z. 2 ^ z) bits)) in
+        let from = through_range n up.parent (omega (arith, few, child.fewer)) up.stands (sym child.root ∙ root) (omega (arith, child.above, low)) (omega (arith, child.within, high)) in
+        reaches_on named.place at named.ref sound up.stands named.read in_ref named.indirect link from
+  ]
+
+  -- as it does where a reference of the node holds the key
+  pub reaches_through : (at i : ℕ) (r : Ref) → f.stands at ≡ true → f.root at ≡ top → slice_get (refs f at) i ≡ Some r → holds key r ≡ true → Reaches f key at o
+  reaches_through at i r stands root read in_r =
+      let node = sound.node at stands in
+      let range = holds_inside key r in_r in
+      let low = place_above _ _ (refs f at) i r node.inside read in
+      let high = below_high _ _ (refs f at) i r node.inside read in
+      through_range 64 at (omega arith) stands root (omega (arith, low, range.0)) (omega (arith, high, range.1))

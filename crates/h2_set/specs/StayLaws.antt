@@ -1,9 +1,12 @@
 -- Leaves stay where nodes stay.
-use Rattle.std.proofs.Common.{◌≡◌, ℕ, true, arith, refl, sym, ◌∙◌, ap, List, [], ◌∷◌, ◌++◌, Option, subst, inl, inr, slice_get}
+use Rattle.std.proofs.Common.{◌≡◌, ℕ, ◌≤◌, Bool, true, false, arith, refl, sym, ◌∙◌, ap, List, [], ◌∷◌, ◌++◌, Option, subst, inl, inr, slice_get}
+use Rattle.h2_num.specs.Causes.{Rose}
 use Rattle.h2_ref.specs.declared.reference.Ref.{Ref}
+use Rattle.h2_ref.specs.declared.faults.Trouble.{Trouble}
+use Rattle.h2_ref.specs.declared.faults.Trouble.TheVariants.{Failed, Bad, NoMemory}
 use Rattle.h2_set.specs.Ranges.{Rising, limit, leads_on}
 use Rattle.h2_set.specs.RefSet.{RefSet}
-use Rattle.h2_set.specs.Forest.{loaded, Forest, refs, HasLeaves, done, one, near, far, KeepsLeaves, IsSound, IsAlike, Alike, Below, Fixed, InPlace, Stays, Same, Walks, Unchanged, ReadiesOnly, Reaches, nowhere, here, below}
+use Rattle.h2_set.specs.Forest.{loaded, Forest, refs, HasLeaves, done, one, near, far, KeepsLeaves, IsSound, IsAlike, Alike, Below, Fixed, InPlace, Stays, Same, Walks, Unchanged, ReadiesOnly, HasCause, Reaches, nowhere, here, below}
 
 IsAlike-refl : (r : Ref) → IsAlike r r
 IsAlike-refl r = record { kind = refl; key = refl; keybits = refl; radix = refl; dirent = refl; leaf = λ _. refl }
@@ -31,12 +34,16 @@ Alike-trans (r ∷ rs) (q ∷ qs) [] a b = absurd b
 Alike-trans (r ∷ rs) (q ∷ qs) (p ∷ ps) a b = (IsAlike-trans r q p a.0 b.0, Alike-trans rs qs ps a.1 b.1)
 
 pub Fixed-refl : (f : Forest) → Fixed f f
-Fixed-refl f = record { leaf_bits = λ m. refl; allows = λ m r. refl; held = λ m. refl; name = λ r. refl; epoch = refl; failed = omega arith; bad = omega arith }
+Fixed-refl f = record { leaf_bits = λ m st st'. refl; allows = λ m r st st'. refl; held = λ m. refl; name = λ r. refl; epoch = refl; failed = omega arith; bad = omega arith }
 
-pub Fixed-trans : (f g h : Forest) → Fixed f g → Fixed g h → Fixed f h
-Fixed-trans f g h a b = record {
-  leaf_bits = λ m. b.leaf_bits m ∙ a.leaf_bits m;
-  allows = λ m r. b.allows m r ∙ a.allows m r;
+-- what stands before and after stands in between
+abbrev pub StandsBetween : Forest → Forest → Forest → Type 0
+StandsBetween f g h = (m : ℕ) → f.stands m ≡ true → h.stands m ≡ true → g.stands m ≡ true
+
+pub Fixed-trans : (f g h : Forest) → StandsBetween f g h → Fixed f g → Fixed g h → Fixed f h
+Fixed-trans f g h between a b = record {
+  leaf_bits = λ m st st'. let there = between m st st' in b.leaf_bits m there st' ∙ a.leaf_bits m st there;
+  allows = λ m r st st'. let there = between m st st' in b.allows m r there st' ∙ a.allows m r st there;
   held = λ m. b.held m ∙ a.held m;
   name = λ r. b.name r ∙ a.name r;
   epoch = b.epoch ∙ a.epoch;
@@ -110,20 +117,25 @@ Stays-trans f g h sound all m a =
     }
 
 pub Walks-refl : (f : Forest) → IsSound f → Walks f f
-Walks-refl f sound = record { sound = sound; fixed = Fixed-refl f; stays = λ m stands. Stays-refl f m stands; roots = λ m stands root. stands; sets = λ m stands. refl; writable = λ m stands. refl; copies = λ m stands. refl; spare = refl; room = refl }
+Walks-refl f sound = record { sound = sound; fixed = Fixed-refl f; stays = λ m stands. Stays-refl f m stands; roots = λ m stands root. stands; clean = λ m out stands. let clash : false ≡ true = sym out ∙ stands in cc; sets = λ m stands. refl; writable = λ m stands. refl; copies = λ m stands. refl; spare = refl; room = refl }
 
 pub Walks-trans : (f g h : Forest) → Walks f g → Walks g h → Walks f h
 Walks-trans f g h a b = record {
   sound = b.sound;
-  fixed = Fixed-trans f g h a.fixed b.fixed;
+  fixed = Fixed-trans f g h (λ m st st'. (a.stays m st).place.stands) a.fixed b.fixed;
   stays = λ m stands. Stays-trans f g h a.sound b.stays m (a.stays m stands);
   roots = λ m stands root. let middle = b.roots m stands root in a.roots m middle (sym (b.stays m middle).place.root ∙ root);
+  clean = λ m out stands. clean_after m (g.stands m) refl out stands;
   sets = λ m stands. b.sets m (a.stays m stands).place.stands ∙ a.sets m stands;
   writable = λ m stands. b.writable m (a.stays m stands).place.stands ∙ a.writable m stands;
   copies = λ m stands. b.copies m (a.stays m stands).place.stands ∙ a.copies m stands;
   spare = b.spare ∙ a.spare;
   room = b.room ∙ a.room;
 }
+  where
+    clean_after : (m : ℕ) (there : Bool) → g.stands m ≡ there → f.stands m ≡ false → h.stands m ≡ true → h.writable m ≡ false
+    clean_after m true e out stands = b.writable m e ∙ a.clean m out e
+    clean_after m false e out stands = b.clean m e stands
 
 -- a walk keeps the leaves of each node that stands
 pub Walks-leaves : (f g : Forest) → IsSound f → Walks f g → (at : ℕ) → f.stands at ≡ true → KeepsLeaves f g at
@@ -151,6 +163,7 @@ Unchanged-walks f g u = record {
   fixed = u.fixed;
   stays = λ m stands. Same-Stays f g m (u.same m stands);
   roots = λ m stands root. u.none_new m stands;
+  clean = λ m out stands. let clash : false ≡ true = sym out ∙ u.none_new m stands in cc;
   sets = λ m stands. (u.same m stands).set;
   writable = λ m stands. (u.same m stands).writable;
   copies = λ m stands. (u.same m stands).copies;
@@ -165,3 +178,12 @@ Readies-unchanged f g r spare = record { sound = r.sound; fixed = r.fixed; same 
 -- where only spare has grown, the leaves of each node stay
 pub Readies-leaves : (f g : Forest) → IsSound f → ReadiesOnly f g → (at : ℕ) → f.stands at ≡ true → KeepsLeaves f g at
 Readies-leaves f g sound r at stands = leaves_stay_all f g sound (λ m st. Same-Stays f g m (r.same m st)) at stands
+
+rose_from : (a b c : ℕ) → a ≤ b → Rose b c → Rose a c
+rose_from a b c le h = omega (arith, le, h)
+
+-- what was the cause from a later forest on was it from an earlier one on
+pub cause_from : (f g h : Forest) (e : Trouble) → f.failed ≤ g.failed → f.bad ≤ g.bad → HasCause g h e → HasCause f h e
+cause_from f g h Failed failed bad cause = rose_from f.failed g.failed h.failed failed cause
+cause_from f g h (Bad place why) failed bad cause = (rose_from f.bad g.bad h.bad bad cause.0, cause.1)
+cause_from f g h NoMemory failed bad cause = tt

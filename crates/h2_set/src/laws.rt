@@ -45,7 +45,8 @@ pub fn set_bytes_law()
 
 /// A law of loaded paths in a sound forest: the path of a key leads to one leaf or to none, which is what the list of
 /// leaves has where it is known. While nodes are loaded it stays, and where a node is altered it leads to what it led
-/// to, but for where the block of an inode lies in another tree. Making a node keeps the path of each key that had a
+/// to, but for where the block of an inode lies in another tree. It leads through each node of the tree that has a
+/// reference whose range holds the key. Making a node keeps the path of each key that had a
 /// leaf, or that isn't in the range of the new one. Storing a set keeps that of each key whose reference stays, or that
 /// had none and has none, where no other node on it changes.
 pub fn path_law()
@@ -59,6 +60,9 @@ pub fn path_law()
         → Reaches f key m o → PathRenewed g key m o }
     ensures tree { (f g : Forest) (key at m : ℕ) (o : Option Ref) → IsSound f → Alters f g at → f.stands m ≡ true
         → f.root m ≡ f.root at → Reaches f key m o → Reaches g key m o }
+    ensures through { (f : Forest) (key top at i : ℕ) (r : Ref) (o : Option Ref) → IsSound f → f.root top ≡ top
+        → f.stands at ≡ true → f.root at ≡ top → slice_get (refs f at) i ≡ Some r → holds key r ≡ true
+        → Reaches f key top o → Reaches f key at o }
     ensures made { (f g : Forest) (at c : ℕ) (leaf : Ref) (set : RefSet) (s : Split) → IsSound f → f.stands at ≡ true
         → MadeFrom f at leaf set s → Makes f g at c set s → (key m : ℕ) (o : Option Ref) → f.stands m ≡ true
         → (o ≡ None → holds key leaf ≡ false) → Reaches f key m o → Reaches g key m o }
