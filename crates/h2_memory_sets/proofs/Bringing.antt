@@ -120,7 +120,8 @@ module _ (xs : List Node) (at c : ℕ) (r : Ref) (stands : stands_of (slice_get 
     copies = ap copies_of at_c;
     set = rw (ap set_of at_c) l.fits.set;
     fits = rw (ap set_of at_c) l.fits;
-    allowed = λ q. refl;
+    allowed = λ j q got leaf. refl;
+    belongs = λ t k. refl;
     there = λ m st. set_same m;
     link = λ m k st ne. rw (set_same m, first_same m k ne) refl;
     child = (let named = below_names _ r.key i r read ind refl in rw (set_same at, first_new, named) refl);

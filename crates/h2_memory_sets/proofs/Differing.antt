@@ -126,6 +126,7 @@ module _ (xs : List Node) (at : ℕ) (x : Node) (set : RefSet) (s : Split) (ref 
     new_writable = ap writable_of (at_new xs at x kept s.moved ref read);
     new_copies = ap copies_of (at_new xs at x kept s.moved ref read) ∙ ap copies_of (sym read);
     moved = ap set_of (at_new xs at x kept s.moved ref read);
+    belongs = λ t k. refl;
     now = ap set_of (at_here xs at x kept s.moved ref read);
     there = there;
     link = λ m k st ne. rw (there m st ne, first_other m k ne (not_fresh m st)) refl;

@@ -50,19 +50,17 @@ is_there (x ∷ xs) (suc at) h = let it = is_there xs at h in omega arith
 -- what every change of a forest in memory leaves as it is
 pub loose_of : (xs ys : List Node) (spare spare' epoch room room' failed failed' bad bad' : ℕ) (met met' : Option (ℕ × Why)) → ((m : ℕ) → leaf_bits_of (slice_get ys m) ≡ leaf_bits_of (slice_get xs m)) → failed ≤ failed' → bad ≤ bad' → ((m : ℕ) → stands_of (slice_get xs m) ≡ true → stands_of (slice_get ys m) ≡ true → (root_of (slice_get ys m) ≡ root_of (slice_get xs m)) × (low_of (slice_get ys m) ≡ low_of (slice_get xs m)) × (bits_of (slice_get ys m) ≡ bits_of (slice_get xs m)) × (writable_of (slice_get ys m) ≡ writable_of (slice_get xs m)) × (copies_of (slice_get ys m) ≡ copies_of (slice_get xs m))) → Loose (forest_with xs spare epoch room failed bad met) (forest_with ys spare' epoch room' failed' bad' met')
 loose_of xs ys spare spare' epoch room room' failed failed' bad bad' met met' leaf more_failed more_bad place = record {
-  fixed = record { leaf_bits = λ m st now. leaf m; allows = λ m r st now. refl; held = λ m. refl; name = λ r. refl; epoch = refl; failed = more_failed; bad = more_bad };
+  leaf_bits = λ m st now. leaf m;
+  held = λ m. refl;
+  epoch = refl;
   place = λ m st now. let it = place m st now in record { stands = now; root = it.0; low = it.1; bits = it.2; belongs = λ t k. refl; writable = λ e. it.3 ∙ e };
   copies = λ m st now. (place m st now).4;
   writable = λ m st now. (place m st now).3;
-  leaf_bits = leaf;
-  allows = λ m r. refl;
-  none_held = λ m. refl;
-  none_belonged = λ m t k. refl;
-  none_belong = λ m t k. refl;
 }
 
 pub settled_of : (xs ys : List Node) (spare spare' epoch room room' failed failed' bad bad' : ℕ) (met met' : Option (ℕ × Why)) → ((m : ℕ) → leaf_bits_of (slice_get ys m) ≡ leaf_bits_of (slice_get xs m)) → failed ≤ failed' → bad ≤ bad' → ((m : ℕ) → stands_of (slice_get xs m) ≡ true → (stands_of (slice_get ys m) ≡ true) × (root_of (slice_get ys m) ≡ root_of (slice_get xs m)) × (low_of (slice_get ys m) ≡ low_of (slice_get xs m)) × (bits_of (slice_get ys m) ≡ bits_of (slice_get xs m)) × (writable_of (slice_get ys m) ≡ writable_of (slice_get xs m)) × (copies_of (slice_get ys m) ≡ copies_of (slice_get xs m))) → Settled (forest_with xs spare epoch room failed bad met) (forest_with ys spare' epoch room' failed' bad' met')
 settled_of xs ys spare spare' epoch room room' failed failed' bad bad' met met' leaf more_failed more_bad place = record {
+  fixed = record { leaf_bits = λ m st now. leaf m; allows = λ m r st now. refl; held = λ m. refl; name = λ r. refl; epoch = refl; failed = more_failed; bad = more_bad };
   loose = loose_of xs ys spare spare' epoch room room' failed failed' bad bad' met met' leaf more_failed more_bad (λ m st now. let it = place m st in (it.1, it.2, it.3, it.4, it.5));
   stands = λ m st. (place m st).0;
 }

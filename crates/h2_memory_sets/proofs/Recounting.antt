@@ -338,7 +338,7 @@ module _ (xs : List Node) (new : Node → Bool) (spare epoch room failed bad : �
         let x = node_at m st in
         still_counted f g m (λ n was now. record { root = root_same n; low = low_same n; bits = bits_same n; set = set_same n }) st (stands_same m ∙ st)
         (λ k c e. let was = sym (link_same m k) ∙ e in (was, stands_same c ∙ (node.child k c was).stands))
-        (leaf_same (f.root m)) (λ q. refl) (λ n t j. refl)
+        (leaf_same (f.root m)) (λ q. refl) (λ n t j was now. refl)
         (λ k c e. kid_count m k c st (sym (link_same m k) ∙ e))
         (λ top. counted m x.0 x.1 ∙ count_top m x.0 x.1 (node.half (sym (root_same m) ∙ top)))
         (rw (counted m x.0 x.1, bits_same m) (falls 63 m x.0 st x.1 (omega arith)))

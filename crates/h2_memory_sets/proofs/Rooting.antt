@@ -30,8 +30,8 @@ pub record Agrees (f g : Forest) (m : ℕ) : Type 0 where
   pub copies : g.copies m ≡ f.copies m
 
 -- a node stays sound where no more is loaded below it, and what is copied is counted
-pub still_counted : (f g : Forest) (m : ℕ) → ((n : ℕ) → f.stands n ≡ true → g.stands n ≡ true → Places f g n) → f.stands m ≡ true → g.stands m ≡ true → ((k c : ℕ) → g.link m k ≡ loaded c → (f.link m k ≡ loaded c) × (g.stands c ≡ true)) → g.leaf_bits (f.root m) ≡ f.leaf_bits (f.root m) → ((r : Ref) → g.allows (f.root m) r ≡ f.allows (f.root m) r) → ((n t j : ℕ) → g.belongs n t j ≡ false) → ((k c : ℕ) → g.link m k ≡ loaded c → g.copies c ≡ g.copies m + cond (g.writable c) 0 1) → (g.root m ≡ m → g.copies m ≡ 0) → g.copies m + g.bits m ≤ 63 → IsSoundNode f m → IsSoundNode g m
-still_counted f g m agrees old st links leaf allows none kids top slope node =
+pub still_counted : (f g : Forest) (m : ℕ) → ((n : ℕ) → f.stands n ≡ true → g.stands n ≡ true → Places f g n) → f.stands m ≡ true → g.stands m ≡ true → ((k c : ℕ) → g.link m k ≡ loaded c → (f.link m k ≡ loaded c) × (g.stands c ≡ true)) → g.leaf_bits (f.root m) ≡ f.leaf_bits (f.root m) → ((r : Ref) → g.allows (f.root m) r ≡ f.allows (f.root m) r) → ((n t j : ℕ) → f.stands n ≡ true → g.stands n ≡ true → g.belongs n t j ≡ f.belongs n t j) → ((k c : ℕ) → g.link m k ≡ loaded c → g.copies c ≡ g.copies m + cond (g.writable c) 0 1) → (g.root m ≡ m → g.copies m ≡ 0) → g.copies m + g.bits m ≤ 63 → IsSoundNode f m → IsSoundNode g m
+still_counted f g m agrees old st links leaf allows belongs kids top slope node =
     let p = agrees m old st in
     let refs_is : refs g m ≡ refs f m = ap (λ (t : RefSet). t.refs) p.set in
     let grain : g.leaf_bits (g.root m) ≡ f.leaf_bits (f.root m) = ap g.leaf_bits p.root ∙ leaf in
@@ -65,7 +65,7 @@ still_counted f g m agrees old st links leaf allows none kids top slope node =
             within = rw (p.low, q.low, p.bits, q.bits) h.within;
             fewer = rw (p.bits, q.bits) h.fewer;
             copies = kids k c at_k;
-            belongs = λ t j. none c t j ∙ sym (none m t j);
+            belongs = λ t j. belongs c t j h.stands l.1 ∙ h.belongs t j ∙ sym (belongs m t j old st);
           };
       named = λ k c at_k. rw refs_is (node.named k c (links k c at_k).0);
       bits = λ i c r read ind at_k.
@@ -78,10 +78,10 @@ still_counted f g m agrees old st links leaf allows none kids top slope node =
     }
 
 -- a node stays sound where no more is loaded below it
-pub still_sound : (f g : Forest) (m : ℕ) → ((n : ℕ) → f.stands n ≡ true → g.stands n ≡ true → Agrees f g n) → f.stands m ≡ true → g.stands m ≡ true → ((k c : ℕ) → g.link m k ≡ loaded c → (f.link m k ≡ loaded c) × (g.stands c ≡ true)) → g.leaf_bits (f.root m) ≡ f.leaf_bits (f.root m) → ((r : Ref) → g.allows (f.root m) r ≡ f.allows (f.root m) r) → ((n t j : ℕ) → g.belongs n t j ≡ false) → IsSoundNode f m → IsSoundNode g m
-still_sound f g m agrees old st links leaf allows none node =
+pub still_sound : (f g : Forest) (m : ℕ) → ((n : ℕ) → f.stands n ≡ true → g.stands n ≡ true → Agrees f g n) → f.stands m ≡ true → g.stands m ≡ true → ((k c : ℕ) → g.link m k ≡ loaded c → (f.link m k ≡ loaded c) × (g.stands c ≡ true)) → g.leaf_bits (f.root m) ≡ f.leaf_bits (f.root m) → ((r : Ref) → g.allows (f.root m) r ≡ f.allows (f.root m) r) → ((n t j : ℕ) → f.stands n ≡ true → g.stands n ≡ true → g.belongs n t j ≡ f.belongs n t j) → IsSoundNode f m → IsSoundNode g m
+still_sound f g m agrees old st links leaf allows belongs node =
     let p = agrees m old st in
-    still_counted f g m (λ n was now. let q = agrees n was now in record { root = q.root; low = q.low; bits = q.bits; set = q.set }) old st links leaf allows none
+    still_counted f g m (λ n was now. let q = agrees n was now in record { root = q.root; low = q.low; bits = q.bits; set = q.set }) old st links leaf allows belongs
     (λ k c at_k.
     let l = links k c at_k in
     let h = node.child k c l.0 in
@@ -177,7 +177,7 @@ module _ (xs : List Node) (keys : KeyClass) (leaf_bits spare epoch room failed b
       st s.place.stands
       (λ k c e. let was = sym (s.link k) ∙ e in (was, (same c (node.child k c was).stands).place.stands))
       (ap leaf_bits_of (get_push xs new (root_of (slice_get xs m)) root_there))
-      (λ r. refl) (λ n t j. refl) node
+      (λ r. refl) (λ n t j was now. refl) node
 
   new_top : (g.stands (g.root (length xs)) ≡ true) × (g.root (g.root (length xs)) ≡ g.root (length xs))
   new_top =

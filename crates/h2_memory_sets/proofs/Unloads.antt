@@ -175,7 +175,7 @@ module _ (xs : List Node) (from spare epoch room failed bad : ℕ) (met : Option
             | inr ge ↦ let clash : untold ≡ loaded c = sym (link_from m k ge) ∙ e in absurd (cc)
           ])
           (field leaf_bits_of (λ x. refl) (root_of (slice_get xs m)))
-          (λ r. refl) (λ n t j. refl) node;
+          (λ r. refl) (λ n t j was now. refl) node;
       held = λ m held. absurd (cc);
       top = λ m st.
           let old = stood from xs m st in
