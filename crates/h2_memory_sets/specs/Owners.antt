@@ -26,7 +26,7 @@ either p up None = false
 either p up (Some o) = p o || up o.root
 
 -- whether an owner passes of the first n: that of the root m, that of the owner's root, and so on
-pub on_chain : (Owner → Bool) → List Node → ℕ → ℕ → Bool
+abbrev pub on_chain : (Owner → Bool) → List Node → ℕ → ℕ → Bool
 on_chain p xs zero m = false
 on_chain p xs (suc n) m = either p (λ t. on_chain p xs n t) (owner_of (slice_get xs m))
 
