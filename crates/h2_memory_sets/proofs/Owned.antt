@@ -128,3 +128,8 @@ dropped_owner xs root bits old new x = go (goes root bits old new x || goes_with
     go : (b : Bool) → (let y : Node = cond b (lost x) x in y.owner) ≡ x.owner
     go true = refl
     go false = refl
+
+-- below a number, where the owners are the same
+pub chain_under : (p : Owner → Bool) (xs ys : List Node) (b : ℕ) → AreLower xs → ((m : ℕ) → m < b → owner_of (slice_get ys m) ≡ owner_of (slice_get xs m)) → (n m : ℕ) → m < b → on_chain p ys n m ≡ on_chain p xs n m
+chain_under p xs ys b low same zero m lt = refl
+chain_under p xs ys b low same (suc n) m lt = ap (either p (λ t. on_chain p ys n t)) (same m lt) ∙ either_same p (λ t. on_chain p ys n t) (λ t. on_chain p xs n t) (owner_of (slice_get xs m)) (λ o e. let less = low m o e in chain_under p xs ys b low same n o.root (omega (arith, less, lt)))
