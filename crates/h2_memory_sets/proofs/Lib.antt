@@ -1,5 +1,7 @@
 pub mod Lists
 pub mod Owned
+pub mod Naming
+pub mod Coming
 pub mod Nesting
 pub mod Settled
 pub mod Passing
