@@ -6,9 +6,14 @@ pub mod Nesting
 pub mod Settled
 pub mod Passing
 pub mod Storing
+pub mod Reaching
 pub mod Drops
+pub mod Chains
+pub mod Losing
 pub mod Held
 pub mod Nodes
+pub mod Keeping
+pub mod Paths
 pub mod Made
 pub mod Making
 pub mod Sides
@@ -24,3 +29,4 @@ pub mod Unloads
 pub mod Counting
 pub mod Recounting
 pub mod Altered
+pub mod Stored
