@@ -5,7 +5,8 @@ use Rattle.std.proofs.lemmas.Bool.{cases_lt}
 use Rattle.h2_num.specs.Places.{Places, from_place}
 use Rattle.h2_codes.specs.declared.code.Code.{Code}
 use Rattle.h2_ref.specs.declared.reference.Ref.{Ref}
-use Rattle.h2_ref.specs.Ref.{empty_ref, check_value}
+use Rattle.h2_ref.specs.Methods.{check_value}
+use Rattle.h2_ref.specs.Ref.{empty_ref}
 use Rattle.h2_header.specs.declared.header.Header.{Header}
 use Rattle.h2_header.specs.Map.{top_level, zones_under}
 use Rattle.h2_freeleaf.specs.declared.fault.MapFault.{MapFault}

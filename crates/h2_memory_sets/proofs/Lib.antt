@@ -1,6 +1,6 @@
 pub mod Lists
 pub mod Owned
-pub mod Naming
+pub mod Named
 pub mod Coming
 pub mod Nesting
 pub mod Settled

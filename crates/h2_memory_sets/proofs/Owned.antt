@@ -11,14 +11,15 @@ use Rattle.h2_memory_sets.specs.View.{goes, goes_with, lost, dropped}
 use Rattle.h2_memory_sets.proofs.Parting.{alike}
 use Rattle.h2_memory_sets.proofs.Passing.{and_parts}
 
+-- what is told of the owner's root alone
+pub either_same : (p : Owner → Bool) (a b : ℕ → Bool) (o : Option Owner) → ((w : Owner) → o ≡ Some w → a w.root ≡ b w.root) → either p a o ≡ either p b o
+either_same p a b None same = refl
+either_same p a b (Some w) same = ap (λ z. p w || z) (same w refl)
+
 -- an owner is on the chain of the vector with the same owners too
 pub chain_same : (p : Owner → Bool) (xs ys : List Node) → ((m : ℕ) → owner_of (slice_get ys m) ≡ owner_of (slice_get xs m)) → (n m : ℕ) → on_chain p ys n m ≡ on_chain p xs n m
 chain_same p xs ys same zero m = refl
-chain_same p xs ys same (suc n) m = ap (either p (λ t. on_chain p ys n t)) (same m) ∙ go (owner_of (slice_get xs m))
-  where
-    go : (o : Option Owner) → either p (λ t. on_chain p ys n t) o ≡ either p (λ t. on_chain p xs n t) o
-    go None = refl
-    go (Some o) = ap (λ b. p o || b) (chain_same p xs ys same n o.root)
+chain_same p xs ys same (suc n) m = ap (either p (λ t. on_chain p ys n t)) (same m) ∙ either_same p (λ t. on_chain p ys n t) (λ t. on_chain p xs n t) (owner_of (slice_get xs m)) (λ o e. chain_same p xs ys same n o.root)
 
 pub belongs_same : (xs ys : List Node) → ((m : ℕ) → owner_of (slice_get ys m) ≡ owner_of (slice_get xs m)) → (q t k : ℕ) → belongs_to ys q t k ≡ belongs_to xs q t k
 belongs_same xs ys same q t k = chain_same (is_owner t k) xs ys same (suc q) q
@@ -44,11 +45,7 @@ or_same a b c e = ap (λ z. a || z) e
 pub chain_far : (p : Owner → Bool) (xs : List Node) → AreLower xs → (n k m : ℕ) → m < n → m < k → on_chain p xs n m ≡ on_chain p xs k m
 chain_far p xs low zero k m a b = absurd (omega (arith, a))
 chain_far p xs low (suc n) zero m a b = absurd (omega (arith, b))
-chain_far p xs low (suc n) (suc k) m a b = go (owner_of (slice_get xs m)) refl
-  where
-    go : (o : Option Owner) → owner_of (slice_get xs m) ≡ o → either p (λ t. on_chain p xs n t) o ≡ either p (λ t. on_chain p xs k t) o
-    go None e = refl
-    go (Some o) e = let less = low m o e in or_same (p o) _ _ (chain_far p xs low n k o.root (omega (arith, less, a)) (omega (arith, less, b)))
+chain_far p xs low (suc n) (suc k) m a b = either_same p (λ t. on_chain p xs n t) (λ t. on_chain p xs k t) (owner_of (slice_get xs m)) (λ o e. let less = low m o e in chain_far p xs low n k o.root (omega (arith, less, a)) (omega (arith, less, b)))
 
 -- a root belongs to its owner, and to what the owner's root belongs to
 pub belongs_step : (xs : List Node) → AreLower xs → (c t k : ℕ) (o : Owner) → owner_of (slice_get xs c) ≡ Some o → belongs_to xs c t k ≡ (is_owner t k o || belongs_to xs o.root t k)
@@ -68,33 +65,39 @@ pub record IsOn (p : Owner → Bool) (xs : List Node) (n m : ℕ) : Type 0 where
   pub on : (q : Owner → Bool) → q owner ≡ true → on_chain q xs n m ≡ true
   pub lower : AreLower xs → owner.root < m
 
+found_next : (xs : List Node) (n m : ℕ) (o : Owner) → owner_of (slice_get xs m) ≡ Some o → (q : Owner → Bool) (b : Bool) → (q o || on_chain q xs n o.root) ≡ b → on_chain q xs (suc n) m ≡ b
+found_next xs n m o e q b h = ap (either q (λ t. on_chain q xs n t)) e ∙ h
+
+pub or_first : (a b : Bool) → a ≡ true → (a || b) ≡ true
+or_first true b e = refl
+or_first false b e = absurd (cc)
+
+pub or_second : (a b : Bool) → b ≡ true → (a || b) ≡ true
+or_second true b e = refl
+or_second false b e = e
+
+-- where the first of two fails, the second decides
+pub or_last : (a b : Bool) → a ≡ false → b ≡ (a || b)
+or_last true b e = absurd (cc)
+or_last false b e = refl
+
+found_step : (p : Owner → Bool) (xs : List Node) (n m : ℕ) (o : Option Owner) → owner_of (slice_get xs m) ≡ o → either p (λ t. on_chain p xs n t) o ≡ true → ((w : Owner) → on_chain p xs n w.root ≡ true → IsOn p xs n w.root) → IsOn p xs (suc n) m
+found_step p xs n m None e h rest = absurd (cc)
+found_step p xs n m (Some o) e h rest = elim (or_parts (p o) (on_chain p xs n o.root) h) as (λ _. IsOn p xs (suc n) m) [
+  | inl here ↦ record { owner = o; passes = here; on = λ q is. found_next xs n m o e q true (or_first (q o) _ is); lower = λ low. low m o e }
+  | inr above ↦
+      let it = rest o above in
+      record {
+        owner = it.owner;
+        passes = it.passes;
+        on = λ q is. found_next xs n m o e q true (or_second (q o) _ (it.on q is));
+        lower = λ low. let a = it.lower low in let b = low m o e in omega (arith, a, b);
+      }
+]
+
 pub chain_found : (p : Owner → Bool) (xs : List Node) (n m : ℕ) → on_chain p xs n m ≡ true → IsOn p xs n m
 chain_found p xs zero m h = absurd (cc)
-chain_found p xs (suc n) m h = go (owner_of (slice_get xs m)) refl h
-  where
-    on_next : (o : Owner) → owner_of (slice_get xs m) ≡ Some o → (q : Owner → Bool) (b : Bool) → (q o || on_chain q xs n o.root) ≡ b → on_chain q xs (suc n) m ≡ b
-    on_next o e q b h = ap (either q (λ t. on_chain q xs n t)) e ∙ h
-
-    or_first : (a b : Bool) → a ≡ true → (a || b) ≡ true
-    or_first a b e = rw e refl
-
-    or_second : (a b : Bool) → b ≡ true → (a || b) ≡ true
-    or_second true b e = refl
-    or_second false b e = e
-
-    go : (o : Option Owner) → owner_of (slice_get xs m) ≡ o → either p (λ t. on_chain p xs n t) o ≡ true → IsOn p xs (suc n) m
-    go None e h = absurd (cc)
-    go (Some o) e h = elim (or_parts (p o) (on_chain p xs n o.root) h) as (λ _. IsOn p xs (suc n) m) [
-      | inl here ↦ record { owner = o; passes = here; on = λ q is. on_next o e q true (or_first (q o) _ is); lower = λ low. low m o e }
-      | inr above ↦
-          let it = chain_found p xs n o.root above in
-          record {
-            owner = it.owner;
-            passes = it.passes;
-            on = λ q is. on_next o e q true (or_second (q o) _ (it.on q is));
-            lower = λ low. let a = it.lower low in let b = low m o e in omega (arith, a, b);
-          }
-    ]
+chain_found p xs (suc n) m h = found_step p xs n m (owner_of (slice_get xs m)) refl h (λ o is. chain_found p xs n o.root is)
 
 pub owner_is : (t k : ℕ) (o : Owner) → is_owner t k o ≡ true → (o.root ≡ t) × (o.key ≡ k)
 owner_is t k o e = let a = and_parts (nat_eq o.root t) _ e in (alike o.root t a.0, alike o.key k a.1)

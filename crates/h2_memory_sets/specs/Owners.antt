@@ -9,7 +9,7 @@ use Rattle.h2_inode.specs.declared.kind.InodeKind.TheVariants.{Directory, File, 
 use Rattle.h2_inode.specs.declared.inode.Body.{Body}
 use Rattle.h2_inode.specs.declared.inode.Body.TheVariants.{Refs, Bytes}
 use Rattle.h2_inode.specs.declared.inode.Inode.{Inode}
-use Rattle.h2_memory_sets.specs.Held.{is_held}
+use Rattle.h2_set.specs.HeldTest.{passes_as_held}
 use Rattle.h2_memory_sets.specs.declared.node.Owner.{Owner}
 use Rattle.h2_memory_sets.specs.declared.node.Leaves.{Leaves}
 use Rattle.h2_memory_sets.specs.declared.node.Leaves.TheVariants.{Any, Inodes}
@@ -26,7 +26,7 @@ either p up None = false
 either p up (Some o) = p o || up o.root
 
 -- whether an owner passes of the first n: that of the root m, that of the owner's root, and so on
-pub on_chain : (Owner → Bool) → List Node → ℕ → ℕ → Bool
+abbrev pub on_chain : (Owner → Bool) → List Node → ℕ → ℕ → Bool
 on_chain p xs zero m = false
 on_chain p xs (suc n) m = either p (λ t. on_chain p xs n t) (owner_of (slice_get xs m))
 
@@ -68,14 +68,14 @@ is_leaf_of kind MapLeaf = false
 
 -- whether the tree of an inode may have the leaf
 abbrev pub inode_allows : InodeKind → Body → Ref → Bool
-inode_allows kind (Refs s) r = is_leaf_of kind r.kind && is_held r
+inode_allows kind (Refs s) r = is_leaf_of kind r.kind && passes_as_held r
 inode_allows kind (Bytes bytes) r = false
 
 -- whether the tree of a root without an inode may have the leaf: where it isn't one of inodes alone, it has none that
 -- names an inode
 abbrev pub tree_allows : Leaves → Ref → Bool
 tree_allows Any r = not (is_leaf_of Pfs r.kind)
-tree_allows Inodes r = is_leaf_of Pfs r.kind && is_held r
+tree_allows Inodes r = is_leaf_of Pfs r.kind && passes_as_held r
 
 abbrev pub allowed_by : Option Inode → Leaves → Ref → Bool
 allowed_by None leaves r = tree_allows leaves r

@@ -1,6 +1,6 @@
 //! Which leaves a tree may have.
 ghost use Rattle.std.specs.Prelude.{◌≡◌, ◌&&◌, not, Some};
-ghost use Rattle.h2_memory_sets.specs.Held.{is_held};
+ghost use Rattle.h2_set.specs.HeldTest.{passes_as_held};
 ghost use Rattle.h2_memory_sets.specs.Owners.{is_leaf_of, inode_allows, tree_allows, allows_of};
 
 use crate::node::{Leaves, Node};
@@ -9,9 +9,12 @@ use h2_ref::{Kind, Ref};
 
 // Whether a set may hold a reference: it is valid and names something.
 fn is_held(r: &Ref) -> bool
-    ensures { result ≡ is_held r.now }
+    ensures { result ≡ passes_as_held r.now }
 {
-    r.kind != Kind::Empty && r.valid()
+    if r.kind == Kind::Empty {
+        return false;
+    }
+    r.valid()
 }
 
 // Whether leaves of a kind are those of an inode of the other.

@@ -111,8 +111,8 @@ steps_rules f g new top leaf inode c it stands =
     let first = (it.readies.same c stands).place.stands in
     let second = (it.inserts.still c first).stands in
     record {
-      leaf_bits = it.plants.brings.leaf_bits c second ∙ it.inserts.fixed.leaf_bits c ∙ it.readies.fixed.leaf_bits c;
-      allows = λ r. it.plants.brings.allows c r second ∙ it.inserts.fixed.allows c r ∙ it.readies.fixed.allows c r;
+      leaf_bits = it.plants.brings.leaf_bits c second ∙ it.inserts.fixed.leaf_bits c first second ∙ it.readies.fixed.leaf_bits c stands first;
+      allows = λ r. it.plants.brings.allows c r second ∙ it.inserts.fixed.allows c r first second ∙ it.readies.fixed.allows c r stands first;
     }
 
 pfs_name : (kind : InodeKind) (name : List ℕ) → kind ≡ Pfs_kind → IsNameOf kind name → IsPfsName name

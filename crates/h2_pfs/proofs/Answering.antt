@@ -30,7 +30,10 @@ on_err P Q R (Err e) step p q = step e p q
 -- a cause that came after loads
 pub cause_after : (f h g : Forest) (t : Trouble) → Visits f h → HasCause h g t → HasCause f g t
 cause_after f h g Failed visits cause = let failed = visits.failed in grind arith
-cause_after f h g (Bad place why) visits cause = let bad = visits.bad in grind arith
+cause_after f h g (Bad place why) visits cause =
+    let bad = visits.bad in
+    let rose = cause.0 in
+    (grind arith, cause.1)
 cause_after f h g NoMemory visits cause = tt
 
 -- what holds whatever was answered

@@ -47,7 +47,7 @@ found_free fields f g old new top id name sound visits beside stands none it m s
     clash : g.held m ≡ true → ⊥
     clash held =
         let held_f : f.held m ≡ true = sym (visits.held m) ∙ held in
-        let stood = sound.held m held_f in
+        let stood = (sound.held m held_f).0 in
         let other = none m id held_f (sym ((visits.stays m stood).place.belongs top id) ∙ belongs) in
         let named = visits_name f g top id other.node visits stands other.named in
         let at = it.met.only other.node (subst (λ k. IsNamed g top k other.node) (sym it.key) named) in

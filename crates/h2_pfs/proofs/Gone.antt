@@ -67,7 +67,10 @@ dropped fields f g old new was now top next id known met sound stands root besid
     let place = rem.place in
     let loaded = met_loaded f (held_by fields old) was top next known met sound stands meets has in
     let leaves : LeavesOf g top (without id l) = subst (λ k. LeavesOf g top (without k l)) gone.key_is (rem.leaves l has.has.read) in
-    let each = each_without (IsLoadedPfs f (held_by fields old) top) (IsPfs (loaded_nodes g (held_by fields new) now no_content) (at_root top)) id 0 (2 ^ 64) l known has.has.ordered (λ r p is. is.id_is) (λ r p differs is. listed_pfs g (held_by fields new) now top r p (renewed_pfs fields f g old new top r p rem.sound beside place is (fixed_rules f g is.node rem.fixed) (rem.above is.node is.named.stands (other_tree f (held_by fields old) top r p sound stands root is) (other_leaf f (held_by fields old) top gone.leaf.key r p sound stands root (λ e. differs (e ∙ gone.key_is)) is)))) loaded in
+    let carry = λ (r : Ref) (p : ListedPfs) (differs : r.key ≡ id → ⊥) (is : IsLoadedPfs f (held_by fields old) top r p).
+        let renews = rem.above is.node is.named.stands (other_tree f (held_by fields old) top r p sound stands root is) (other_leaf f (held_by fields old) top gone.leaf.key r p sound stands root (λ e. differs (e ∙ gone.key_is)) is) in
+        listed_pfs g (held_by fields new) now top r p (renewed_pfs fields f g old new top r p rem.sound beside place is (fixed_rules f g is.node is.named.stands renews.place.stands rem.fixed) renews) in
+    let each = each_without (IsLoadedPfs f (held_by fields old) top) (IsPfs (loaded_nodes g (held_by fields new) now no_content) (at_root top)) id 0 (2 ^ 64) l known has.has.ordered (λ r p is. is.id_is) carry loaded in
     record {
       leaves = without id l;
       has = record { read = leaves; ordered = tree_rising g top (without id l) rem.sound place.stands leaves };

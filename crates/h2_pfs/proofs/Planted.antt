@@ -5,7 +5,7 @@ use Rattle.std.proofs.lemmas.Bool.Decides.{nat_tests}
 use Rattle.std.proofs.lemmas.Option.{none-some}
 use Rattle.h2_ref.specs.declared.reference.Ref.{Ref}
 use Rattle.h2_set.specs.Ranges.{limit, holds, find}
-use Rattle.h2_set.specs.Forest.{Forest, IsSound, LeavesOf, Reaches, here, below, ReadiesOnly, Walks, Stays}
+use Rattle.h2_set.specs.Forest.{Forest, IsSound, LeavesOf, Reaches, here, below, InPlace, ReadiesOnly, Walks, Stays}
 use Rattle.h2_set.specs.StayLaws.{Same-Stays, Reaches-walks, stands_below}
 use Rattle.h2_set.specs.PathLaws.{reaches_one, reaches_stay}
 use Rattle.h2_tree.specs.Changes.{Takes, KeepsPaths, Descends, arrived, onward, TakesIn, replaced, placed, parted, Inserts}
@@ -66,18 +66,27 @@ founds f h k g new top c leaf inode readies inserts paths path plants has = reco
   path = path_stays k g leaf.key top (Some leaf) inserts.sound inserts.place.stands (λ m st. same_stays k g m (plants.brings.same m st)) path;
 }
 
--- what the tree may have, it may have after loads
-pub visits_takes : (f g : Forest) (at : ℕ) (leaf : Ref) → f.root at ≡ at → f.stands at ≡ true → Visits f g → Takes f at leaf → Takes g at leaf
-visits_takes f g at leaf root stands visits takes =
-    let place = (visits.stays at stands).place in
+-- what the tree may have, it may have where its root stays with its rules
+stays_takes : (f g : Forest) (at : ℕ) (leaf : Ref) → f.root at ≡ at → InPlace f g at → g.leaf_bits at ≡ f.leaf_bits at → g.allows at leaf ≡ f.allows at leaf → Takes f at leaf → Takes g at leaf
+stays_takes f g at leaf root place bits allows takes =
     let top : g.root at ≡ at = place.root ∙ root in
     record {
       is_leaf = takes.is_leaf;
-      held = takes.held;
-      allowed = ap (λ m. g.allows m leaf) top ∙ visits.allows at leaf stands ∙ ap (λ m. f.allows m leaf) (sym root) ∙ takes.allowed;
+      allowed = ap (λ m. g.allows m leaf) top ∙ allows ∙ ap (λ m. f.allows m leaf) (sym root) ∙ takes.allowed;
       aligned = takes.aligned;
       class = takes.class;
-      keybits = takes.keybits ∙ ap f.leaf_bits root ∙ sym (ap g.leaf_bits top ∙ visits.leaf_bits at stands);
+      keybits = takes.keybits ∙ ap f.leaf_bits root ∙ sym (ap g.leaf_bits top ∙ bits);
       low = subst (λ n. n ≤ leaf.key) (sym place.low) takes.low;
       high = subst (λ n. limit leaf ≤ n + 2 ^ g.bits at) (sym place.low) (subst (λ n. limit leaf ≤ f.low at + 2 ^ n) (sym place.bits) takes.high);
     }
+
+-- so it is after loads
+pub visits_takes : (f g : Forest) (at : ℕ) (leaf : Ref) → f.root at ≡ at → f.stands at ≡ true → Visits f g → Takes f at leaf → Takes g at leaf
+visits_takes f g at leaf root stands visits takes =
+    stays_takes f g at leaf root (visits.stays at stands).place (visits.leaf_bits at stands) (visits.allows at leaf stands) takes
+
+-- and once nodes were made ready
+pub ready_takes : (f g : Forest) (at : ℕ) (leaf : Ref) → f.root at ≡ at → f.stands at ≡ true → ReadiesOnly f g → Takes f at leaf → Takes g at leaf
+ready_takes f g at leaf root stands readies takes =
+    let place = (readies.same at stands).place in
+    stays_takes f g at leaf root place (readies.fixed.leaf_bits at stands place.stands) (readies.fixed.allows at leaf stands place.stands) takes

@@ -94,8 +94,8 @@ pub record SameRules (f g : Forest) (c : ℕ) : Type 0 where
   pub leaf_bits : g.leaf_bits c ≡ f.leaf_bits c
   pub allows : (r : Ref) → g.allows c r ≡ f.allows c r
 
-pub fixed_rules : (f g : Forest) (c : ℕ) → Fixed f g → SameRules f g c
-fixed_rules f g c fixed = record { leaf_bits = fixed.leaf_bits c; allows = fixed.allows c }
+pub fixed_rules : (f g : Forest) (c : ℕ) → f.stands c ≡ true → g.stands c ≡ true → Fixed f g → SameRules f g c
+fixed_rules f g c stood stands fixed = record { leaf_bits = fixed.leaf_bits c stood stands; allows = λ r. fixed.allows c r stood stands }
 
 -- the tree of a root that stays has the leaves of any body of the same kind of contents
 tree_stays : (f g : Forest) (c : ℕ) (kind : InodeKind) (a b : Body) → SameRules f g c → InPlace f g c → ((r : Ref) → MayHave kind a r ↔ MayHave kind b r) → IsTreeOf f c kind a → IsTreeOf g c kind b

@@ -8,6 +8,7 @@ use Rattle.h2_ref.specs.declared.reference.Kind.TheVariants.{Inode as Inode_kind
 use Rattle.h2_ref.specs.declared.reference.Ref.{Ref}
 use Rattle.h2_set.specs.Ranges.{Rising, limit}
 use Rattle.h2_set.specs.RefSet.{RefSet}
+use Rattle.h2_set.specs.SetBytes.{IsHeld}
 use Rattle.h2_set.specs.Forest.{Forest, refs, loaded, told, untold, Link, IsSound, Reaches, nowhere, here, below}
 use Rattle.h2_set.specs.LeafLaws.{Rising-le}
 use Rattle.h2_set.specs.StayLaws.{stands_below}
@@ -32,7 +33,7 @@ reaches_allowed {f} sound stands (below {at = at} {c = c} {r = q} i read in_q in
 
 -- a leaf of the super-root's tree names an inode
 pub names_inode : (f : Forest) (top key : ℕ) (r : Ref) → IsSound f → IsSuperRoot f top → Reaches f key top (Some r) → r.kind ≡ Inode_kind
-names_inode f top key r sound super path = (super.allows r).0 (subst (λ m. f.allows m r ≡ true) super.root (reaches_allowed sound super.stands path r refl))
+names_inode f top key r sound super path = ((super.allows r).0 (subst (λ m. f.allows m r ≡ true) super.root (reaches_allowed sound super.stands path r refl))).0
 
 pub listed_leaves : (f : Forest) (top : ℕ) (l : List Ref) → IsSound f → IsSuperRoot f top → Lists f top 0 (2 ^ 64 - 1) l → AreLeaves f top l
 listed_leaves f top l sound super lists = record {
@@ -52,7 +53,7 @@ super_stays f g top super h =
       low = place.low ∙ super.low;
       bits = place.bits ∙ super.bits;
       leaf_bits = h.leaf_bits top super.stands ∙ super.leaf_bits;
-      allows = λ r. subst (λ x. (x ≡ true) ↔ (r.kind ≡ Inode_kind)) (sym (h.allows top r super.stands)) (super.allows r);
+      allows = λ r. subst (λ x. (x ≡ true) ↔ ((r.kind ≡ Inode_kind) × IsHeld r)) (sym (h.allows top r super.stands)) (super.allows r);
     }
 
 -- whether a block is loaded

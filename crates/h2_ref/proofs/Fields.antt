@@ -4,7 +4,8 @@ use Rattle.std.specs.Prelude.{Option, Some, None, zero, suc, length}
 use Rattle.std.proofs.lemmas.Bool.{cond-true, false≢true}
 use Rattle.h2_num.specs.Places.{Places, places, number_at, SameOutside, ZeroIn, Puts, Lays}
 use Rattle.h2_num.specs.PlaceLaws.{number_at-same, number_stays, byte_stays, outside_both}
-use Rattle.h2_ref.specs.Ref.{row, kind_number, method_number, check_len, check_value, area_len, fields_end, is_inline, inline_len, EntryFits, EntryBytes, NameBytes, RefBytes}
+use Rattle.h2_ref.specs.Methods.{check_value}
+use Rattle.h2_ref.specs.Ref.{row, kind_number, method_number, check_len, area_len, fields_end, is_inline, inline_len, EntryFits, EntryBytes, NameBytes, RefBytes}
 use Rattle.h2_ref.specs.Table.{row_of}
 use Rattle.h2_ref.specs.declared.reference.Kind.{Kind}
 use Rattle.h2_ref.specs.declared.reference.Kind.TheVariants.{Empty, Inode, Indirect, Content, Dirent, MapNode, MapLeaf}
@@ -24,6 +25,17 @@ inline_unchecked Dirent zero is = refl
 inline_unchecked Dirent (suc m) is = absurd (false≢true is)
 inline_unchecked MapNode m is = absurd (false≢true is)
 inline_unchecked MapLeaf m is = absurd (false≢true is)
+
+-- each row of a kind has the kind's number
+pub row_numbered : (k : Kind) (m : ℕ) → (row_of k m).number ≡ kind_number k
+row_numbered Empty m = refl
+row_numbered Inode m = refl
+row_numbered Indirect m = refl
+row_numbered Content m = refl
+row_numbered Dirent zero = refl
+row_numbered Dirent (suc m) = refl
+row_numbered MapNode m = refl
+row_numbered MapLeaf m = refl
 
 end_most : (d : Option Entry) → fields_end d ≤ 43
 end_most None = omega arith

@@ -1,33 +1,33 @@
 -- Which refusal bytes that are no reference meet: the first of the order, as the bytes show it.
-use Rattle.std.specs.Prelude.{ℕ, zero, suc, Bool, true, not, ◌&&◌, ◌||◌, ◌==◌, ◌+◌, ◌-◌, ◌%◌, ◌^◌, nat_le, nat_lt, if◌then◌else◌, Option, Some, None, option_map}
+use Rattle.std.specs.Prelude.{ℕ, zero, suc, Bool, true, not, ◌&&◌, ◌||◌, ◌==◌, ◌+◌, ◌-◌, ◌%◌, ◌^◌, nat_le, nat_lt, if◌then◌else◌, Option, Some, None, option_map, find}
 use Rattle.h2_num.specs.Places.{Places, number_at}
 use Rattle.h2_ref.specs.declared.reference.Kind.{Kind}
-use Rattle.h2_ref.specs.declared.reference.Kind.TheVariants.{Empty, Inode, Indirect, Content, Dirent, MapNode, MapLeaf}
 use Rattle.h2_ref.specs.declared.faults.RefFault.{RefFault}
 use Rattle.h2_ref.specs.declared.faults.RefFault.TheVariants.{Kind as BadKind, Method as BadMethod, Radix as BadRadix, Place as BadPlace, Key as BadKey, Id as BadId, Dirent as BadDirent, Padding}
 use Rattle.h2_ref.specs.declared.table.Span.{Span}
 use Rattle.h2_ref.specs.declared.table.Keybits.{Keybits}
 use Rattle.h2_ref.specs.declared.table.Keybits.TheVariants.{Just, Either, Between}
-use Rattle.h2_ref.specs.declared.table.CheckClass.{CheckClass}
+use Rattle.h2_ref.specs.declared.table.Methods.{Methods}
+use Rattle.h2_ref.specs.declared.table.Methods.TheVariants.{One, Two}
 use Rattle.h2_ref.specs.declared.table.Row.{Row}
-use Rattle.h2_ref.specs.Table.{method_of, row_of}
-use Rattle.h2_ref.specs.Ref.{is_inline}
+use Rattle.h2_ref.specs.Methods.{method_row}
+use Rattle.h2_ref.specs.Table.{row_of, kinds}
+use Rattle.h2_ref.specs.Ref.{kind_number, method_in, is_inline}
 
 -- The tests of the table
 
 -- the kind with a number
 abbrev pub kind_of : ℕ → Option Kind
-kind_of n =
-    if n == 0 then Some Empty else if n == 1 then Some Inode else if n == 2 then Some Indirect else if n == 3 then Some Content
-    else if n == 4 then Some Dirent else if n == 5 then Some MapNode else if n == 6 then Some MapLeaf else None
+kind_of n = find (λ kind. kind_number kind == n) kinds
 
 -- a number is in a span
 abbrev pub in_span : Span → ℕ → Bool
 in_span s n = nat_le s.least n && nat_le n s.last
 
--- a class of checks has the method with a number
-abbrev pub is_method_of : CheckClass → ℕ → Bool
-is_method_of class method = method == (method_of class).number
+-- one of the methods has the number
+abbrev pub is_method_of : Methods → ℕ → Bool
+is_method_of (One a) n = n == (method_row a).number
+is_method_of (Two a b) n = n == (method_row a).number || n == (method_row b).number
 
 -- keybits are allowed
 abbrev pub has_keybits : Keybits → ℕ → Bool
@@ -63,10 +63,10 @@ abbrev pub entry_fits_at : Option Span → Places → Bool
 entry_fits_at None b = true
 entry_fits_at (Some names) b = is_entry_at names b
 
--- how many bytes of the check area are in use: those of a name that stands there, or of the row's check
+-- how many bytes of the check area are in use: those of a name that stands there, or of the method's check
 abbrev pub area_len_at : Row → Option Span → Places → ℕ
-area_len_at w None b = (method_of w.check).area
-area_len_at w (Some names) b = if is_inline w then number_at b 40 2 else (method_of w.check).area
+area_len_at w None b = (method_row (method_in w.methods (b 1))).area
+area_len_at w (Some names) b = if is_inline w then number_at b 40 2 else (method_row (method_in w.methods (b 1))).area
 
 -- where the fields of an entry end, or those of every other kind
 abbrev pub fields_end_at : Option Span → ℕ
@@ -100,7 +100,7 @@ unless test fault rest = if test then rest else Some fault
 -- the refusals by a row of the table, in their order
 abbrev pub fault_by : Row → Places → Option RefFault
 fault_by w b =
-    unless (is_method_of w.check (b 1)) (BadMethod (b 1)) (
+    unless (is_method_of w.methods (b 1)) (BadMethod (b 1)) (
     unless (b 3 == w.flags.0) (Padding 3) (
     unless (radix_at b == w.radix) (BadRadix (radix_at b)) (
     unless (place_fits w.radix (place_at b)) (BadPlace (place_at b)) (

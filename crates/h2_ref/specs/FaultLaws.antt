@@ -1,7 +1,7 @@
 -- Bytes meet a refusal exactly where they spell no valid reference.
-use Rattle.std.specs.Prelude.{◌≡◌, ◌⊎◌, ◌==◌, ℕ, Bool, true, false, if◌then◌else◌, Option, Some, None, refl}
+use Rattle.std.specs.Prelude.{◌≡◌, ◌==◌, ℕ, List, [], ◌∷◌, find, Option, Some, None, refl}
 use Rattle.std.proofs.Common.{ap, sym, ◌∙◌, inl, inr}
-use Rattle.std.proofs.lemmas.Bool.{eqb-true}
+use Rattle.std.proofs.lemmas.Bool.{eqb-true, cases_Bool, cond-true, cond-false}
 use Rattle.std.proofs.lemmas.Option.{none-some, same_Some}
 use Rattle.h2_num.specs.Places.{Places, AreBytes}
 use Rattle.h2_ref.specs.declared.reference.Kind.{Kind}
@@ -10,7 +10,7 @@ use Rattle.h2_ref.specs.declared.reference.Ref.{Ref}
 use Rattle.h2_ref.specs.declared.faults.RefFault.{RefFault}
 use Rattle.h2_ref.specs.declared.faults.RefFault.TheVariants.{Kind as BadKind}
 use Rattle.h2_ref.specs.declared.table.Row.{Row}
-use Rattle.h2_ref.specs.Table.{row_of}
+use Rattle.h2_ref.specs.Table.{row_of, kinds}
 use Rattle.h2_ref.specs.Ref.{kind_number, IsValid, NoRef, RefBytes}
 use Rattle.h2_ref.specs.Fault.{kind_of, fault_by, fault_of_kind, first_fault}
 use Rattle.h2_ref.specs.Reading.{ref_at}
@@ -27,34 +27,19 @@ kind_back Dirent = refl
 kind_back MapNode = refl
 kind_back MapLeaf = refl
 
-kind_step : (t : Bool) (x k : Kind) (rest : Option Kind) → (if t then Some x else rest) ≡ Some k → ((t ≡ true) × (x ≡ k)) ⊎ (rest ≡ Some k)
-kind_step true x k rest e = inl (refl, same_Some x k e)
-kind_step false x k rest e = inr e
+-- what is found of some kinds has the number
+found_kind : (ks : List Kind) (n : ℕ) (k : Kind) → find (λ k. kind_number k == n) ks ≡ Some k → n ≡ kind_number k
+found_kind [] n k e = absurd (none-some k e)
+found_kind (x ∷ ks) n k e = elim (cases_Bool (kind_number x == n)) [
+  | inl is ↦
+      let same : x ≡ k = same_Some x k (sym (cond-true (kind_number x == n) (Some x) (find (λ k. kind_number k == n) ks) is) ∙ e) in
+      sym (eqb-true (kind_number x) n is) ∙ ap kind_number same
+  | inr isnt ↦ found_kind ks n k (sym (cond-false (kind_number x == n) (Some x) (find (λ k. kind_number k == n) ks) isnt) ∙ e)
+]
 
 -- a kind that is found has the number
 pub kind_there : (n : ℕ) (k : Kind) → kind_of n ≡ Some k → n ≡ kind_number k
-kind_there n k e = elim (kind_step (n == 0) Empty k _ e) [
-  | inl is ↦ eqb-true n 0 is.0 ∙ ap kind_number is.1
-  | inr e1 ↦ elim (kind_step (n == 1) Inode k _ e1) [
-    | inl is ↦ eqb-true n 1 is.0 ∙ ap kind_number is.1
-    | inr e2 ↦ elim (kind_step (n == 2) Indirect k _ e2) [
-      | inl is ↦ eqb-true n 2 is.0 ∙ ap kind_number is.1
-      | inr e3 ↦ elim (kind_step (n == 3) Content k _ e3) [
-        | inl is ↦ eqb-true n 3 is.0 ∙ ap kind_number is.1
-        | inr e4 ↦ elim (kind_step (n == 4) Dirent k _ e4) [
-          | inl is ↦ eqb-true n 4 is.0 ∙ ap kind_number is.1
-          | inr e5 ↦ elim (kind_step (n == 5) MapNode k _ e5) [
-            | inl is ↦ eqb-true n 5 is.0 ∙ ap kind_number is.1
-            | inr e6 ↦ elim (kind_step (n == 6) MapLeaf k _ e6) [
-              | inl is ↦ eqb-true n 6 is.0 ∙ ap kind_number is.1
-              | inr e7 ↦ absurd (none-some k e7)
-            ]
-          ]
-        ]
-      ]
-    ]
-  ]
-]
+kind_there n k e = found_kind kinds n k e
 
 -- the first refusal of the kind's row
 pub fault_from : (b : Places) (k : Kind) (w : Row) (o : Option RefFault) → kind_of (b 0) ≡ Some k → w ≡ row_of k (b 1) → fault_by w b ≡ o → first_fault b ≡ o

@@ -1,3 +1,4 @@
+pub mod Methods
 pub mod Table
 pub mod Ref
 pub mod Limits
@@ -7,6 +8,7 @@ pub mod Fault
 pub mod FirstPlace
 pub mod Padding
 pub mod Tests
+pub mod ValidTest
 pub mod Passing
 pub mod Reading
 pub mod Spelled

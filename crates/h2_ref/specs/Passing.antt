@@ -15,7 +15,7 @@ use Rattle.h2_ref.specs.Tests.{EntryFitsIn, in_span-fact, in_span-test, method-f
 
 -- the bytes pass each test of a row
 pub record Passes (w : Row) (b : Places) : Type 0 where
-  pub method : IsMethodOf w.check (b 1)
+  pub method : IsMethodOf w.methods (b 1)
   pub flags : b 3 ≡ w.flags.0
   pub radix : radix_at b ≡ w.radix
   pub place : PlaceFits w.radix (place_at b)
@@ -39,7 +39,7 @@ padding-none (Some n) e = absurd (none-some (Padding n) (sym e))
 
 pub pass : (w : Row) (b : Places) → fault_by w b ≡ None → Passes w b
 pass w b e0 =
-    let p1 = unless-none (is_method_of w.check (b 1)) (BadMethod (b 1)) _ e0 in
+    let p1 = unless-none (is_method_of w.methods (b 1)) (BadMethod (b 1)) _ e0 in
     let p2 = unless-none (b 3 == w.flags.0) (Padding 3) _ p1.1 in
     let p3 = unless-none (radix_at b == w.radix) (BadRadix (radix_at b)) _ p2.1 in
     let p4 = unless-none (place_fits w.radix (place_at b)) (BadPlace (place_at b)) _ p3.1 in
@@ -48,7 +48,7 @@ pass w b e0 =
     let p7 = unless-none (entry_fits_at w.names b) BadDirent _ p6.1 in
     let none : (k : ℕ) → k < 128 → is_padding w b k ≡ false = none_passes (is_padding w b) 128 (padding-none (first_place (is_padding w b) 128) p7.1) in
     record {
-      method = method-fact w.check (b 1) p1.0;
+      method = method-fact w.methods (b 1) p1.0;
       flags = eqb-true (b 3) w.flags.0 p2.0;
       radix = eqb-true (radix_at b) w.radix p3.0;
       place = place-fact w.radix (place_at b) p4.0;
@@ -65,7 +65,7 @@ no_padding w b h k lt = not_padding w b k (h.before_key k) (h.before_area k) (λ
 
 pub no_fault : (w : Row) (b : Places) → Passes w b → fault_by w b ≡ None
 no_fault w b h =
-    unless-pass (is_method_of w.check (b 1)) (BadMethod (b 1)) _ (method-test w.check (b 1) h.method) (
+    unless-pass (is_method_of w.methods (b 1)) (BadMethod (b 1)) _ (method-test w.methods (b 1) h.method) (
     unless-pass (b 3 == w.flags.0) (Padding 3) _ (eq-eqb (b 3) w.flags.0 h.flags) (
     unless-pass (radix_at b == w.radix) (BadRadix (radix_at b)) _ (eq-eqb (radix_at b) w.radix h.radix) (
     unless-pass (place_fits w.radix (place_at b)) (BadPlace (place_at b)) _ (place-test w.radix (place_at b) h.place) (

@@ -3,15 +3,14 @@ use Rattle.std.specs.Prelude.{ℕ, zero, suc, if◌then◌else◌, List, [], ◌
 use Rattle.h2_num.specs.Places.{Places, number_at}
 use Rattle.h2_ref.specs.declared.reference.Kind.{Kind}
 use Rattle.h2_ref.specs.declared.reference.Check.{Check}
-use Rattle.h2_ref.specs.declared.reference.Check.TheVariants.{Nothing, Crc, Xx}
 use Rattle.h2_ref.specs.declared.reference.Dirent.{Dirent as Entry}
 use Rattle.h2_ref.specs.declared.reference.Ref.{Ref}
 use Rattle.h2_ref.specs.declared.table.Span.{Span}
-use Rattle.h2_ref.specs.declared.table.CheckClass.{CheckClass}
-use Rattle.h2_ref.specs.declared.table.CheckClass.TheVariants.{Absent, OfBlock, OfMap}
+use Rattle.h2_ref.specs.declared.methods.Method.{Method}
 use Rattle.h2_ref.specs.declared.table.Row.{Row}
-use Rattle.h2_ref.specs.Table.{method_of, row_of}
-use Rattle.h2_ref.specs.Ref.{is_inline}
+use Rattle.h2_ref.specs.Methods.{method_row, check_with}
+use Rattle.h2_ref.specs.Table.{row_of}
+use Rattle.h2_ref.specs.Ref.{method_in, is_inline}
 use Rattle.h2_ref.specs.Fault.{place_at, radix_at}
 
 -- n bytes from a place on, as a list
@@ -19,15 +18,9 @@ unfoldable pub bytes_from : Places → ℕ → ℕ → List ℕ
 bytes_from b at zero = []
 bytes_from b at (suc n) = b at ∷ bytes_from b (suc at) n
 
--- the check of a class with a value
-abbrev pub check_with : CheckClass → ℕ → Check
-check_with Absent value = Nothing
-check_with OfBlock value = Xx value
-check_with OfMap value = Crc value
-
--- the check of a class
-abbrev pub check_of : CheckClass → Places → Check
-check_of class b = check_with class (number_at b 64 (method_of class).area)
+-- the check of a method
+abbrev pub check_of : Method → Places → Check
+check_of method b = check_with method (number_at b 64 (method_row method).area)
 
 -- the name in the check area, or none
 abbrev pub name_at : Row → Places → List ℕ
@@ -50,6 +43,6 @@ ref_at kind b = record {
   place = place_at b;
   radix = radix_at b;
   id = number_at b 24 8;
-  check = check_of (row_of kind (b 1)).check b;
+  check = check_of (method_in (row_of kind (b 1)).methods (b 1)) b;
   dirent = dirent_at (row_of kind (b 1)) (row_of kind (b 1)).names b;
 }

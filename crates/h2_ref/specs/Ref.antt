@@ -2,50 +2,34 @@
 use Rattle.std.specs.Prelude.{◌≡◌, ◌⊎◌, ◌<◌, ◌≤◌, ⊤, Bool, ℕ, zero, suc, ◌+◌, ◌*◌, ◌%◌, ◌^◌, ◌==◌, if◌then◌else◌, length, slice_index, Option, Some, None}
 use Rattle.h2_num.specs.Places.{Places, places, number_at, ZeroIn}
 use Rattle.h2_ref.specs.declared.reference.Kind.{Kind}
-use Rattle.h2_ref.specs.declared.reference.Kind.TheVariants.{Empty, Inode, Indirect, Content, Dirent, MapNode, MapLeaf}
+use Rattle.h2_ref.specs.declared.reference.Kind.TheVariants.{Empty}
 use Rattle.h2_ref.specs.declared.reference.Check.{Check}
-use Rattle.h2_ref.specs.declared.reference.Check.TheVariants.{Nothing, Crc, Xx}
+use Rattle.h2_ref.specs.declared.reference.Check.TheVariants.{Nothing}
 use Rattle.h2_ref.specs.declared.reference.Dirent.{Dirent as Entry}
 use Rattle.h2_ref.specs.declared.reference.Ref.{Ref}
 use Rattle.h2_ref.specs.declared.table.Span.{Span}
 use Rattle.h2_ref.specs.declared.table.Keybits.{Keybits}
 use Rattle.h2_ref.specs.declared.table.Keybits.TheVariants.{Just, Either, Between}
-use Rattle.h2_ref.specs.declared.table.CheckClass.{CheckClass}
-use Rattle.h2_ref.specs.declared.table.CheckClass.TheVariants.{Absent, OfBlock, OfMap}
+use Rattle.h2_ref.specs.declared.methods.Method.{Method}
+use Rattle.h2_ref.specs.declared.table.Methods.{Methods}
+use Rattle.h2_ref.specs.declared.table.Methods.TheVariants.{One, Two}
 use Rattle.h2_ref.specs.declared.table.Row.{Row}
-use Rattle.h2_ref.specs.Table.{method_of, row_of}
+use Rattle.h2_ref.specs.Methods.{method_of, method_row, check_value}
+use Rattle.h2_ref.specs.Table.{row_of}
 
--- the number of a kind
+-- the number of a kind: it stands in each row of the kind
 abbrev pub kind_number : Kind → ℕ
-kind_number Empty = 0
-kind_number Inode = 1
-kind_number Indirect = 2
-kind_number Content = 3
-kind_number Dirent = 4
-kind_number MapNode = 5
-kind_number MapLeaf = 6
-
--- the class of a check
-abbrev pub class_of : Check → CheckClass
-class_of Nothing = Absent
-class_of (Xx n) = OfBlock
-class_of (Crc n) = OfMap
+kind_number kind = (row_of kind 0).number
 
 -- the number of the method of a check
 abbrev pub method_number : Check → ℕ
-method_number check = (method_of (class_of check)).number
+method_number check = (method_row (method_of check)).number
 
 -- how many bytes a check has
 abbrev pub check_len : Check → ℕ
-check_len check = (method_of (class_of check)).area
+check_len check = (method_row (method_of check)).area
 
--- the number that they spell
-abbrev pub check_value : Check → ℕ
-check_value Nothing = 0
-check_value (Xx n) = n
-check_value (Crc n) = n
-
--- its number has that many bytes
+-- the number that they spell has that many bytes
 abbrev pub IsStored : Check → Type 0
 IsStored check = check_value check < 2 ^ (8 * check_len check)
 
@@ -58,9 +42,15 @@ pub record InSpan (s : Span) (n : ℕ) : Type 0 where
   pub least : s.least ≤ n
   pub last : n ≤ s.last
 
--- the method of a class of checks
-abbrev pub IsMethodOf : CheckClass → ℕ → Type 0
-IsMethodOf class method = method ≡ (method_of class).number
+-- one of the methods has the number
+abbrev pub IsMethodOf : Methods → ℕ → Type 0
+IsMethodOf (One a) n = n ≡ (method_row a).number
+IsMethodOf (Two a b) n = (n ≡ (method_row a).number) ⊎ (n ≡ (method_row b).number)
+
+-- the one that has it; the last, where none has it
+abbrev pub method_in : Methods → ℕ → Method
+method_in (One a) n = a
+method_in (Two a b) n = if n == (method_row a).number then a else b
 
 -- the keybits that are allowed
 abbrev pub HasKeybits : Keybits → ℕ → Type 0
@@ -111,7 +101,7 @@ EntryFits w (Some names) (Some e) = IsEntry w names e
 
 -- a reference by a row of the table
 pub record FitsRow (w : Row) (r : Ref) : Type 0 where
-  pub method : IsMethodOf w.check (method_number r.check)
+  pub method : IsMethodOf w.methods (method_number r.check)
   pub stored : IsStored r.check
   pub radix : r.radix ≡ w.radix
   pub place : PlaceFits w.radix r.place

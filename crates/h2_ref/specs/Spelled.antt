@@ -1,7 +1,7 @@
 -- Bytes that pass the tests of their row spell the reference that stands in them, and spelled bytes pass.
 use Rattle.std.specs.Prelude.{◌≡◌, ◌⊎◌, ◌<◌, ℕ, zero, suc, true, false, ◌+◌, ◌*◌, ◌%◌, ◌^◌, ◌==◌, if◌then◌else◌, List, length, slice_index, replicate, Option, Some, None, refl}
 use Rattle.std.proofs.Common.{ap, sym, ◌∙◌, subst, arith, inl, inr}
-use Rattle.std.proofs.lemmas.Bool.{cases_lt, cases_Bool, cond-true, cond-false}
+use Rattle.std.proofs.lemmas.Bool.{cases_lt, cases_Bool, cond-true, cond-false, eqb-true, eq-eqb, both_ways}
 use Rattle.std.proofs.lemmas.List.{get_or-replicate, get_or_past, length-replicate}
 use Rattle.h2_num.specs.Places.{Places, places, AreBytes, number_at, ZeroIn}
 use Rattle.h2_ref.specs.declared.reference.Kind.{Kind}
@@ -10,14 +10,17 @@ use Rattle.h2_ref.specs.declared.reference.Check.{Check}
 use Rattle.h2_ref.specs.declared.reference.Dirent.{Dirent as Entry}
 use Rattle.h2_ref.specs.declared.reference.Ref.{Ref}
 use Rattle.h2_ref.specs.declared.table.Span.{Span}
-use Rattle.h2_ref.specs.declared.table.CheckClass.{CheckClass}
-use Rattle.h2_ref.specs.declared.table.CheckClass.TheVariants.{Absent, OfBlock, OfMap}
+use Rattle.h2_ref.specs.declared.methods.Method.{Method}
+use Rattle.h2_ref.specs.declared.methods.Method.TheVariants.{Absent, Xxhash64, Freemap}
+use Rattle.h2_ref.specs.declared.table.Methods.{Methods}
+use Rattle.h2_ref.specs.declared.table.Methods.TheVariants.{One, Two}
 use Rattle.h2_ref.specs.declared.table.Row.{Row}
-use Rattle.h2_ref.specs.Table.{method_of, row_of}
+use Rattle.h2_ref.specs.Methods.{method_of, method_row, check_with, check_value}
+use Rattle.h2_ref.specs.Table.{row_of}
 use Rattle.h2_ref.specs.Limits.{row_limited}
-use Rattle.h2_ref.specs.Ref.{FitsRow, kind_number, class_of, method_number, check_len, check_value, row, IsMethodOf, IsStored, PlaceFits, InSpan, KeyFits, is_inline, inline_len, EntryFits, IsValid, area_len, fields_end, EntryBytes, NameBytes, RefBytes}
+use Rattle.h2_ref.specs.Ref.{FitsRow, kind_number, method_in, method_number, check_len, row, IsMethodOf, IsStored, PlaceFits, InSpan, KeyFits, is_inline, inline_len, EntryFits, IsValid, area_len, fields_end, EntryBytes, NameBytes, RefBytes}
 use Rattle.h2_ref.specs.Fault.{area_len_at, fields_end_at, radix_at, place_at}
-use Rattle.h2_ref.specs.Reading.{bytes_from, check_with, check_of, name_at, dirent_at, ref_at}
+use Rattle.h2_ref.specs.Reading.{bytes_from, check_of, name_at, dirent_at, ref_at}
 use Rattle.h2_ref.specs.Tests.{EntryFitsIn}
 use Rattle.h2_ref.specs.Passing.{Passes}
 
@@ -63,31 +66,43 @@ name_outside w b k isnt = ap (λ (l : List ℕ). slice_index l k) (cond-false (i
 
 -- Bytes that pass spell a reference
 
-class_back : (c : CheckClass) (value : ℕ) → class_of (check_with c value) ≡ c
-class_back Absent value = refl
-class_back OfBlock value = refl
-class_back OfMap value = refl
+method_back : (m : Method) (value : ℕ) → method_of (check_with m value) ≡ m
+method_back Absent value = refl
+method_back Xxhash64 value = refl
+method_back Freemap value = refl
 
-method_back : (c : CheckClass) (b : Places) → method_number (check_of c b) ≡ (method_of c).number
-method_back c b = ap (λ c. (method_of c).number) (class_back c _)
+number_back : (m : Method) (b : Places) → method_number (check_of m b) ≡ (method_row m).number
+number_back m b = ap (λ m. (method_row m).number) (method_back m _)
 
-check_len_back : (c : CheckClass) (b : Places) → check_len (check_of c b) ≡ (method_of c).area
-check_len_back c b = ap (λ c. (method_of c).area) (class_back c _)
+check_len_back : (m : Method) (b : Places) → check_len (check_of m b) ≡ (method_row m).area
+check_len_back m b = ap (λ m. (method_row m).area) (method_back m _)
 
-stored : (c : CheckClass) (b : Places) → AreBytes b → IsStored (check_of c b)
+stored : (m : Method) (b : Places) → AreBytes b → IsStored (check_of m b)
 stored Absent b bytes = omega arith
-stored OfBlock b bytes = number_below b 64 (method_of OfBlock).area bytes
-stored OfMap b bytes = number_below b 64 (method_of OfMap).area bytes
+stored Xxhash64 b bytes = number_below b 64 (method_row Xxhash64).area bytes
+stored Freemap b bytes = number_below b 64 (method_row Freemap).area bytes
 
-check_there : (c : CheckClass) (b : Places) → number_at b 64 (check_len (check_of c b)) ≡ check_value (check_of c b)
+check_there : (m : Method) (b : Places) → number_at b 64 (check_len (check_of m b)) ≡ check_value (check_of m b)
 check_there Absent b = refl
-check_there OfBlock b = refl
-check_there OfMap b = refl
+check_there Xxhash64 b = refl
+check_there Freemap b = refl
+
+-- the method that is found has the number
+found_number : (ms : Methods) (n : ℕ) → IsMethodOf ms n → (method_row (method_in ms n)).number ≡ n
+found_number (One a) n h = sym h
+found_number (Two a b) n h = elim (cases_Bool (n == (method_row a).number)) [
+  | inl is ↦ ap (λ m. (method_row m).number) (cond-true (n == (method_row a).number) a b is) ∙ sym (eqb-true n (method_row a).number is)
+  | inr isnt ↦ ap (λ m. (method_row m).number) (cond-false (n == (method_row a).number) a b isnt) ∙ sym (second h isnt)
+]
+  where
+    second : (n ≡ (method_row a).number) ⊎ (n ≡ (method_row b).number) → (n == (method_row a).number) ≡ false → n ≡ (method_row b).number
+    second (inl one) isnt = absurd (both_ways (n == (method_row a).number) isnt (eq-eqb n (method_row a).number one))
+    second (inr two) isnt = two
 
 -- how much of the check area is in use
-area_back : (w : Row) (names : Option Span) (b : Places) → check_len (check_of w.check b) ≡ (method_of w.check).area → area_len w (check_of w.check b) (dirent_at w names b) ≡ area_len_at w names b
-area_back w None b len = len
-area_back w (Some s) b len = ap (λ n. if is_inline w then number_at b 40 2 else n) len
+area_back : (w : Row) (names : Option Span) (b : Places) → area_len w (check_of (method_in w.methods (b 1)) b) (dirent_at w names b) ≡ area_len_at w names b
+area_back w None b = check_len_back (method_in w.methods (b 1)) b
+area_back w (Some s) b = ap (λ n. if is_inline w then number_at b 40 2 else n) (check_len_back (method_in w.methods (b 1)) b)
 
 end_back : (w : Row) (names : Option Span) (b : Places) → fields_end (dirent_at w names b) ≡ fields_end_at names
 end_back w None b = refl
@@ -96,7 +111,7 @@ end_back w (Some s) b = refl
 name_ends : (w : Row) (names : Span) (b : Places) → ZeroIn (64 + area_len_at w (Some names) b) 128 b → ZeroIn (inline_len w (number_at b 40 2)) 64 (places (name_at w b))
 name_ends w names b tail k ge lt = elim (cases_Bool (is_inline w)) [
   | inl is ↦
-      let used : area_len_at w (Some names) b ≡ number_at b 40 2 = cond-true (is_inline w) (number_at b 40 2) (method_of w.check).area is in
+      let used : area_len_at w (Some names) b ≡ number_at b 40 2 = cond-true (is_inline w) (number_at b 40 2) (method_row (method_in w.methods (b 1))).area is in
       let len : inline_len w (number_at b 40 2) ≡ number_at b 40 2 = cond-true (is_inline w) (number_at b 40 2) 0 is in
       name_inline w b k is lt ∙ tail (64 + k) (omega arith) (omega arith)
   | inr isnt ↦ name_outside w b k isnt
@@ -129,11 +144,12 @@ pub spell : (k : Kind) (b : Places) → AreBytes b → b 0 ≡ kind_number k →
 spell k b bytes kind p =
     let w = row_of k (b 1) in
     let r = ref_at k b in
-    let same : b 1 ≡ method_number r.check = p.method ∙ sym (method_back w.check b) in
-    let used = area_back w w.names b (check_len_back w.check b) in
+    let method = method_in w.methods (b 1) in
+    let same : b 1 ≡ method_number r.check = sym (found_number w.methods (b 1) p.method) ∙ sym (number_back method b) in
+    let used = area_back w w.names b in
     let fits : FitsRow w r = record {
-      method = subst (IsMethodOf w.check) same p.method;
-      stored = stored w.check b bytes;
+      method = subst (IsMethodOf w.methods) same p.method;
+      stored = stored method b bytes;
       radix = p.radix;
       place = p.place;
       key = p.key;
@@ -152,7 +168,7 @@ spell k b bytes kind p =
           id = refl;
           entry = entry_there w w.names b;
           name = subst (λ m. NameBytes (row_of k m) r.dirent b) same (name_there w w.names b);
-          check = check_there w.check b;
+          check = check_there method b;
         };
         gaps = record {
           before_key = p.before_key;
@@ -175,18 +191,20 @@ place_split Dirent (suc m) place h = let e : place % 1024 ≡ 0 = h.multiple in 
 place_split MapNode m place h = let e : place % 1024 ≡ 0 = h.multiple in omega arith
 place_split MapLeaf m place h = let e : place % 1024 ≡ 0 = h.multiple in omega arith
 
--- the class with a method's number
-abbrev class_numbered : ℕ → CheckClass
-class_numbered n = if n == (method_of OfBlock).number then OfBlock else if n == (method_of OfMap).number then OfMap else Absent
+-- the method with a number
+abbrev method_numbered : ℕ → Method
+method_numbered n = if n == (method_row Xxhash64).number then Xxhash64 else if n == (method_row Freemap).number then Freemap else Absent
 
-numbered_back : (c : CheckClass) → class_numbered (method_of c).number ≡ c
+numbered_back : (m : Method) → method_numbered (method_row m).number ≡ m
 numbered_back Absent = refl
-numbered_back OfBlock = refl
-numbered_back OfMap = refl
+numbered_back Xxhash64 = refl
+numbered_back Freemap = refl
 
--- the method of a class has checks of this class alone
-pub class_there : (c : CheckClass) (check : Check) → IsMethodOf c (method_number check) → c ≡ class_of check
-class_there c check e = sym (numbered_back c) ∙ sym (ap class_numbered e) ∙ numbered_back (class_of check)
+-- no two methods have one number, so a check's method is found by its number
+pub method_there : (ms : Methods) (check : Check) → IsMethodOf ms (method_number check) → method_in ms (method_number check) ≡ method_of check
+method_there ms check h =
+    let found = method_in ms (method_number check) in
+    sym (numbered_back found) ∙ ap method_numbered (found_number ms (method_number check) h) ∙ numbered_back (method_of check)
 
 entry_in : (w : Row) (names : Option Span) (d : Option Entry) (b : Places) → EntryFits w names d → EntryBytes d b → EntryFitsIn names b
 entry_in w None d b h f = tt
@@ -198,11 +216,11 @@ entry_in w (Some s) (Some e) b h f = record {
   number_below = subst (λ n. n < 2 ^ 62) (sym f.number) h.number_below;
 }
 
-area_in : (w : Row) (names : Option Span) (d : Option Entry) (check : Check) (b : Places) → (method_of w.check).area ≡ check_len check → EntryFits w names d → EntryBytes d b → area_len_at w names b ≡ area_len w check d
+area_in : (w : Row) (names : Option Span) (d : Option Entry) (check : Check) (b : Places) → (method_row (method_in w.methods (b 1))).area ≡ check_len check → EntryFits w names d → EntryBytes d b → area_len_at w names b ≡ area_len w check d
 area_in w None None check b len h f = len
 area_in w None (Some e) check b len h f = absurd h
 area_in w (Some s) None check b len h f = absurd h
-area_in w (Some s) (Some e) check b len h f = ap (λ n. if is_inline w then n else (method_of w.check).area) f.len ∙ ap (λ n. if is_inline w then e.len else n) len
+area_in w (Some s) (Some e) check b len h f = ap (λ n. if is_inline w then n else (method_row (method_in w.methods (b 1))).area) f.len ∙ ap (λ n. if is_inline w then e.len else n) len
 
 end_in : (w : Row) (names : Option Span) (d : Option Entry) → EntryFits w names d → fields_end_at names ≡ fields_end d
 end_in w None None h = refl
@@ -222,9 +240,10 @@ pass_row r b h s =
     let sum : number_at b 16 8 ≡ r.place + r.radix = f.place in
     let low : radix_at b ≡ w.radix = omega arith in
     let high : r.place ≡ place_at b = omega arith in
-    let len : (method_of w.check).area ≡ check_len r.check = ap (λ c. (method_of c).area) (class_there w.check r.check h.method) in
+    let len : (method_row (method_in w.methods (b 1))).area ≡ check_len r.check =
+    ap (λ n. (method_row (method_in w.methods n)).area) f.method ∙ ap (λ m. (method_row m).area) (method_there w.methods r.check h.method) in
     record {
-      method = subst (IsMethodOf w.check) (sym f.method) h.method;
+      method = subst (IsMethodOf w.methods) (sym f.method) h.method;
       flags = f.flags;
       radix = low;
       place = subst (PlaceFits w.radix) high h.place;

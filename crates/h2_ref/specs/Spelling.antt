@@ -14,10 +14,11 @@ use Rattle.h2_ref.specs.declared.table.Span.{Span}
 use Rattle.h2_ref.specs.declared.table.Row.{Row}
 use Rattle.h2_ref.specs.Table.{row_of}
 use Rattle.h2_ref.specs.Limits.{row_limited}
-use Rattle.h2_ref.specs.Ref.{row, class_of, method_number, check_len, check_value, is_inline, inline_len, area_len, fields_end, EntryFits, EntryBytes, NameBytes, RefBytes, IsValid}
+use Rattle.h2_ref.specs.Methods.{method_of, check_value}
+use Rattle.h2_ref.specs.Ref.{row, method_in, method_number, check_len, is_inline, inline_len, area_len, fields_end, EntryFits, EntryBytes, NameBytes, RefBytes, IsValid}
 use Rattle.h2_ref.specs.Fault.{kind_of, radix_at, place_at}
 use Rattle.h2_ref.specs.Reading.{check_of, name_at, dirent_at, ref_at}
-use Rattle.h2_ref.specs.Spelled.{class_there, place_split, length-name_at, name_inline, name_outside}
+use Rattle.h2_ref.specs.Spelled.{method_there, place_split, length-name_at, name_inline, name_outside}
 use Rattle.h2_ref.specs.FaultLaws.{kind_back}
 
 -- A reference has one spelling
@@ -93,7 +94,7 @@ one_spelling r a b fa fb p q (suc (suc (suc (suc j)))) lt = bytes_from_4 r a b f
 
 -- Bytes spell one valid reference at most
 
-check_back : (c : Check) (b : Places) → number_at b 64 (check_len c) ≡ check_value c → check_of (class_of c) b ≡ c
+check_back : (c : Check) (b : Places) → number_at b 64 (check_len c) ≡ check_value c → check_of (method_of c) b ≡ c
 check_back Nothing b h = refl
 check_back (Xx n) b h = ap Xx h
 check_back (Crc n) b h = ap Crc h
@@ -142,8 +143,8 @@ read_back r b h s =
     let sum : number_at b 16 8 ≡ r.place + r.radix = f.place in
     let radix : radix_at b ≡ r.radix = omega arith in
     let place : place_at b ≡ r.place = omega arith in
-    let check : check_of (row_of r.kind (b 1)).check b ≡ r.check =
-    ap (λ m. check_of (row_of r.kind m).check b) f.method ∙ ap (λ c. check_of c b) (class_there w.check r.check h.method) ∙ check_back r.check b f.check in
+    let check : check_of (method_in (row_of r.kind (b 1)).methods (b 1)) b ≡ r.check =
+    ap (λ n. check_of (method_in (row_of r.kind n).methods n) b) f.method ∙ ap (λ m. check_of m b) (method_there w.methods r.check h.method) ∙ check_back r.check b f.check in
     let dirent : dirent_at (row_of r.kind (b 1)) (row_of r.kind (b 1)).names b ≡ r.dirent =
     ap (λ m. dirent_at (row_of r.kind m) (row_of r.kind m).names b) f.method ∙ dirent_back w w.names r.dirent r.check b h.entry f.entry f.name s.gaps.tail in
     let key = f.key in

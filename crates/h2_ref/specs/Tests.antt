@@ -6,9 +6,10 @@ use Rattle.h2_num.specs.Places.{Places, number_at}
 use Rattle.h2_ref.specs.declared.table.Span.{Span}
 use Rattle.h2_ref.specs.declared.table.Keybits.{Keybits}
 use Rattle.h2_ref.specs.declared.table.Keybits.TheVariants.{Just, Either, Between}
-use Rattle.h2_ref.specs.declared.table.CheckClass.{CheckClass}
+use Rattle.h2_ref.specs.declared.table.Methods.{Methods}
+use Rattle.h2_ref.specs.declared.table.Methods.TheVariants.{One, Two}
 use Rattle.h2_ref.specs.declared.table.Row.{Row}
-use Rattle.h2_ref.specs.Table.{method_of}
+use Rattle.h2_ref.specs.Methods.{method_row}
 use Rattle.h2_ref.specs.Ref.{InSpan, IsMethodOf, HasKeybits, KeyFits, PlaceFits}
 use Rattle.h2_ref.specs.Fault.{in_span, is_method_of, has_keybits, key_fits, place_fits, entry_fits_at}
 
@@ -18,11 +19,17 @@ in_span-fact s n e = let p = and_parts (nat_le s.least n) (nat_le n s.last) e in
 pub in_span-test : (s : Span) (n : ℕ) → InSpan s n → in_span s n ≡ true
 in_span-test s n h = and_from (nat_le s.least n) (nat_le n s.last) (le-leb s.least n h.least) (le-leb n s.last h.last)
 
-pub method-fact : (c : CheckClass) (m : ℕ) → is_method_of c m ≡ true → IsMethodOf c m
-method-fact c m e = eqb-true m (method_of c).number e
+pub method-fact : (m : Methods) (n : ℕ) → is_method_of m n ≡ true → IsMethodOf m n
+method-fact (One a) n e = eqb-true n (method_row a).number e
+method-fact (Two a b) n e = elim (or_cases (n == (method_row a).number) (n == (method_row b).number) e) [
+  | inl one ↦ inl (eqb-true n (method_row a).number one)
+  | inr two ↦ inr (eqb-true n (method_row b).number two)
+]
 
-pub method-test : (c : CheckClass) (m : ℕ) → IsMethodOf c m → is_method_of c m ≡ true
-method-test c m h = eq-eqb m (method_of c).number h
+pub method-test : (m : Methods) (n : ℕ) → IsMethodOf m n → is_method_of m n ≡ true
+method-test (One a) n h = eq-eqb n (method_row a).number h
+method-test (Two a b) n (inl one) = or_left (n == (method_row a).number) (n == (method_row b).number) (eq-eqb n (method_row a).number one)
+method-test (Two a b) n (inr two) = or_right (n == (method_row a).number) (n == (method_row b).number) (eq-eqb n (method_row b).number two)
 
 keybits-fact : (k : Keybits) (n : ℕ) → has_keybits k n ≡ true → HasKeybits k n
 keybits-fact (Just a) n e = eqb-true n a e
@@ -76,13 +83,13 @@ abbrev pub EntryFitsIn : Option Span → Places → Type 0
 EntryFitsIn None b = ⊤
 EntryFitsIn (Some names) b = IsEntryIn names b
 
-target-fact : (n : ℕ) → (n == 1 || n == 2) ≡ true → (n ≡ 1) ⊎ (n ≡ 2)
+pub target-fact : (n : ℕ) → (n == 1 || n == 2) ≡ true → (n ≡ 1) ⊎ (n ≡ 2)
 target-fact n e = elim (or_cases (n == 1) (n == 2) e) [
   | inl one ↦ inl (eqb-true n 1 one)
   | inr two ↦ inr (eqb-true n 2 two)
 ]
 
-target-test : (n : ℕ) → (n ≡ 1) ⊎ (n ≡ 2) → (n == 1 || n == 2) ≡ true
+pub target-test : (n : ℕ) → (n ≡ 1) ⊎ (n ≡ 2) → (n == 1 || n == 2) ≡ true
 target-test n (inl one) = or_left (n == 1) (n == 2) (eq-eqb n 1 one)
 target-test n (inr two) = or_right (n == 1) (n == 2) (eq-eqb n 2 two)
 

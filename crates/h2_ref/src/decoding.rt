@@ -4,29 +4,20 @@ ghost use Rattle.h2_num.specs.Places.{places};
 ghost use Rattle.h2_ref.specs.Ref.{IsValid, NoRef, RefBytes};
 ghost use Rattle.h2_ref.specs.Fault.{first_fault};
 ghost use Rattle.h2_ref.specs.Table.{row_of};
-ghost use Rattle.h2_ref.specs.Reading.{check_of, dirent_at, name_at, ref_at};
+ghost use Rattle.h2_ref.specs.Reading.{dirent_at, name_at, ref_at};
 
 use crate::faults::RefFault;
 use crate::flags::RefFlags;
-use crate::judging::{fault_by, kind_of, place_at, radix_at};
+use crate::judging::{fault_by, place_at, radix_at};
 use crate::layout::{
     AREA_AT, AREA_BYTES, ID_AT, KEY_AT, KEYBITS_AT, KIND_AT, LEN_AT, METHOD_AT, NUMBER_AT,
     REF_BYTES, TARGET_AT,
 };
-use crate::reference::{Check, Dirent, Kind, Ref};
-use crate::table::{CheckClass, Row, row_of};
-use h2_num::{get16, get32, get64};
-
-/// The check of a class that stands in the bytes.
-fn check_of(class: CheckClass, b: &[u8; REF_BYTES]) -> Check
-    ensures { result ≡ check_of class (places b.now) }
-{
-    match class {
-        CheckClass::Absent => Check::Nothing,
-        CheckClass::OfBlock => Check::Xx(get64(b, AREA_AT)),
-        CheckClass::OfMap => Check::Crc(get32(b, AREA_AT)),
-    }
-}
+use crate::methods::check_of;
+use crate::reference::{Dirent, Kind, Ref};
+use crate::rules::method_in;
+use crate::table::{Row, kind_of, row_of};
+use h2_num::{get16, get64};
 
 /// The name in the check area, or none.
 fn name_at(w: &Row, b: &[u8; REF_BYTES]) -> [u8; AREA_BYTES]
@@ -68,7 +59,7 @@ fn read(kind: Kind, w: &Row, b: &[u8; REF_BYTES]) -> Ref
         place: place_at(b),
         radix: radix_at(b),
         id: get64(b, ID_AT),
-        check: check_of(w.check, b),
+        check: check_of(method_in(w.methods, b[METHOD_AT]), b),
         dirent: dirent_at(w, b),
     }
 }

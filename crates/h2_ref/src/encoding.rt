@@ -1,47 +1,19 @@
 ghost use Rattle.std.specs.Prelude.{◌≡◌, ◌+◌, ◌-◌};
 ghost use Rattle.h2_num.specs.Places.{number_at, places, SameOutside, ZeroIn};
-ghost use Rattle.h2_ref.specs.Ref.{area_len, check_len, check_value, fields_end, kind_number, EntryBytes, IsValid, NameBytes, RefBytes, row};
+ghost use Rattle.h2_ref.specs.Methods.{check_value};
+ghost use Rattle.h2_ref.specs.Ref.{area_len, check_len, fields_end, EntryBytes, IsValid, NameBytes, RefBytes, row};
 
 use crate::flags::RefFlags;
 use crate::layout::{
     AREA_AT, FLAGS_AT, ID_AT, KEY_AT, KEYBITS_AT, KIND_AT, LEN_AT, METHOD_AT, NUMBER_AT, PLACE_AT,
     REF_BYTES, TARGET_AT,
 };
-use crate::reference::{Check, Dirent, Kind, Ref};
+use crate::methods::check_over_zeros;
+use crate::reference::{Dirent, Ref};
 use crate::rules::method_number;
 use crate::table::{Row, row_of};
 use bitflags::Flags;
-use h2_num::{put_bytes, put8, put16, put32, put64};
-
-/// The number of a kind.
-fn kind_number(kind: Kind) -> u8
-    ensures { result ≡ kind_number kind }
-{
-    match kind {
-        Kind::Empty => 0,
-        Kind::Inode => 1,
-        Kind::Indirect => 2,
-        Kind::Content => 3,
-        Kind::Dirent => 4,
-        Kind::MapNode => 5,
-        Kind::MapLeaf => 6,
-    }
-}
-
-/// The check in its place, over zeros.
-fn check_over_zeros(check: Check) -> [u8; REF_BYTES]
-    ensures front { ZeroIn 0 64 (places result) }
-    ensures check { number_at (places result) 64 (check_len check) ≡ check_value check }
-    ensures tail { ZeroIn (64 + check_len check) 128 (places result) }
-{
-    let mut b = [0; REF_BYTES];
-    match check {
-        Check::Nothing => {}
-        Check::Xx(n) => put64(&mut b, AREA_AT, n),
-        Check::Crc(n) => put32(&mut b, AREA_AT, n),
-    }
-    b
-}
+use h2_num::{put_bytes, put8, put16, put64};
 
 /// The check area of a valid reference, over zeros: the name of an entry that has it, else the check.
 fn area_over_zeros(r: &Ref, w: &Row) -> [u8; REF_BYTES]
@@ -82,7 +54,7 @@ pub fn encode(r: &Ref) -> [u8; REF_BYTES]
     let w = row_of(r.kind, method);
     let mut b = area_over_zeros(r, &w);
     put_dirent(&r.dirent, &mut b);
-    put8(&mut b, KIND_AT, kind_number(r.kind));
+    put8(&mut b, KIND_AT, w.number);
     put8(&mut b, METHOD_AT, method);
     put8(&mut b, KEYBITS_AT, r.keybits);
     put8(&mut b, FLAGS_AT, w.flags.bits());

@@ -1,6 +1,6 @@
 ghost use Rattle.std.specs.Prelude.{◌≡◌, ◌<◌, ◌≤◌, ◌+◌, IfNone, IfSome, MatchOption, option_map};
 ghost use Rattle.h2_num.specs.Places.{places, ZeroIn};
-ghost use Rattle.h2_ref.specs.Fault.{area_len_at, entry_fits_at, fault_by, fields_end_at, first_place, is_entry_at, is_padding, kind_of, place_at, radix_at};
+ghost use Rattle.h2_ref.specs.Fault.{area_len_at, entry_fits_at, fault_by, fields_end_at, first_place, is_entry_at, is_padding, place_at, radix_at};
 ghost use Rattle.h2_ref.specs.Limits.{IsLimited};
 
 use crate::faults::RefFault;
@@ -9,30 +9,14 @@ use crate::layout::{
     AREA_AT, FLAGS_AT, FLAGS_END, ID_AT, KEY_AT, KEYBITS_AT, LEN_AT, METHOD_AT, NUMBER_AT,
     PLACE_AT, REF_BYTES, TARGET_AT, TARGET_END,
 };
-use crate::reference::Kind;
-use crate::rules::{in_span, is_method_of, key_fits, place_fits};
-use crate::table::{INODE_END, Row, Span, method_of};
+use crate::methods::method_row;
+use crate::rules::{in_span, is_method_of, key_fits, method_in, place_fits};
+use crate::table::{INODE_END, Row, Span};
 use bitflags::Flags;
 use h2_num::{first_nonzero, get16, get64};
 
 /// One more than the greatest radix that the low bits of a place hold.
 const RADIX_END: u64 = 64;
-
-/// The kind with the number; None where there is none.
-pub fn kind_of(number: u8) -> Option<Kind>
-    ensures { result ≡ kind_of number }
-{
-    match number {
-        0 => Some(Kind::Empty),
-        1 => Some(Kind::Inode),
-        2 => Some(Kind::Indirect),
-        3 => Some(Kind::Content),
-        4 => Some(Kind::Dirent),
-        5 => Some(Kind::MapNode),
-        6 => Some(Kind::MapLeaf),
-        _ => None,
-    }
-}
 
 /// The radix: the low six bits of the place.
 pub fn radix_at(b: &[u8; REF_BYTES]) -> u8
@@ -76,7 +60,7 @@ fn area_len_at(w: &Row, b: &[u8; REF_BYTES]) -> usize
     if w.names.is_some() && w.flags == RefFlags::INLINE {
         get16(b, LEN_AT) as usize
     } else {
-        method_of(w.check).area
+        method_row(method_in(w.methods, b[METHOD_AT])).area
     }
 }
 
@@ -122,7 +106,7 @@ pub fn fault_by(w: &Row, b: &[u8; REF_BYTES]) -> Option<RefFault>
     requires { IsLimited w.now }
     ensures { result ≡ fault_by w.now (places b.now) }
 {
-    if !is_method_of(w.check, b[METHOD_AT]) {
+    if !is_method_of(w.methods, b[METHOD_AT]) {
         return Some(RefFault::Method(b[METHOD_AT]));
     }
     if RefFlags::from_bits_retain(b[FLAGS_AT]) != w.flags {

@@ -3,10 +3,10 @@
 //! A reference names a block: its kind, the range of keys below it, its place and size, the id of the
 //! checkpoint that wrote it, and the check of its bytes. An entry of a directory is a reference too, that
 //! names an inode, and holds its name where that is short. Which references are valid is a table with a row
-//! for each kind (`specs/Table`), and the bytes are a relation with a clause for each field and each gap
-//! between (`specs/Ref`). A reference has one spelling, and bytes spell one valid reference at most
-//! (`specs/Spelling`). Bytes that spell none meet a first refusal, which is defined by the bytes
-//! (`specs/Fault`).
+//! for each kind (`specs/Table`), whose methods of checks are rows of a table of their own (`specs/Methods`),
+//! and the bytes are a relation with a clause for each field and each gap between (`specs/Ref`). A reference
+//! has one spelling, and bytes spell one valid reference at most (`specs/Spelling`). Bytes that spell none
+//! meet a first refusal, which is defined by the bytes (`specs/Fault`).
 #![tactic(auto)]
 
 mod decoding;
@@ -16,6 +16,7 @@ mod flags;
 mod judging;
 mod laws;
 mod layout;
+mod methods;
 mod reference;
 mod rules;
 mod set;

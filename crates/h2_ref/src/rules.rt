@@ -1,12 +1,14 @@
-ghost use Rattle.std.specs.Prelude.{◌≡◌, ◌<◌, ◌%◌, ◌^◌, ◌↔◌, IsTrue, length};
+ghost use Rattle.std.specs.Prelude.{◌≡◌, ◌<◌, ◌%◌, ◌^◌, ◌==◌, ◌↔◌, IsTrue, length};
 ghost use Rattle.h2_num.specs.Places.{places, ZeroIn};
-ghost use Rattle.h2_ref.specs.Ref.{HasKeybits, InSpan, IsMethodOf, IsStored, class_of, method_number, PlaceFits, KeyFits, EntryFits, IsEntry, FitsRow, IsValid, inline_len};
+ghost use Rattle.h2_ref.specs.Methods.{method_row};
+ghost use Rattle.h2_ref.specs.Ref.{HasKeybits, InSpan, IsMethodOf, IsStored, method_in, method_number, PlaceFits, KeyFits, EntryFits, IsEntry, FitsRow, IsValid, inline_len};
 ghost use Rattle.h2_ref.specs.Fault.{in_span, is_method_of, has_keybits, key_fits, place_fits};
 ghost use Rattle.h2_ref.specs.Limits.{IsLimited};
 
 use crate::flags::RefFlags;
+use crate::methods::{Method, method_of, method_row};
 use crate::reference::{Check, Dirent, Ref};
-use crate::table::{CheckClass, DISK_BYTES, INODE_END, Keybits, Row, Span, method_of, row_of};
+use crate::table::{DISK_BYTES, INODE_END, Keybits, Methods, Row, Span, row_of};
 use h2_num::first_nonzero;
 
 /// Whether a number is in a span.
@@ -17,16 +19,37 @@ pub fn in_span(s: Span, n: u64) -> bool
     s.least <= n && n <= s.last
 }
 
-/// Whether a class of checks has the method with this number.
-pub fn is_method_of(class: CheckClass, method: u8) -> bool
-    ensures test { result ≡ is_method_of class method }
-    ensures fact { IsTrue result ↔ IsMethodOf class method }
+/// Whether this is the number of a method.
+fn is_number_of(method: Method, number: u8) -> bool
+    ensures test { result ≡ (number == (method_row method).number) }
+    ensures fact { IsTrue result ↔ (number ≡ (method_row method).number) }
 {
-    method == method_of(class).number
+    number == method_row(method).number
+}
+
+/// Whether this is the number of one of the methods.
+pub fn is_method_of(methods: Methods, number: u8) -> bool
+    ensures test { result ≡ is_method_of methods number }
+    ensures fact { IsTrue result ↔ IsMethodOf methods number }
+{
+    match methods {
+        Methods::One(a) => is_number_of(a, number),
+        Methods::Two(a, b) => is_number_of(a, number) || is_number_of(b, number),
+    }
+}
+
+/// That one of the methods that has the number; the last, where none has it.
+pub fn method_in(methods: Methods, number: u8) -> Method
+    ensures { result ≡ method_in methods number }
+{
+    match methods {
+        Methods::One(a) => a,
+        Methods::Two(a, b) => if is_number_of(a, number) { a } else { b },
+    }
 }
 
 /// Whether these are keybits of a kind.
-fn has_keybits(keybits: Keybits, n: u8) -> bool
+pub fn has_keybits(keybits: Keybits, n: u8) -> bool
     ensures test { result ≡ has_keybits keybits n }
     ensures fact { IsTrue result ↔ HasKeybits keybits n }
 {
@@ -95,24 +118,12 @@ fn entry_fits(w: &Row, dirent: &Option<Dirent>) -> bool
     }
 }
 
-/// The class of a check.
-fn class_of(check: Check) -> CheckClass
-    ensures class { result ≡ class_of check }
-    ensures stored { IsStored check }
-{
-    match check {
-        Check::Nothing => CheckClass::Absent,
-        Check::Xx(_) => CheckClass::OfBlock,
-        Check::Crc(_) => CheckClass::OfMap,
-    }
-}
-
 /// The number of the method of a check.
 pub fn method_number(check: Check) -> u8
     ensures number { result ≡ method_number check }
     ensures stored { IsStored check }
 {
-    method_of(class_of(check)).number
+    method_row(method_of(check)).number
 }
 
 /// Whether a reference is allowed by a row.
@@ -120,7 +131,7 @@ fn fits_row(w: &Row, r: &Ref) -> bool
     requires { IsLimited w.now }
     ensures { IsTrue result ↔ FitsRow w.now r.now }
 {
-    is_method_of(w.check, method_number(r.check))
+    is_method_of(w.methods, method_number(r.check))
         && r.radix == w.radix
         && place_fits(w.radix, r.place)
         && key_fits(w, r.keybits, r.key)

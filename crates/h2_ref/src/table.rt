@@ -1,7 +1,10 @@
 ghost use Rattle.std.specs.Prelude.{◌≡◌};
-ghost use Rattle.h2_ref.specs.Table.{block_row, inline_row, map_row, method_of, row_of};
+ghost use Rattle.h2_ref.specs.Fault.{kind_of};
+ghost use Rattle.h2_ref.specs.Ref.{kind_number};
+ghost use Rattle.h2_ref.specs.Table.{block_row, inline_row, map_row, row_of};
 
 use crate::flags::RefFlags;
+use crate::methods::Method;
 use crate::reference::Kind;
 use bitflags::Flags;
 
@@ -23,31 +26,22 @@ pub enum Keybits {
     Between(u8, u8),
 }
 
-/// Whose check a kind has, and so by which method.
+/// Which methods a kind allows.
 #[derive(Clone, Copy)]
-pub enum CheckClass {
-    /// There is no block, and no check.
-    Absent,
-    /// That of a block of files and directories.
-    OfBlock,
-    /// That of a block of the freemap.
-    OfMap,
+pub enum Methods {
+    /// This alone.
+    One(Method),
+    /// Each of these two.
+    Two(Method, Method),
 }
 
-/// How a check stands in a reference: a row of the table of methods.
-#[derive(Clone, Copy)]
-pub struct Method {
-    /// The number of the method.
-    pub number: u8,
-    /// How many bytes of the check area the check takes.
-    pub area: usize,
-}
-
-/// What is allowed of a kind: a row of the table of references. An entry of a directory has two, since its
-/// name stands in the entry or in a block.
+/// The number of a kind and what is allowed of it: a row of the table of references. An entry of a directory
+/// has two, since its name stands in the entry or in a block.
 #[derive(Clone, Copy)]
 pub struct Row {
-    pub check: CheckClass,
+    /// The number of the kind.
+    pub number: u8,
+    pub methods: Methods,
     pub flags: RefFlags,
     pub radix: u8,
     pub keybits: Keybits,
@@ -111,23 +105,27 @@ const LONG_NAMES: Span = Span {
     last: 255,
 };
 
-/// The row of a class of checks: its method.
-pub fn method_of(class: CheckClass) -> Method
-    ensures { result ≡ method_of class }
-{
-    match class {
-        CheckClass::Absent => Method { number: 0, area: 0 },
-        CheckClass::OfBlock => Method { number: 3, area: 8 },
-        CheckClass::OfMap => Method { number: 5, area: 4 },
-    }
-}
+/// The methods of blocks of files and directories.
+const BLOCK_METHODS: Methods = Methods::One(Method::Xxhash64);
+
+/// The kinds that have rows.
+const KINDS: [Kind; 7] = [
+    Kind::Empty,
+    Kind::Inode,
+    Kind::Indirect,
+    Kind::Content,
+    Kind::Dirent,
+    Kind::MapNode,
+    Kind::MapLeaf,
+];
 
 /// The row of a block of files and directories.
-fn block_row(radix: u8, keybits: Keybits, keys: Span) -> Row
-    ensures { result ≡ block_row radix keybits keys }
+fn block_row(number: u8, radix: u8, keybits: Keybits, keys: Span) -> Row
+    ensures { result ≡ block_row number radix keybits keys }
 {
     Row {
-        check: CheckClass::OfBlock,
+        number,
+        methods: BLOCK_METHODS,
         flags: RefFlags::empty(),
         radix,
         keybits,
@@ -138,12 +136,12 @@ fn block_row(radix: u8, keybits: Keybits, keys: Span) -> Row
 }
 
 /// The row of a block of the freemap.
-fn map_row(keybits: Keybits) -> Row
-    ensures { result ≡ map_row keybits }
+fn map_row(number: u8, keybits: Keybits) -> Row
+    ensures { result ≡ map_row number keybits }
 {
     Row {
-        check: CheckClass::OfMap,
-        ..block_row(10, keybits, PLACES)
+        methods: Methods::One(Method::Freemap),
+        ..block_row(number, 10, keybits, PLACES)
     }
 }
 
@@ -152,10 +150,10 @@ fn inline_row() -> Row
     ensures { result ≡ inline_row }
 {
     Row {
-        check: CheckClass::Absent,
+        methods: Methods::One(Method::Absent),
         flags: RefFlags::INLINE,
         names: Some(SHORT_NAMES),
-        ..block_row(0, Keybits::Just(0), NAME_KEYS)
+        ..block_row(4, 0, Keybits::Just(0), NAME_KEYS)
     }
 }
 
@@ -165,19 +163,36 @@ pub fn row_of(kind: Kind, method: u8) -> Row
 {
     match kind {
         Kind::Empty => Row {
-            check: CheckClass::Absent,
+            methods: Methods::One(Method::Absent),
             ids: ZERO,
-            ..block_row(0, Keybits::Just(0), ZERO)
+            ..block_row(0, 0, Keybits::Just(0), ZERO)
         },
-        Kind::Inode => block_row(10, Keybits::Just(0), INODES),
-        Kind::Indirect => block_row(12, Keybits::Between(1, 62), KEYS),
-        Kind::Content => block_row(14, Keybits::Just(14), CONTENTS),
+        Kind::Inode => block_row(1, 10, Keybits::Just(0), INODES),
+        Kind::Indirect => block_row(2, 12, Keybits::Between(1, 62), KEYS),
+        Kind::Content => block_row(3, 14, Keybits::Just(14), CONTENTS),
         Kind::Dirent if method == 0 => inline_row(),
         Kind::Dirent => Row {
             names: Some(LONG_NAMES),
-            ..block_row(10, Keybits::Just(0), NAME_KEYS)
+            ..block_row(4, 10, Keybits::Just(0), NAME_KEYS)
         },
-        Kind::MapNode => map_row(Keybits::Either(28, 31)),
-        Kind::MapLeaf => map_row(Keybits::Just(25)),
+        Kind::MapNode => map_row(5, Keybits::Either(28, 31)),
+        Kind::MapLeaf => map_row(6, Keybits::Just(25)),
     }
+}
+
+/// The number of a kind: it stands in each row of the kind.
+fn kind_number(kind: Kind) -> u8
+    ensures { result ≡ kind_number kind }
+{
+    row_of(kind, 0).number
+}
+
+/// The kind with the number; None where there is none.
+pub fn kind_of(number: u8) -> Option<Kind>
+    ensures { result ≡ kind_of number }
+{
+    KINDS
+        .iter()
+        .copied()
+        .find(|kind| kind_number(*kind) == number)
 }

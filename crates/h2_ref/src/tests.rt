@@ -1,3 +1,4 @@
 mod bytes;
 mod oracle;
+mod table;
 mod values;

@@ -15,6 +15,7 @@ pub mod PathLaws
 pub mod EditPathLaws
 pub mod MadeLaws
 pub mod ValidLaws
+pub mod HeldTest
 pub mod SetBytesLaws
 pub mod SetFaultLaws
 pub mod Front

@@ -32,8 +32,14 @@ module _ (f h : Forest) (at i c : ℕ) (leaf q : Ref) (sound : IsSound f) (stand
   q_fits : Fits h at q
   q_fits = node.fits i q read_h
 
+  top : f.stands (f.root at) ≡ true
+  top = (sound.top at stands).0
+
+  top_h : h.stands (f.root at) ≡ true
+  top_h = (walks.stays (f.root at) top).place.stands
+
   bits_are : leaf.keybits ≡ h.leaf_bits (h.root at)
-  bits_are = takes.keybits ∙ sym (walks.fixed.leaf_bits (f.root at)) ∙ ap h.leaf_bits (sym there.place.root)
+  bits_are = takes.keybits ∙ sym (walks.fixed.leaf_bits (f.root at) top top_h) ∙ ap h.leaf_bits (sym there.place.root)
 
   pub child_stands : h.stands c ≡ true
   child_stands = (node.child q.key c link).stands
@@ -46,16 +52,15 @@ module _ (f h : Forest) (at i c : ℕ) (leaf q : Ref) (sound : IsSound f) (stand
       let child = node.child q.key c link in
       let inside = holds_inside leaf.key q in_q in
       let longer : leaf.keybits ≤ q.keybits = omega (arith, q_fits.wide ind, bits_are) in
-      let top = limit_inside leaf q takes.aligned q_fits.aligned longer in_q in
+      let ends = limit_inside leaf q takes.aligned q_fits.aligned longer in_q in
       record {
         is_leaf = takes.is_leaf;
-        held = takes.held;
-        allowed = ap (λ z. h.allows z leaf) (child.root ∙ there.place.root) ∙ walks.fixed.allows (f.root at) leaf ∙ takes.allowed;
+        allowed = ap (λ z. h.allows z leaf) (child.root ∙ there.place.root) ∙ walks.fixed.allows (f.root at) leaf top top_h ∙ takes.allowed;
         aligned = takes.aligned;
         class = takes.class;
         keybits = bits_are ∙ ap h.leaf_bits (sym child.root);
         low = omega (arith, child.low, inside.0);
-        high = rw (child.low, bits_c) top;
+        high = rw (child.low, bits_c) ends;
       }
 
   -- what was found below is what the whole list has
@@ -105,7 +110,7 @@ module _ (f h : Forest) (at i c : ℕ) (leaf q : Ref) (sound : IsSound f) (stand
       let differs : (m : ℕ) → (Under f m at → ⊥) → m ≡ at → ⊥ = λ m out e. out (subst (λ z. Under f z at) (sym e) (record { low = omega arith; high = omega arith })) in
       record {
         sound = ins.sound;
-        fixed = Fixed-trans f h g walks.fixed ins.fixed;
+        fixed = Fixed-trans f h g (λ m st st'. (walks.stays m st).place.stands) walks.fixed ins.fixed;
         place = InPlace-trans f h g at there.place kept.place;
         leaves = λ l hl. leaves_replace (put leaf) leaf.key (put-append_left leaf) (put-append_right leaf) c i q (Walks-leaves f h sound walks at stands l hl) (refs g at) kept.alike _ _ node.inside read_h ind link in_q kept.link keep ins.leaves rising;
         tree = λ m st root out.

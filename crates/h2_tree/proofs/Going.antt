@@ -1,5 +1,5 @@
 -- What a change of one node's set leaves of all others.
-use Rattle.std.proofs.Common.{◌≡◌, ℕ, true, arith, refl, sym, ◌∙◌, ap, List, [], ◌∷◌, length, Some, subst, inl, inr, slice_get, suc}
+use Rattle.std.proofs.Common.{◌≡◌, ℕ, Bool, true, false, arith, refl, sym, ◌∙◌, ap, List, [], ◌∷◌, length, Some, subst, inl, inr, slice_get, suc}
 use Rattle.h2_ref.specs.declared.reference.Ref.{Ref}
 use Rattle.h2_set.specs.Ranges.{holds, is_indirect}
 use Rattle.h2_set.specs.RefSet.{RefSet}
@@ -82,22 +82,27 @@ changes_only f h g at goes alters place others = record {
 }
 
 pub Prepares-refl : (f : Forest) → IsSound f → Prepares f f
-Prepares-refl f sound = record { sound = sound; fixed = Fixed-refl f; stays = λ m stands. Stays-refl f m stands; sets = λ m stands. refl; writable = λ m stands. refl; copies = λ m stands. refl; spare = omega arith; room = refl }
+Prepares-refl f sound = record { sound = sound; fixed = Fixed-refl f; stays = λ m stands. Stays-refl f m stands; sets = λ m stands. refl; writable = λ m stands. refl; clean = λ m out stands. let clash : false ≡ true = sym out ∙ stands in cc; copies = λ m stands. refl; spare = omega arith; room = refl }
 
 pub Prepares-trans : (f g h : Forest) → Prepares f g → Prepares g h → Prepares f h
 Prepares-trans f g h a b = record {
   sound = b.sound;
-  fixed = Fixed-trans f g h a.fixed b.fixed;
+  fixed = Fixed-trans f g h (λ m st st'. (a.stays m st).place.stands) a.fixed b.fixed;
   stays = λ m stands. Stays-trans f g h a.sound b.stays m (a.stays m stands);
   sets = λ m stands. b.sets m (a.stays m stands).place.stands ∙ a.sets m stands;
   writable = λ m stands. b.writable m (a.stays m stands).place.stands ∙ a.writable m stands;
+  clean = λ m out stands. clean_after m (g.stands m) refl out stands;
   copies = λ m stands. b.copies m (a.stays m stands).place.stands ∙ a.copies m stands;
   spare = omega (arith, a.spare, b.spare);
   room = b.room ∙ a.room;
 }
+  where
+    clean_after : (m : ℕ) (there : Bool) → g.stands m ≡ there → f.stands m ≡ false → h.stands m ≡ true → h.writable m ≡ false
+    clean_after m true e out stands = b.writable m e ∙ a.clean m out e
+    clean_after m false e out stands = b.clean m e stands
 
 pub Walks-prepares : (f g : Forest) → Walks f g → Prepares f g
-Walks-prepares f g w = record { sound = w.sound; fixed = w.fixed; stays = w.stays; sets = w.sets; writable = w.writable; copies = w.copies; spare = omega (arith, w.spare); room = w.room }
+Walks-prepares f g w = record { sound = w.sound; fixed = w.fixed; stays = w.stays; sets = w.sets; writable = w.writable; clean = w.clean; copies = w.copies; spare = omega (arith, w.spare); room = w.room }
 
 pub Readies-prepares : (f g : Forest) → ReadiesOnly f g → Prepares f g
 Readies-prepares f g r = record {
@@ -106,6 +111,7 @@ Readies-prepares f g r = record {
   stays = λ m st. Same-Stays f g m (r.same m st);
   sets = λ m st. (r.same m st).set;
   writable = λ m st. (r.same m st).writable;
+  clean = λ m out st. let clash : false ≡ true = sym out ∙ r.none_new m st in cc;
   copies = λ m st. (r.same m st).copies;
   spare = r.spare;
   room = r.room;

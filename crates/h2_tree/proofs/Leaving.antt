@@ -12,7 +12,8 @@ use Rattle.h2_set.specs.EditLaws.{remove_from, remove_keeps, remove_lacks}
 use Rattle.h2_set.specs.ChangeLaws.{Keeps-Stays, same_or_not, apart_places}
 use Rattle.h2_set.specs.RenewLaws.{like_at, Alike-sym}
 use Rattle.h2_tree.specs.Changes.{ChangesOnly, LeadsOnly, itself, down, GoesAway, below_it, named, Descends, arrived, onward, Removes, KeepsPaths}
-use Rattle.h2_tree.proofs.Only.{only_holds, only_reaches}
+use Rattle.h2_tree.specs.PathLaws.{only_holds}
+use Rattle.h2_tree.proofs.Only.{only_reaches}
 use Rattle.h2_tree.proofs.Going.{Walks-prepares}
 use Rattle.h2_tree.proofs.Paths.{reaches_prepared, ends_in}
 use Rattle.h2_set.specs.PathLaws.{same_holder}

@@ -11,7 +11,6 @@ use Rattle.h2_set.specs.RenewLaws.{like_at, Alike-length}
 use Rattle.h2_tree.specs.Changes.{LeadsOnly, itself, down}
 use Rattle.h2_tree.proofs.Collect.{last_leaf, last_below}
 use Rattle.h2_set.specs.PathLaws.{same_holder}
-use Rattle.h2_set.specs.PathLaws.{in_holds}
 
 -- a list of one
 pub single : (rs : List Ref) (r : Ref) → length rs ≡ 1 → slice_get rs 0 ≡ Some r → rs ≡ r ∷ []
@@ -30,29 +29,6 @@ sole_leaves {f} (down {at = at} {c = c} {r = r} {leaf = leaf} i read ind link on
           let same : near.0 ≡ c = cc (near.1, link) in
           sole_leaves rest refl one' b (subst (λ z. LeavesOf f z b) same near.2)
     ]
-
--- the range of such a reference holds the leaf's key
-pub only_holds : {f : Forest} {at i : ℕ} {leaf : Ref} → IsSound f → f.stands at ≡ true → LeadsOnly f at i leaf → (q : Ref) → slice_get (refs f at) i ≡ Some q → holds leaf.key q ≡ true
-only_holds sound stands (itself {r = r} i read is_leaf) q read_q =
-    let same : r ≡ q = (cc) in
-    let pos = pow_pos r.keybits in
-    subst (λ (y : Ref). holds r.key y ≡ true) same (in_holds r.key r (omega arith) (omega (arith, pos)))
-only_holds {f} sound stands (down {at = at} {c = c} {r = r} {leaf = leaf} i read ind link one rest) q read_q =
-    let same : r ≡ q = (cc) in
-    let node = sound.node at stands in
-    let child = node.child r.key c link in
-    let bits = node.bits i c r read ind link in
-    let kid = sound.node c child.stands in
-    let first = first_of (refs f c) one in
-    let in_first = only_holds sound child.stands rest first.0 first.1 in
-    let inside = holds_inside leaf.key first.0 in_first in
-    let from = place_above _ _ (refs f c) 0 first.0 kid.inside first.1 in
-    let to = below_high _ _ (refs f c) 0 first.0 kid.inside first.1 in
-    subst (λ (y : Ref). holds leaf.key y ≡ true) same (in_holds leaf.key r (omega (arith, inside.0, from, child.low)) (omega (arith, inside.1, to, child.low, ap (λ z. 2 ^ z) bits)))
-  where
-    first_of : (rs : List Ref) → length rs ≡ 1 → (x : Ref) × (slice_get rs 0 ≡ Some x)
-    first_of [] e = absurd (omega (arith, e))
-    first_of (x ∷ xs) e = (x, refl)
 
 -- where a path begins in a node that has one reference, that one holds the key
 first_holds : {f : Forest} {key c : ℕ} {r : Ref} → Reaches f key c (Some r) → length (refs f c) ≡ 1 → (q : Ref) → slice_get (refs f c) 0 ≡ Some q → holds key q ≡ true

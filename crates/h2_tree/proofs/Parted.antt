@@ -14,7 +14,7 @@ use Rattle.h2_set.specs.RenewLaws.{Keeps-Renews, Renews-trans, Alike-length}
 use Rattle.h2_set.specs.MadeLaws.{PartsNode, parts_node, put_aligned, put_class}
 use Rattle.h2_tree.specs.Changes.{Under, Takes, TakesIn, arrived, Inserts}
 use Rattle.h2_tree.specs.Changes.{parted as parted_by}
-use Rattle.h2_tree.proofs.Going.{own_set, changes_only, Prepares-refl, none_empty}
+use Rattle.h2_tree.proofs.Going.{own_set, altered_place, changes_only, Prepares-refl, none_empty}
 use Rattle.h2_tree.proofs.Store.{all_still, leaf_fits, alters_still}
 use Rattle.h2_tree.proofs.Touching.{Touched-refl}
 use Rattle.h2_tree.proofs.Edit.{apart_altered, apart_node}
@@ -93,7 +93,7 @@ module _ (f h g : Forest) (at c : ℕ) (leaf : Ref) (set : RefSet) (s : Split) (
       let rising : Rising (h.low at) high (put leaf (refs h at)) = Rising-put (h.low at) high (refs h at) leaf node.inside made.apart made.low made.high in
       record {
         sound = makes.sound;
-        fixed = Fixed-trans f h g alters.fixed makes.fixed;
+        fixed = Fixed-trans f h g (λ m st st'. (altered_place f h at alters m st).stands) alters.fixed makes.fixed;
         place = InPlace-trans f h g at here.place makes.place;
         leaves = λ l hl.
             let l2 : LeavesOf h at l = leaves_stay f h P closed stay (stands, refl) hl (refs h at) here.alike in
@@ -163,15 +163,15 @@ module _ (f h : Forest) (at : ℕ) (leaf : Ref) (sound : IsSound f) (stands : f.
     copy_full full = subst (λ (t : RefSet). length t.refs ≡ t.capacity) (sym (e1 ∙ e2)) (set_full full)
 
     pub copy_aligned : AllAligned (put leaf copy.refs)
-    copy_aligned = subst (λ l. AllAligned (put leaf l)) (sym refs_are) (put_aligned h at leaf sound_h apart_h (leaf_fits f h at leaf stands takes alters) low_h high_h)
+    copy_aligned = subst (λ l. AllAligned (put leaf l)) (sym refs_are) (put_aligned h at leaf sound_h apart_h (leaf_fits f h at leaf sound stands takes alters) low_h high_h)
 
     pub copy_class : IsOneClass (put leaf copy.refs)
-    copy_class = subst (λ l. IsOneClass (put leaf l)) (sym refs_are) (put_class h at leaf sound_h apart_h (leaf_fits f h at leaf stands takes alters) low_h high_h)
+    copy_class = subst (λ l. IsOneClass (put leaf l)) (sym refs_are) (put_class h at leaf sound_h apart_h (leaf_fits f h at leaf sound stands takes alters) low_h high_h)
 
     pub made_from : (set : RefSet) (s : Split) → (let t = f.set at in length t.refs ≡ t.capacity) → IsSplitOf (put leaf copy.refs) s.key s.keybits → s.moved ≡ record { refs = filter (lies s.key s.keybits) (put leaf copy.refs); capacity = 32 } → with_rest s.rest set.refs ≡ filter (λ q. not (lies s.key s.keybits q)) (put leaf copy.refs) → set.capacity ≡ copy.capacity → MadeFrom h at leaf set s
     made_from set s full split moved kept capacity = record {
       apart = apart_h;
-      fits = leaf_fits f h at leaf stands takes alters;
+      fits = leaf_fits f h at leaf sound stands takes alters;
       leaf = takes.is_leaf;
       low = low_h;
       high = high_h;

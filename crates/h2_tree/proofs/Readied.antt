@@ -13,16 +13,17 @@ use Rattle.h2_tree.proofs.Going.{Prepares-trans, Readies-prepares}
 use Rattle.h2_tree.proofs.Touching.{Touched-prepared, none_touched}
 
 module _ (f h : Forest) (at : ℕ) (leaf : Ref) (stands : f.stands at ≡ true) (ready : ReadiesOnly f h) where
-  pub takes_after : Takes f at leaf → Takes h at leaf
-  takes_after takes =
+  pub takes_after : IsSound f → Takes f at leaf → Takes h at leaf
+  takes_after sound takes =
       let place = (ready.same at stands).place in
+      let top = (sound.top at stands).0 in
+      let top' = (ready.same (f.root at) top).place.stands in
       record {
         is_leaf = takes.is_leaf;
-        held = takes.held;
-        allowed = ap (λ z. h.allows z leaf) place.root ∙ ready.fixed.allows (f.root at) leaf ∙ takes.allowed;
+        allowed = ap (λ z. h.allows z leaf) place.root ∙ ready.fixed.allows (f.root at) leaf top top' ∙ takes.allowed;
         aligned = takes.aligned;
         class = takes.class;
-        keybits = takes.keybits ∙ sym (ready.fixed.leaf_bits (f.root at)) ∙ ap h.leaf_bits (sym place.root);
+        keybits = takes.keybits ∙ sym (ready.fixed.leaf_bits (f.root at) top top') ∙ ap h.leaf_bits (sym place.root);
         low = omega (arith, takes.low, place.low);
         high = rw (place.low, place.bits) takes.high;
       }
@@ -36,7 +37,7 @@ module _ (f h : Forest) (at : ℕ) (leaf : Ref) (stands : f.stands at ≡ true) 
       let place = (ready.same at stands).place in
       record {
         sound = ins.sound;
-        fixed = Fixed-trans f h g ready.fixed ins.fixed;
+        fixed = Fixed-trans f h g (λ m st st'. (ready.same m st).place.stands) ready.fixed ins.fixed;
         place = InPlace-trans f h g at place ins.place;
         leaves = λ l hl. ins.leaves l (Readies-leaves f h sound ready at stands l hl);
         tree = λ m st root out.

@@ -16,8 +16,8 @@ use Rattle.h2_set.specs.RenewLaws.{Keeps-Renews, Renews-trans, Alike-length}
 use Rattle.h2_set.specs.CutLaws.{leaves_cut, leaves_drop}
 use Rattle.h2_tree.specs.Changes.{Under, LeadsOnly, itself, down, IsFree, arrived, GoesAway, below_it, named, Removes}
 use Rattle.h2_tree.proofs.Going.{own_set, altered_place, changes_only, none_empty}
-use Rattle.h2_tree.proofs.Only.{sole_leaves, only_holds, only_reaches, only_altered}
-use Rattle.h2_tree.proofs.Taking.{only_path}
+use Rattle.h2_tree.specs.PathLaws.{only_holds, only_path}
+use Rattle.h2_tree.proofs.Only.{sole_leaves, only_reaches, only_altered}
 use Rattle.h2_tree.proofs.Touching.{Touched-refl}
 use Rattle.h2_set.specs.PathLaws.{same_holder}
 use Rattle.h2_set.specs.PathLaws.{in_holds}
@@ -184,7 +184,7 @@ module _ (f h : Forest) (at i : ℕ) (leaf : Ref) (sound : IsSound f) (stands : 
       let others : (m : ℕ) → h.stands m ≡ true → h.root m ≡ h.root at → (m ≡ at → ⊥) → (GoesBelow h m at s → ⊥) → Keeps h g m = λ m st root ne not_below. Same-Keeps h g m (stores.others m st ne not_below (λ goes. goes.other root)) in
       record {
         sound = stores.sound;
-        fixed = Fixed-trans f h g alters.fixed stores.fixed;
+        fixed = Fixed-trans f h g (λ m st st'. (altered_place f h at alters m st).stands) alters.fixed stores.fixed;
         place = InPlace-trans f h g at here.place stores.place;
         leaves = λ l hl.
             let l2 : LeavesOf h at l = leaves_stay f h P closed stay (stands, refl) hl (refs h at) here.alike in

@@ -75,7 +75,7 @@ module _ (f h : Forest) (at i c : ℕ) (leaf q : Ref) (sound : IsSound f) (stand
       let differs : (m : ℕ) → (Under f m at → ⊥) → m ≡ at → ⊥ = λ m out e. out (subst (λ z. Under f z at) (sym e) (record { low = omega arith; high = omega arith })) in
       record {
         sound = ins.sound;
-        fixed = Fixed-trans f h g walks.fixed ins.fixed;
+        fixed = Fixed-trans f h g (λ m st st'. (walks.stays m st).place.stands) walks.fixed ins.fixed;
         place = InPlace-trans f h g at there.place kept.place;
         leaves = λ l hl. leaves_replace (without leaf.key) leaf.key (without-append_left leaf.key) (without_right leaf.key) c i q (Walks-leaves f h sound walks at stands l hl) (refs g at) kept.alike _ _ node.inside read_h ind link in_q kept.link keep ins.leaves rising;
         tree = λ m st root out.

@@ -8,7 +8,7 @@ use Rattle.h2_set.specs.StayLaws.{Alike-refl, Fixed-trans, InPlace-trans, leaves
 use Rattle.h2_set.specs.ChangeLaws.{Keeps-Stays, Keeps-trans, Same-Keeps, below_keeps, leaves_move, same_or_not}
 use Rattle.h2_set.specs.RenewLaws.{Keeps-Renews, Renews-trans}
 use Rattle.h2_tree.specs.Changes.{Under, Takes, TakesIn, arrived, Inserts}
-use Rattle.h2_tree.proofs.Going.{changes_only, Prepares-refl, none_empty}
+use Rattle.h2_tree.proofs.Going.{altered_place, changes_only, Prepares-refl, none_empty}
 use Rattle.h2_tree.proofs.Touching.{Touched-refl}
 
 -- the set s is that of node at with the leaf, and lacks no key
@@ -25,15 +25,17 @@ pub nothing_lost : (f : Forest) (at : ℕ) (leaf : Ref) (s : RefSet) → WithLea
 nothing_lost f at leaf s w key loses = let it = w.keys loses.place loses.lost loses.was in loses.lacks it.0 it.1 it.2 it.3 it.4
 
 -- a leaf that the tree may have fits its nodes, also when they are altered
-pub leaf_fits : (f h : Forest) (at : ℕ) (leaf : Ref) → f.stands at ≡ true → Takes f at leaf → Alters f h at → Fits h at leaf
-leaf_fits f h at leaf stands takes alters =
+pub leaf_fits : (f h : Forest) (at : ℕ) (leaf : Ref) → IsSound f → f.stands at ≡ true → Takes f at leaf → Alters f h at → Fits h at leaf
+leaf_fits f h at leaf sound stands takes alters =
     let here = alters.tree at stands refl in
+    let top = (sound.top at stands).0 in
+    let top' = (altered_place f h at alters (f.root at) top).stands in
     record {
-      held = takes.held;
+      held = λ ind. let clash : false ≡ true = sym takes.is_leaf ∙ ind in cc;
       aligned = takes.aligned;
       class = takes.class;
-      leaf = λ _. takes.keybits ∙ sym (alters.fixed.leaf_bits (f.root at)) ∙ ap h.leaf_bits (sym here.place.root);
-      allowed = λ _. ap (λ z. h.allows z leaf) here.place.root ∙ alters.fixed.allows (f.root at) leaf ∙ takes.allowed;
+      leaf = λ _. takes.keybits ∙ sym (alters.fixed.leaf_bits (f.root at) top top') ∙ ap h.leaf_bits (sym here.place.root);
+      allowed = λ _. ap (λ z. h.allows z leaf) here.place.root ∙ alters.fixed.allows (f.root at) leaf top top' ∙ takes.allowed;
       wide = λ ind. let clash : false ≡ true = sym takes.is_leaf ∙ ind in cc;
       some_bits = λ ind. let clash : false ≡ true = sym takes.is_leaf ∙ ind in cc;
       falls = λ ind. let clash : false ≡ true = sym takes.is_leaf ∙ ind in cc;
@@ -62,7 +64,7 @@ module _ (f h : Forest) (at : ℕ) (leaf : Ref) (s : RefSet) (sound : IsSound f)
     some = λ _. w.some;
     inside = w.inside;
     fits = λ i r read. elim (w.from i r read) as (λ _. Fits h at r) [
-      | inl new ↦ subst (Fits h at) (sym new) (leaf_fits f h at leaf stands takes alters)
+      | inl new ↦ subst (Fits h at) (sym new) (leaf_fits f h at leaf sound stands takes alters)
       | inr old ↦ (alters.sound.node at here.place.stands).fits old.0 r old.1
     ];
     stood = λ i r read ind. elim (w.from i r read) as (λ _. (j : ℕ) × (slice_get (refs h at) j ≡ Some r)) [
@@ -81,7 +83,7 @@ module _ (f h : Forest) (at : ℕ) (leaf : Ref) (s : RefSet) (sound : IsSound f)
       let stay : (m : ℕ) → P m → Stays f h m = λ m p. Keeps-Stays f h m (alters.tree m p.0 p.1) in
       record {
         sound = stores.sound;
-        fixed = Fixed-trans f h g alters.fixed stores.fixed;
+        fixed = Fixed-trans f h g (λ m st st'. (altered_place f h at alters m st).stands) alters.fixed stores.fixed;
         place = InPlace-trans f h g at here.place stores.place;
         leaves = λ l hl.
             let l2 : LeavesOf h at l = leaves_stay f h P closed stay (stands, refl) hl (refs h at) here.alike in

@@ -11,7 +11,7 @@ use Rattle.h2_set.specs.LeafLaws.{leaves_rising, holds_inside, reaches_find}
 use Rattle.h2_set.specs.ChangeLaws.{Keeps-refl, Keeps-trans}
 use Rattle.h2_set.specs.RenewLaws.{Keeps-Renews, Renews-trans}
 use Rattle.h2_tree.specs.Changes.{Under, WalksUnder, LeadsOnly, itself, down, IsFree, LoadsTouched, Removes}
-use Rattle.h2_tree.proofs.Only.{only_holds}
+use Rattle.h2_tree.specs.PathLaws.{only_path}
 use Rattle.h2_tree.proofs.Touching.{Touched-trans}
 use Rattle.h2_set.specs.PathLaws.{in_holds}
 
@@ -62,11 +62,7 @@ at_key_some key low high l r h e is =
     let same : nat_eq r.key key ≡ true = grind (arith, nat_tests) in
     at_key_find key low high l h ∙ ap (keyed key) e ∙ rw same refl
 
--- a reference that leads to one leaf alone is on the way to it
-pub only_path : {f : Forest} {at i : ℕ} {leaf : Ref} → IsSound f → f.stands at ≡ true → LeadsOnly f at i leaf → Reaches f leaf.key at (Some leaf)
-only_path sound stands (itself {r = r} i read is_leaf) = here {r = r} i read (only_holds sound stands (itself {r = r} i read is_leaf) r read) is_leaf
-only_path sound stands (down {c = c} {r = r} i read ind link one rest) = below {r = r} i read (only_holds sound stands (down {r = r} i read ind link one rest) r read) ind link (only_path sound ((sound.node _ stands).child r.key c link).stands rest)
-
+-- the leaf that a reference leads to alone is the one with its key
 pub only_at_key : (f : Forest) (at i : ℕ) (leaf : Ref) → IsSound f → f.stands at ≡ true → LeadsOnly f at i leaf → (l : List Ref) → LeavesOf f at l → at_key leaf.key l ≡ Some leaf
 only_at_key f at i leaf sound stands only l hl =
     let rising = leaves_rising hl _ _ (sound.node at stands).inside in
@@ -114,7 +110,7 @@ removes_after f h g at leaf sound stands walk touched rem =
     let there = (walk.walks.stays at stands).place in
     record {
       sound = rem.sound;
-      fixed = Fixed-trans f h g walk.walks.fixed rem.fixed;
+      fixed = Fixed-trans f h g (λ m st st'. (walk.walks.stays m st).place.stands) walk.walks.fixed rem.fixed;
       place = InPlace-trans f h g at there rem.place;
       leaves = λ l hl. rem.leaves l (Walks-leaves f h sound walk.walks at stands l hl);
       tree = λ m st root out.
@@ -157,6 +153,6 @@ free_after f h top key sound walks free m st belongs = by (f.held m) refl
     by : (b : Bool) → f.held m ≡ b → h.held m ≡ false
     by false e = walks.fixed.held m ∙ e
     by true e =
-        let was = sound.held m e in
+        let was = (sound.held m e).0 in
         let stay = (walks.stays m was).place in
         walks.fixed.held m ∙ free m was (sym (stay.belongs top key) ∙ belongs)

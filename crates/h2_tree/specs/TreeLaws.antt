@@ -13,13 +13,9 @@ use Rattle.h2_set.specs.PutLaws.{Rising-filter}
 use Rattle.h2_set.specs.StayLaws.{stands_below}
 use Rattle.h2_set.specs.PathLaws.{in_holds, reaches_one}
 use Rattle.h2_tree.specs.Changes.{Descends, arrived, onward, TakesIn, replaced, placed, parted, ChangesOnly, Inserts, is_between, touches, RangeUnloaded, missing, deeper, Lists}
+use Rattle.h2_tree.specs.PathLaws.{way_leads}
 use Rattle.h2_tree.specs.ListLaws.{In, has_either, filter_whole, find_in, same_rising}
 use Rattle.h2_set.specs.EditPathLaws.{filter_from, filter_has}
-
--- a way down to a node none of whose ranges holds the key leads to none
-none_led : {h : Forest} {key at n : ℕ} → Descends h key at n → NoneHolds key (refs h n) → Reaches h key at None
-none_led arrived miss = nowhere miss
-none_led (onward {r = r} i read in_r ind link way) miss = below {r = r} i read in_r ind link (none_led way miss)
 
 -- where the key's path leads to no leaf, nothing belongs to a leaf with this key
 pub none_belongs : {h : Forest} {top key : ℕ} → IsSound h → h.stands top ≡ true → Reaches h key top None → (m : ℕ) → h.stands m ≡ true → h.belongs m top key ≡ true → ⊥
@@ -32,16 +28,16 @@ fresh_in sound sound' top_st st_n way only (replaced {old = old} it) none m st b
 fresh_in {top = top} {leaf = leaf} sound sound' top_st st_n way only (placed it) none m st belongs =
     let was = it.none_new m st in
     let place = only.still m was (λ z. z) in
-    none_belongs sound top_st (none_led way it.none) m was (sym (place.belongs top leaf.key) ∙ belongs)
+    none_belongs sound top_st (way_leads way (nowhere it.none)) m was (sym (place.belongs top leaf.key) ∙ belongs)
 fresh_in {g = g} {top = top} {n = n} {leaf = leaf} sound sound' top_st st_n way only (parted it) none m st belongs = elim (it.none_new m st) as (λ _. ⊥) [
   | inr was ↦
       let place = only.still m was (λ z. z) in
-      none_belongs sound top_st (none_led way it.none) m was (sym (place.belongs top leaf.key) ∙ belongs)
+      none_belongs sound top_st (way_leads way (nowhere it.none)) m was (sym (place.belongs top leaf.key) ∙ belongs)
   | inl new ↦
       let place = only.still n st_n (λ z. z) in
       let child = (sound'.node n place.stands).child it.key it.node it.link in
       let same = ap (λ z. g.belongs z top leaf.key) new in
-      none_belongs sound top_st (none_led way it.none) n st_n (sym (place.belongs top leaf.key) ∙ sym (child.belongs top leaf.key) ∙ sym same ∙ belongs)
+      none_belongs sound top_st (way_leads way (nowhere it.none)) n st_n (sym (place.belongs top leaf.key) ∙ sym (child.belongs top leaf.key) ∙ sym same ∙ belongs)
 ]
 
 -- once a leaf has gone in where there was none, nothing that stands belongs to it

@@ -4,11 +4,16 @@ use Rattle.h2_tree.specs.Changes.{Inserts}
 use Rattle.h2_inode.specs.Nodes.{Visits}
 use Rattle.h2_inode.specs.VisitLaws.{unchanged_visits}
 use Rattle.h2_pfs.proofs.Answering.{always_err, beside_on}
-use Rattle.h2_pfs.proofs.Planted.{ready_path, none_before, new_unloaded, founds}
+use Rattle.h2_pfs.proofs.Planted.{ready_path, ready_takes, none_before, new_unloaded, founds}
 use Rattle.h2_pfs.proofs.adding.found.Goals as goal
 
 pub returns-in_err-ready-clause-visits : goal.returns-in_err-ready-clause-visits
 returns-in_err-ready-clause-visits g c = always_err c.from_residual.result (unchanged_visits _ _ (Readies-unchanged _ _ c.in_err-ready.ensures.same c.in_err-ready.ensures.err))
+
+pub insert-requires-clause-takes : goal.insert-requires-clause-takes
+insert-requires-clause-takes g c =
+    let super = c.requires.super_root in
+    ready_takes _ _ c.args.root.0 c.args.leaf super.root super.stands c.in_ok-ready.ensures.same c.requires.takes
 
 pub returns-in-Err-clause-visits : goal.returns-in-Err-clause-visits
 returns-in-Err-clause-visits g c =

@@ -85,7 +85,7 @@ returns-in-Ok-clause-listed g c next after known has le less =
     let space = made.space.0 in
     let absent = found_as c.args.inode.name space.pfss known None kept.1 (subst (λ (z : List ℕ). id_of z space.pfss ≡ None) c.as_slice.ensures.bytes space.absent) in
     let at_k = super_stays f k top super (visits_trans f h k (walks_visit f h look.walks) made.visits) in
-    let kind = (super.allows c.args.leaf).0 (subst (λ m. f.allows m c.args.leaf ≡ true) super.root c.requires.takes.allowed) in
+    let kind = ((super.allows c.args.leaf).0 (subst (λ m. f.allows m c.args.leaf ≡ true) super.root c.requires.takes.allowed)).0 in
     added g.N.Nodes.fields k (g.N.Sets.forest c.found.new.n) (g.N.Sets.beside c.make_space.new.n) (g.N.Sets.beside c.found.new.n) (g.N.Nodes.told c.make_space.new.n) (g.N.Nodes.told c.found.new.n) top next after c.args.leaf c.args.inode known space.pfss made.visits.sound at_k.stands at_k.root kind c.requires.pfs c.requires.number c.requires.plantable c.in-Ok.ensures.beside space.meets c.in-Ok.ensures.founds absent le less kept.0
 
 pub returns-in-Ok-clause-beside : goal.returns-in-Ok-clause-beside

@@ -20,6 +20,9 @@ meet_all-requires-clause-leaves g c =
     let range = c.in_ok-leaves.ensures in
     subst (AreLeaves (g.N.Sets.forest c.range.new.n) c.args.root.0) (sym c.deref.ensures.value) (listed_leaves _ _ _ range.walks.sound (super_stays _ _ _ c.requires.super_root (walks_visit _ _ range.walks)) range.lists)
 
+pub returns-in_err-leaves-clause-visits : goal.returns-in_err-leaves-clause-visits
+returns-in_err-leaves-clause-visits g c = walks_visit _ _ c.in_err-leaves.ensures.walks
+
 pub returns-clause-met : goal.returns-clause-met
 returns-clause-met g c =
     let f = g.N.Sets.forest c.args.n.now in

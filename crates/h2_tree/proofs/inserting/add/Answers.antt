@@ -6,7 +6,7 @@ use Rattle.h2_tree.proofs.Touching.{none_touched}
 use Rattle.h2_tree.proofs.inserting.add.Goals as goal
 
 pub part-requires-clause-takes : goal.part-requires-clause-takes
-part-requires-clause-takes g c = takes_after _ _ _ _ c.requires.stands c.in_ok-ready.ensures.same c.requires.takes
+part-requires-clause-takes g c = takes_after _ _ _ _ c.requires.stands c.in_ok-ready.ensures.same c.requires.sound c.requires.takes
 
 pub part-requires-clause-none : goal.part-requires-clause-none
 part-requires-clause-none g c = none_after _ _ _ c.args.leaf c.requires.stands c.in_ok-ready.ensures.same c.requires.none

@@ -9,15 +9,7 @@ use Rattle.h2_memory_sets.specs.declared.node.Node.{Node}
 use Rattle.h2_memory_sets.specs.declared.node.Owner.{Owner}
 use Rattle.h2_memory_sets.specs.Owners.{owner_of, is_owner, belongs_to}
 use Rattle.h2_memory_sets.specs.View.{root_of, forest_with}
-use Rattle.h2_memory_sets.proofs.Owned.{AreLower, belongs_step, belongs_none, belongs_lower, owner_is, or_parts}
-
-or_first : (a b : Bool) → a ≡ true → (a || b) ≡ true
-or_first true b e = refl
-or_first false b e = absurd (cc)
-
-or_second : (a b : Bool) → b ≡ true → (a || b) ≡ true
-or_second true b e = refl
-or_second false b e = e
+use Rattle.h2_memory_sets.proofs.Owned.{AreLower, belongs_step, belongs_none, belongs_lower, owner_is, or_parts, or_first, or_second}
 
 pub self_owner : (t k : ℕ) → is_owner t k (record { root = t; key = k }) ≡ true
 self_owner t k = let a : nat_eq t t ≡ true = grind (arith, nat_tests) in let b : nat_eq k k ≡ true = grind (arith, nat_tests) in rw (a, b) refl

@@ -1,7 +1,7 @@
 use Rattle.std.proofs.Common.{◌≡◌, ap, ◌∙◌, arith}
 use Rattle.h2_ref.specs.Ref.{check_len}
 use Rattle.h2_ref.specs.Spelled.{zeros_at}
-use Rattle.h2_ref.proofs.encoding.check_over_zeros.Goals as goal
+use Rattle.h2_ref.proofs.methods.check_over_zeros.Goals as goal
 
 pub returns-in-Nothing-clause-front : goal.returns-in-Nothing-clause-front
 returns-in-Nothing-clause-front c = λ k ge lt. zeros_at 128 k
