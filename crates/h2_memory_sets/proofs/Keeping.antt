@@ -13,8 +13,8 @@ use Rattle.h2_memory_sets.specs.declared.node.Leaves.{Leaves}
 use Rattle.h2_memory_sets.specs.declared.node.Node.{Node}
 use Rattle.h2_memory_sets.specs.declared.node.Owner.{Owner}
 use Rattle.h2_memory_sets.specs.Kept.{AreKept, IsNamedRoot, IsRootOf}
-use Rattle.h2_memory_sets.specs.Owners.{allowed_by, inode_allows, refit, refit_body, refit_inode}
-use Rattle.h2_memory_sets.specs.View.{with_set}
+use Rattle.h2_memory_sets.specs.Owners.{held_of, allowed_by, inode_allows, refit, refit_body, refit_inode}
+use Rattle.h2_memory_sets.specs.View.{stands_of, with_set}
 
 -- an inode with another set may have the same leaves
 pub refit_allows : (i : Option Inode) (s : RefSet) (leaves : Leaves) (r : Ref) → allowed_by (refit i s) leaves r ≡ allowed_by i leaves r
@@ -138,3 +138,23 @@ kept_map h xs kept like = kept_from xs (map h xs) kept (λ i y read. inl (from i
 
     from : (i : ℕ) (y : Node) → slice_get (map h xs) i ≡ Some y → CameFrom xs (length (map h xs)) i y
     from i y read = let it = map_read h xs i y read in subst (CameFrom xs (length (map h xs)) i) it.2 (of i it.0 it.1)
+
+-- whether a node is marked as held, loaded or not
+abbrev pub flag_of : Option Node → Bool
+flag_of None = false
+flag_of (Some x) = x.held
+
+held_is : (o : Option Node) → held_of o ≡ (stands_of o && flag_of o)
+held_is None = refl
+held_is (Some x) = refl
+
+-- what is held stays held, where no more is loaded and what was held is still
+pub held_keeps : (o p : Option Node) → flag_of p ≡ flag_of o → (stands_of p ≡ true → stands_of o ≡ true) → (held_of o ≡ true → stands_of p ≡ true) → held_of p ≡ held_of o
+held_keeps o p flag less still = held_is p ∙ go (stands_of p) (stands_of o) (flag_of p) (flag_of o) flag less (λ e. still (held_is o ∙ e)) ∙ sym (held_is o)
+  where
+    go : (sp so fp fo : Bool) → fp ≡ fo → (sp ≡ true → so ≡ true) → ((so && fo) ≡ true → sp ≡ true) → (sp && fp) ≡ (so && fo)
+    go true true fp fo e a b = e
+    go true false fp fo e a b = absurd (let clash : false ≡ true = a refl in cc)
+    go false true fp true e a b = absurd (let clash : false ≡ true = b refl in cc)
+    go false true fp false e a b = refl
+    go false false fp fo e a b = refl

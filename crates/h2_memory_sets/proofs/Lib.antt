@@ -30,3 +30,5 @@ pub mod Counting
 pub mod Recounting
 pub mod Altered
 pub mod Stored
+pub mod Parted
+pub mod Unsought
