@@ -6,11 +6,12 @@ use Rattle.h2_inode.specs.Nodes.{leaf_keybits, set_of as set_of_body}
 use Rattle.h2_memory_sets.specs.declared.node.Owner.{Owner}
 use Rattle.h2_memory_sets.specs.declared.node.Node.{Node}
 
--- a leaf names a root, and the root of its tree has a lower number
+-- a leaf names a root, and the root of its tree has a lower number; a loaded one is that of an inode
 pub record IsNamedRoot (i : ℕ) (x : Node) (o : Owner) : Type 0 where
   pub lower : o.root < i
   pub root : x.root ≡ i
   pub bare : x.up ≡ None
+  pub known : x.loaded ≡ true → (v : Inode) × (x.inode ≡ Some v)
 
 -- node i is the root of the inode
 pub record IsRootOf (i : ℕ) (x : Node) (v : Inode) : Type 0 where
