@@ -14,8 +14,10 @@ use Rattle.h2_set.specs.RenewLaws.{Keeps-Renews}
 use Rattle.h2_memory_sets.specs.declared.node.Node.{Node}
 use Rattle.h2_memory_sets.specs.View.{stands_of, set_of, root_of, low_of, bits_of, writable_of, copies_of, leaf_bits_of, link_of, forest_with, is_above, place_of, with_dirty, with_copies, is_copied, marked_all, cleaned_all, recounted_all}
 use Rattle.h2_memory_sets.specs.Roots.{BeginsEpoch}
+use Rattle.h2_memory_sets.specs.Owners.{owner_of, allows_of, held_of}
 use Rattle.h2_memory_sets.proofs.Counting.{count_none}
 use Rattle.h2_memory_sets.proofs.Nesting.{in_holds, meet, one_range, leads_to}
+use Rattle.h2_memory_sets.proofs.Nodes.{belongs_still}
 use Rattle.h2_memory_sets.proofs.Parting.{one_of}
 use Rattle.h2_memory_sets.proofs.Recounting.{Above, field, link_same, node_at, above_is, is_above_of, is_writable, counted, root_above, still}
 use Rattle.h2_memory_sets.proofs.Rooted.{map_field}
@@ -162,7 +164,7 @@ module _ (xs : List Node) (spare epoch room failed bad : ℕ) (met : Option (ℕ
   abbrev cs : List Node
   cs = recounted_all (cleaned_all xs)
 
-  unchanged : {X : Type 0} (F : Option Node → X) → ((b : Bool) (u : Node) → F (Some (with_dirty b u)) ≡ F (Some u)) → ((n : ℕ) (u : Node) → F (Some (with_copies n u)) ≡ F (Some u)) → (m : ℕ) → F (slice_get cs m) ≡ F (slice_get xs m)
+  pub unchanged : {X : Type 0} (F : Option Node → X) → ((b : Bool) (u : Node) → F (Some (with_dirty b u)) ≡ F (Some u)) → ((n : ℕ) (u : Node) → F (Some (with_copies n u)) ≡ F (Some u)) → (m : ℕ) → F (slice_get cs m) ≡ F (slice_get xs m)
   unchanged F a b m = field xs (λ u. false) spare epoch room failed bad met sound F a b m
 
   none_writable : (zs : List Node) (h : Node → Node) → ((u : Node) → (h u).dirty ≡ false) → (m : ℕ) → writable_of (slice_get (map h zs) m) ≡ false
@@ -184,10 +186,10 @@ module _ (xs : List Node) (spare epoch room failed bad : ℕ) (met : Option (ℕ
     bits = unchanged bits_of (λ b u. refl) (λ n u. refl);
     set = unchanged set_of (λ b u. refl) (λ n u. refl);
     link = link_same xs (λ u. false) spare epoch room failed bad met sound;
-    belongs = λ m t k. refl;
+    belongs = λ m t k. belongs_still xs cs (unchanged owner_of (λ b u. refl) (λ n u. refl)) m t k (unchanged root_of (λ b u. refl) (λ n u. refl) m);
     leaf_bits = unchanged leaf_bits_of (λ b u. refl) (λ n u. refl);
-    allows = λ m r. refl;
-    held = λ m. refl;
+    allows = λ m r. unchanged (λ o. allows_of o r) (λ b u. refl) (λ n u. refl) m;
+    held = unchanged held_of (λ b u. refl) (λ n u. refl);
     name = λ r. refl;
     spare = refl;
     room = refl;

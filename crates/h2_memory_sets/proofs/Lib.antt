@@ -8,9 +8,14 @@ pub mod Nesting
 pub mod Settled
 pub mod Passing
 pub mod Storing
+pub mod Reaching
 pub mod Drops
+pub mod Chains
+pub mod Losing
 pub mod Held
 pub mod Nodes
+pub mod Keeping
+pub mod Paths
 pub mod Made
 pub mod Making
 pub mod Sides
@@ -26,3 +31,6 @@ pub mod Unloads
 pub mod Counting
 pub mod Recounting
 pub mod Altered
+pub mod Stored
+pub mod Parted
+pub mod Unsought

@@ -1,5 +1,5 @@
 -- A node that is loaded.
-use Rattle.std.proofs.Common.{◌≡◌, ℕ, ◌+◌, ◌≤◌, ◌^◌, true, false, arith, refl, sym, ◌∙◌, ap, List, [], ◌∷◌, Some, subst, ◌⊎◌, inl, inr, slice_get, suc}
+use Rattle.std.proofs.Common.{◌≡◌, ℕ, ◌+◌, ◌≤◌, ◌^◌, true, false, arith, refl, sym, ◌∙◌, ap, List, [], ◌∷◌, Option, Some, subst, ◌⊎◌, inl, inr, slice_get, suc}
 use Rattle.h2_ref.specs.declared.reference.Ref.{Ref}
 use Rattle.h2_set.specs.Ranges.{Rising, limit, is_indirect}
 use Rattle.h2_set.specs.RefSet.{RefSet, IsRefSet}
@@ -8,7 +8,9 @@ use Rattle.h2_set.specs.ChangeLaws.{same_or_not, Keeps-Stays}
 use Rattle.h2_set.specs.LeafLaws.{place_above}
 use Rattle.h2_set.specs.SplitLaws.{below_high}
 use Rattle.h2_set.specs.StayLaws.{Alike-refl}
-use Rattle.h2_memory_sets.specs.View.{AllFitBelow}
+use Rattle.h2_memory_sets.specs.declared.node.Node.{Node}
+use Rattle.h2_memory_sets.specs.Owners.{allows_of}
+use Rattle.h2_memory_sets.specs.View.{leaf_bits_of, AllFitBelow}
 use Rattle.h2_memory_sets.proofs.Lists.{same_key}
 use Rattle.h2_memory_sets.proofs.Settled.{Settled, KeepsRules, keeps_rules, owners_stay, fits_in, child_in, placed, same_node, same_keeps, same_top, sound_of}
 
@@ -25,8 +27,11 @@ pub record DiffersByLoad (f g : Forest) (at c : ℕ) (r : Ref) : Type 0 where
   pub clean : g.writable c ≡ false
   pub copies : g.copies c ≡ f.copies at + 1
   pub set : IsRefSet (g.set c)
-  pub fits : AllFitBelow r (f.leaf_bits (f.root at)) (g.set c)
-  pub allowed : (i : ℕ) (q : Ref) → slice_get (refs g c) i ≡ Some q → is_indirect q ≡ false → f.allows (f.root at) q ≡ true
+  -- it was judged by the rules of the root
+  pub rules : Option Node
+  pub rules_leaf : leaf_bits_of rules ≡ f.leaf_bits (f.root at)
+  pub rules_allow : (q : Ref) → allows_of rules q ≡ true → f.allows (f.root at) q ≡ true
+  pub fits : AllFitBelow r rules (g.set c)
   pub belongs : (t k : ℕ) → g.belongs c t k ≡ f.belongs at t k
   pub there : (m : ℕ) → f.stands m ≡ true → g.set m ≡ f.set m
   pub link : (m k : ℕ) → f.stands m ≡ true → (m ≡ at → k ≡ r.key → ⊥) → g.link m k ≡ f.link m k
@@ -136,9 +141,9 @@ module _ (f g : Forest) (at c i : ℕ) (r : Ref) (d : DiffersByLoad f g at c r) 
         held = h.held;
         aligned = h.aligned;
         class = h.class;
-        leaf = λ k. h.leaf k ∙ sym grain;
-        allowed = λ k. ap (λ n. g.allows n q) d.root ∙ rules.allows q (d.allowed j q got k);
-        wide = λ k. rw grain (h.wide k);
+        leaf = λ k. h.leaf k ∙ d.rules_leaf ∙ sym grain;
+        allowed = λ k. ap (λ n. g.allows n q) d.root ∙ rules.allows q (d.rules_allow q (h.allowed k));
+        wide = λ k. rw grain (let it = h.wide k in rw d.rules_leaf at it);
         some_bits = h.some_bits;
         falls = λ k. rw d.bits h.fewer;
       }

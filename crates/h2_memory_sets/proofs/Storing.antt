@@ -138,15 +138,15 @@ module _ (f : Forest) (at : ℕ) (s : RefSet) (sound : IsSound f) (stands : f.st
         ]
       ]
 
-module _ (f g : Forest) (at : ℕ) (s : RefSet) (d : DiffersByStore f g at s) (sound : IsSound f) (stands : f.stands at ≡ true) (suits : Suits f g at s) where
-  refs_here : refs g at ≡ s.refs
+module _ (f g : Forest) (at : ℕ) (s : RefSet) (d : DiffersByStore f g at s) (sound : IsSound f) (stands : f.stands at ≡ true) where
+  pub refs_here : refs g at ≡ s.refs
   refs_here = ap (λ (t : RefSet). t.refs) d.here
 
-  node : IsSoundNode f at
+  pub node : IsSoundNode f at
   node = sound.node at stands
 
   -- a node goes with one that belongs to the same
-  with_same : (m n : ℕ) → f.root n ≡ f.root m → ((t k : ℕ) → f.belongs n t k ≡ f.belongs m t k) → GoesWith f n at s → GoesWith f m at s
+  pub with_same : (m n : ℕ) → f.root n ≡ f.root m → ((t k : ℕ) → f.belongs n t k ≡ f.belongs m t k) → GoesWith f n at s → GoesWith f m at s
   with_same m n root same w = record {
     other = λ e. w.other (root ∙ e);
     key = w.key;
@@ -157,22 +157,22 @@ module _ (f g : Forest) (at : ℕ) (s : RefSet) (d : DiffersByStore f g at s) (s
     belongs = sym (same (f.root at) w.key) ∙ w.belongs;
   }
 
-  not_goes : (m : ℕ) → f.stands m ≡ true → (GoesBelow f m at s ⊎ GoesWith f m at s → ⊥) → d.goes m ≡ false
+  pub not_goes : (m : ℕ) → f.stands m ≡ true → (GoesBelow f m at s ⊎ GoesWith f m at s → ⊥) → d.goes m ≡ false
   not_goes m st miss = elim (tested (d.goes m)) as (λ _. d.goes m ≡ false) [
     | inl e ↦ absurd (miss (d.goes_is m st e))
     | inr e ↦ e
   ]
 
-  at_stays : d.goes at ≡ false
+  pub at_stays : d.goes at ≡ false
   at_stays = not_goes at stands (λ why. elim why as (λ _. ⊥) [
     | inl goes ↦ let less = goes.fewer in omega (arith, less)
     | inr w ↦ w.other refl
   ])
 
-  at_now : g.stands at ≡ true
+  pub at_now : g.stands at ≡ true
   at_now = d.stays at at_stays ∙ stands
 
-  now_stays : (m : ℕ) → g.stands m ≡ true → d.goes m ≡ false
+  pub now_stays : (m : ℕ) → g.stands m ≡ true → d.goes m ≡ false
   now_stays m now = elim (tested (d.goes m)) as (λ _. d.goes m ≡ false) [
     | inl e ↦ let clash : true ≡ false = sym now ∙ d.gone m e in absurd (cc)
     | inr e ↦ e
@@ -182,7 +182,7 @@ module _ (f g : Forest) (at : ℕ) (s : RefSet) (d : DiffersByStore f g at s) (s
   low_link m k c st link = ap (f.link m) ((sound.node m st).child k c link).low ∙ link
 
   -- what is right below another node that stays, stays
-  kid_stays : (m k c : ℕ) → f.stands m ≡ true → (m ≡ at → ⊥) → d.goes m ≡ false → f.link m k ≡ loaded c → d.goes c ≡ false
+  pub kid_stays : (m k c : ℕ) → f.stands m ≡ true → (m ≡ at → ⊥) → d.goes m ≡ false → f.link m k ≡ loaded c → d.goes c ≡ false
   kid_stays m k c st ne stay link =
       let kid = (sound.node m st).child k c link in
       not_goes c kid.stands (λ why. let clash : true ≡ false = sym (d.goes_all m st (elim why as (λ _. GoesBelow f m at s ⊎ GoesWith f m at s) [
@@ -190,81 +190,18 @@ module _ (f g : Forest) (at : ℕ) (s : RefSet) (d : DiffersByStore f g at s) (s
         | inr w ↦ inr (with_same m c kid.root kid.belongs w)
       ])) ∙ stay in cc)
 
-  -- so does what is below a reference of node at that stays
-  near_stays : (i c : ℕ) (r : Ref) → slice_get s.refs i ≡ Some r → is_indirect r ≡ true → f.link at r.key ≡ loaded c → d.goes c ≡ false
-  near_stays i c r read ind link =
-      let kid = node.child r.key c link in
-      not_goes c kid.stands (λ why. elim why as (λ _. ⊥) [
-        | inr w ↦ w.other kid.root
-        | inl goes ↦
-      let old = suits.stood i r read ind in
-      let pos = pow_pos r.keybits in
-      let low : f.low c ≡ r.key = kid.low in
-      let in_r = in_holds (f.low c) r (omega (arith, low)) (omega (arith, low, pos)) in
-      let same = same_holder _ _ (refs f at) old.0 goes.loses.place (f.low c) r goes.loses.lost node.inside old.1 goes.loses.was in_r goes.loses.held in
-      goes.loses.lacks i r read (ap (λ (z : Ref). z.key) same) (ap (λ (z : Ref). is_indirect z) same)
-      ])
-
-  -- what is below a reference that stays
-  kept : (i : ℕ) (r : Ref) → slice_get s.refs i ≡ Some r → is_indirect r ≡ true → g.link at r.key ≡ f.link at r.key
-  kept i r read ind =
-      let old = suits.stood i r read ind in
-      d.link_here r.key (below_names s.refs r.key i r read ind refl) (below_names (refs f at) r.key old.0 r old.1 ind refl) (λ c link. near_stays i c r read ind link)
-
-  named : (k c : ℕ) → g.link at k ≡ loaded c → NamesBelow s.refs k
-  named k c e = elim (tested (names s.refs k)) as (λ _. NamesBelow s.refs k) [
-    | inl yes' ↦ names_below s.refs k yes'
-    | inr miss ↦ let clash : untold ≡ loaded c = sym (d.unnamed k miss) ∙ e in absurd (cc)
-  ]
-
-  was : (k c : ℕ) → g.link at k ≡ loaded c → f.link at k ≡ loaded c
-  was k c e =
-      let it = named k c e in
-      let same : g.link at k ≡ f.link at k = subst (λ z. g.link at z ≡ f.link at z) it.key (kept it.place it.ref it.read it.indirect) in
-      sym same ∙ e
-
-  kid_now : (k c : ℕ) → g.link at k ≡ loaded c → g.stands c ≡ true
-  kid_now k c e =
-      let it = named k c e in
-      let old = was k c e in
-      d.stays c (near_stays it.place c it.ref it.read it.indirect (ap (f.link at) it.key ∙ old)) ∙ (node.child k c old).stands
-
-  here_node : IsSoundNode g at
-  here_node =
-      let p = d.loose.place at stands at_now in
-      placed f g d.loose at stands at_now node (record {
-        set = rw d.here suits.set;
-        capacity = ap (λ (t : RefSet). t.capacity) d.here ∙ suits.capacity;
-        inside = rw (refs_here, p.low, p.bits) suits.inside;
-        fits = λ i r read. suits.fits i r (rw refs_here at read);
-        some = λ top. rw refs_here (suits.some (λ e. top (p.root ∙ e)));
-        child = λ k c e. child_in f g d.loose at k c stands at_now (kid_now k c e) (node.child k c (was k c e));
-        named = λ k c e. rw refs_here (named k c e);
-        bits = λ i c r read ind e.
-            let old = suits.stood i r (rw refs_here at read) ind in
-            let e' = was r.key c e in
-            let kid = node.child r.key c e' in
-            (d.loose.place c kid.stands (kid_now r.key c e)).bits ∙ node.bits old.0 c r old.1 ind e';
-      })
-
-  link_same : (m : ℕ) → f.stands m ≡ true → (m ≡ at → ⊥) → d.goes m ≡ false → (k : ℕ) → g.link m k ≡ f.link m k
+  pub link_same : (m : ℕ) → f.stands m ≡ true → (m ≡ at → ⊥) → d.goes m ≡ false → (k : ℕ) → g.link m k ≡ f.link m k
   link_same m st ne stay k = d.link m k ne (λ c e. kid_stays m k c st ne stay e)
 
-  other_node : (m : ℕ) → g.stands m ≡ true → (m ≡ at → ⊥) → IsSoundNode g m
-  other_node m now ne =
-      let st = d.none_new m now in
-      let stay = now_stays m now in
-      same_node f g d.loose m st now (suits.rules m now ne) (sound.node m st) (d.there m ne) (link_same m st ne stay) (λ k c e. d.stays c (kid_stays m k c st ne stay e) ∙ ((sound.node m st).child k c e).stands)
-
   -- a root isn't below a reference
-  not_below : (t : ℕ) → f.stands t ≡ true → f.root t ≡ t → GoesBelow f t at s → ⊥
+  pub not_below : (t : ℕ) → f.stands t ≡ true → f.root t ≡ t → GoesBelow f t at s → ⊥
   not_below t st own goes =
       let half = (sound.node t st).half own in
       let few = few_bits f sound at stands in
       let less = goes.fewer in
       omega (arith, half, few, less)
 
-  root_now : (m : ℕ) → f.stands m ≡ true → d.goes m ≡ false → g.stands (f.root m) ≡ true
+  pub root_now : (m : ℕ) → f.stands m ≡ true → d.goes m ≡ false → g.stands (f.root m) ≡ true
   root_now m st stay =
       let t = sound.top m st in
       d.stays (f.root m) (not_goes (f.root m) t.0 (λ why. elim why as (λ _. ⊥) [
@@ -272,236 +209,127 @@ module _ (f g : Forest) (at : ℕ) (s : RefSet) (d : DiffersByStore f g at s) (s
         | inr w ↦ let clash : true ≡ false = sym (d.goes_all m st (inr (with_same m (f.root m) t.1 (λ x k. d.by_root m x k st) w))) ∙ stay in cc
       ])) ∙ t.0
 
-  -- what is held stays
-  held_now : (m : ℕ) → f.held m ≡ true → g.stands m ≡ true
-  held_now m held =
-      let it = sound.held m held in
-      d.stays m (not_goes m it.0 (λ why. elim why as (λ _. ⊥) [
-        | inl goes ↦ not_below m it.0 it.1 goes
-        | inr w ↦ let clash : true ≡ false = sym held ∙ suits.free m it.0 w in cc
-      ])) ∙ it.0
+  module _ (suits : Suits f g at s) where
+    -- so does what is below a reference of node at that stays
+    pub near_stays : (i c : ℕ) (r : Ref) → slice_get s.refs i ≡ Some r → is_indirect r ≡ true → f.link at r.key ≡ loaded c → d.goes c ≡ false
+    near_stays i c r read ind link =
+        let kid = node.child r.key c link in
+        not_goes c kid.stands (λ why. elim why as (λ _. ⊥) [
+          | inr w ↦ w.other kid.root
+          | inl goes ↦
+        let old = suits.stood i r read ind in
+        let pos = pow_pos r.keybits in
+        let low : f.low c ≡ r.key = kid.low in
+        let in_r = in_holds (f.low c) r (omega (arith, low)) (omega (arith, low, pos)) in
+        let same = same_holder _ _ (refs f at) old.0 goes.loses.place (f.low c) r goes.loses.lost node.inside old.1 goes.loses.was in_r goes.loses.held in
+        goes.loses.lacks i r read (ap (λ (z : Ref). z.key) same) (ap (λ (z : Ref). is_indirect z) same)
+        ])
 
-  -- what is right below a node that goes, goes
-  went : (m : ℕ) (h : HasParent f m) → GoesBelow f h.parent at s ⊎ GoesWith f h.parent at s → GoesBelow f m at s ⊎ GoesWith f m at s
-  went m h why = elim why as (λ _. GoesBelow f m at s ⊎ GoesWith f m at s) [
-    | inl goes ↦ inl (goes_down f at s sound stands h.parent m h.stands h.link goes)
-    | inr w ↦ let kid = (sound.node h.parent h.stands).child (f.low m) m h.link in inr (with_same m h.parent (sym kid.root) (λ t k. sym (kid.belongs t k)) w)
-  ]
+    -- what is below a reference that stays
+    pub kept : (i : ℕ) (r : Ref) → slice_get s.refs i ≡ Some r → is_indirect r ≡ true → g.link at r.key ≡ f.link at r.key
+    kept i r read ind =
+        let old = suits.stood i r read ind in
+        d.link_here r.key (below_names s.refs r.key i r read ind refl) (below_names (refs f at) r.key old.0 r old.1 ind refl) (λ c link. near_stays i c r read ind link)
 
-  -- a node that stays is below one that stays
-  parent_now : (m : ℕ) → g.stands m ≡ true → (g.root m ≡ m → ⊥) → HasParent g m
-  parent_now m now off =
-      let st = d.none_new m now in
-      let stay = now_stays m now in
-      let p = d.loose.place m st now in
-      let h = sound.parent m st (λ e. off (p.root ∙ e)) in
-      elim (same_or_not h.parent at) as (λ _. HasParent g m) [
-        | inl e ↦ at_it st stay p.low (ap (λ z. f.link z (f.low m)) (sym e) ∙ h.link)
-        | inr ne ↦
-            let up : d.goes h.parent ≡ false = not_goes h.parent h.stands (λ why. let clash : true ≡ false = sym (d.goes_all m st (went m h why)) ∙ stay in cc) in
-            record { parent = h.parent; stands = d.stays h.parent up ∙ h.stands; link = ap (g.link h.parent) p.low ∙ link_same h.parent h.stands ne up (f.low m) ∙ h.link }
-      ]
-    where
-      -- right below node at, it is below a reference that the set has
-      at_it : f.stands m ≡ true → d.goes m ≡ false → g.low m ≡ f.low m → f.link at (f.low m) ≡ loaded m → HasParent g m
-      at_it st stay low link =
-          let l = link_of f sound at m stands link in
-          let name = l.named in
-          let key = name.key in
-          let pos = pow_pos name.ref.keybits in
-          elim (tested (names s.refs (f.low m))) as (λ _. HasParent g m) [
-            | inl yes' ↦
-                let it = names_below s.refs (f.low m) yes' in
-                let same = kept it.place it.ref it.read it.indirect in
-                record { parent = at; stands = at_now; link = ap (g.link at) low ∙ subst (λ z. g.link at z ≡ f.link at z) it.key same ∙ link }
-            | inr miss ↦
-                let goes : GoesBelow f m at s = record {
-                  tree = l.child.root;
-                  fewer = l.child.fewer;
-                  loses = record {
-                    place = name.place;
-                    lost = name.ref;
-                    was = name.read;
-                    lacks = λ i r read same way.
-                        let there : names s.refs (f.low m) ≡ true = below_names s.refs (f.low m) i r read (way ∙ name.indirect) (same ∙ name.key) in
-                        let clash : true ≡ false = sym there ∙ miss in
-                        cc;
-                    held = in_holds (f.low m) name.ref (omega (arith, key)) (omega (arith, key, pos));
-                  };
-                } in
-                let clash : true ≡ false = sym (d.goes_all m st (inl goes)) ∙ stay in
-                absurd (cc)
-          ]
-
-  -- a leaf that names an inode is reached still, or another in its place
-  record Reached (key n : ℕ) : Type 0 where
-    leaf : Ref
-    key_is : leaf.key ≡ key
-    kind_is : leaf.kind ≡ Inode
-    path : Reaches g key n (Some leaf)
-
-  -- a reference of the set in the place of another
-  record Instead (r : Ref) : Type 0 where
-    place : ℕ
-    ref : Ref
-    read : slice_get s.refs place ≡ Some ref
-    key : ref.key ≡ r.key
-    sort : is_indirect ref ≡ is_indirect r
-
-  -- the leaf to which a node that stays belongs
-  module _ (m t key : ℕ) (st : f.stands m ≡ true) (bel : f.belongs m t key ≡ true) (other : f.root m ≡ t → ⊥) (stay : d.goes m ≡ false) where
-    instead : (i : ℕ) (r leaf : Ref) → slice_get (refs f at) i ≡ Some r → holds key r ≡ true → f.root at ≡ t → leaf.key ≡ key → Reaches f key at (Some leaf) → Instead r
-    instead i r leaf read in_r root exact path = elim (tested (any_of (names_same r) s.refs)) as (λ _. Instead r) [
-      | inl yes' ↦
-          let it = any_true (names_same r) s.refs yes' in
-          let p = and_parts (nat_eq it.ref.key r.key) _ it.passes in
-          record { place = it.place; ref = it.ref; read = it.read; key = alike _ _ p.0; sort = one_sort (is_indirect r) (is_indirect it.ref) p.1 }
-      | inr none ↦
-          let goes : GoesWith f m at s = record {
-            other = λ e. other (e ∙ root);
-            key = key;
-            leaf = leaf;
-            loses = record { place = i; lost = r; was = read; lacks = λ j q got k sort. let clash : true ≡ false = sym (any_some (names_same r) s.refs j q got (same_named r q k sort)) ∙ none in cc; held = in_r };
-            reaches = path;
-            exact = exact;
-            belongs = subst (λ z. f.belongs m z key ≡ true) (sym root) bel;
-          } in
-          let clash : true ≡ false = sym (d.goes_all m st (inr goes)) ∙ stay in
-          absurd (cc)
+    named : (k c : ℕ) → g.link at k ≡ loaded c → NamesBelow s.refs k
+    named k c e = elim (tested (names s.refs k)) as (λ _. NamesBelow s.refs k) [
+      | inl yes' ↦ names_below s.refs k yes'
+      | inr miss ↦ let clash : untold ≡ loaded c = sym (d.unnamed k miss) ∙ e in absurd (cc)
     ]
 
-    there : (j : ℕ) (r : Ref) → slice_get s.refs j ≡ Some r → slice_get (refs g at) j ≡ Some r
-    there j r read = rw refs_here read
+    was : (k c : ℕ) → g.link at k ≡ loaded c → f.link at k ≡ loaded c
+    was k c e =
+        let it = named k c e in
+        let same : g.link at k ≡ f.link at k = subst (λ z. g.link at z ≡ f.link at z) it.key (kept it.place it.ref it.read it.indirect) in
+        sym same ∙ e
 
-    here_at : (i : ℕ) (r : Ref) → slice_get (refs f at) i ≡ Some r → holds key r ≡ true → is_indirect r ≡ false → r.key ≡ key → f.root at ≡ t → Reached key at
-    here_at i r read in_r leafy exact root =
-        let it = instead i r r read in_r root exact (here {r = r} i read in_r leafy) in
-        let key_is : it.ref.key ≡ key = it.key ∙ exact in
-        let leafy' : is_indirect it.ref ≡ false = it.sort ∙ leafy in
-        let pos = pow_pos it.ref.keybits in
-        record {
-          leaf = it.ref;
-          key_is = key_is;
-          kind_is = suits.kinds m key it.place it.ref st (subst (λ z. f.belongs m z key ≡ true) (sym root) bel) it.read leafy';
-          path = here {r = it.ref} it.place (there it.place it.ref it.read) (in_holds key it.ref (omega (arith, key_is)) (omega (arith, key_is, pos))) leafy';
-        }
+    kid_now : (k c : ℕ) → g.link at k ≡ loaded c → g.stands c ≡ true
+    kid_now k c e =
+        let it = named k c e in
+        let old = was k c e in
+        d.stays c (near_stays it.place c it.ref it.read it.indirect (ap (f.link at) it.key ∙ old)) ∙ (node.child k c old).stands
 
-    -- a reference that leads on is still there, and what is below it stays
-    record Onward (c : ℕ) : Type 0 where
-      stays : d.goes c ≡ false
-      up : Reached key c → Reached key at
+    pub here_node : IsSoundNode g at
+    here_node =
+        let p = d.loose.place at stands at_now in
+        placed f g d.loose at stands at_now node (record {
+          set = rw d.here suits.set;
+          capacity = ap (λ (t : RefSet). t.capacity) d.here ∙ suits.capacity;
+          inside = rw (refs_here, p.low, p.bits) suits.inside;
+          fits = λ i r read. suits.fits i r (rw refs_here at read);
+          some = λ top. rw refs_here (suits.some (λ e. top (p.root ∙ e)));
+          child = λ k c e. child_in f g d.loose at k c stands at_now (kid_now k c e) (node.child k c (was k c e));
+          named = λ k c e. rw refs_here (named k c e);
+          bits = λ i c r read ind e.
+              let old = suits.stood i r (rw refs_here at read) ind in
+              let e' = was r.key c e in
+              let kid = node.child r.key c e' in
+              (d.loose.place c kid.stands (kid_now r.key c e)).bits ∙ node.bits old.0 c r old.1 ind e';
+        })
 
-    onward : (i c : ℕ) (r leaf : Ref) → slice_get (refs f at) i ≡ Some r → holds key r ≡ true → is_indirect r ≡ true → f.link at r.key ≡ loaded c → leaf.key ≡ key → f.root at ≡ t → Reaches f key at (Some leaf) → Onward c
-    onward i c r leaf read in_r ind link exact root path =
-        let it = instead i r leaf read in_r root exact path in
-        let ind' : is_indirect it.ref ≡ true = it.sort ∙ ind in
-        let old = suits.stood it.place it.ref it.read ind' in
-        let same : it.ref ≡ r = same_key _ _ (refs f at) old.0 i it.ref r node.inside old.1 read it.key in
-        let link' : f.link at it.ref.key ≡ loaded c = ap (f.link at) it.key ∙ link in
-        record {
-          stays = near_stays it.place c it.ref it.read ind' link';
-          up = λ below'. record {
-            leaf = below'.leaf;
-            key_is = below'.key_is;
-            kind_is = below'.kind_is;
-            path = below {r = it.ref} it.place (there it.place it.ref it.read) (ap (holds key) same ∙ in_r) ind' (kept it.place it.ref it.read ind' ∙ link') below'.path;
-          };
-        }
+    pub other_node : (m : ℕ) → g.stands m ≡ true → (m ≡ at → ⊥) → IsSoundNode g m
+    other_node m now ne =
+        let st = d.none_new m now in
+        let stay = now_stays m now in
+        same_node f g d.loose m st now (suits.rules m now ne) (sound.node m st) (d.there m ne) (link_same m st ne stay) (λ k c e. d.stays c (kid_stays m k c st ne stay e) ∙ ((sound.node m st).child k c e).stands)
 
-    set_same : (n : ℕ) → (n ≡ at → ⊥) → (i : ℕ) (r : Ref) → slice_get (refs f n) i ≡ Some r → slice_get (refs g n) i ≡ Some r
-    set_same n ne i r read = ap (λ (x : RefSet). slice_get x.refs i) (d.there n ne) ∙ read
+    -- what is held stays
+    pub held_now : (m : ℕ) → f.held m ≡ true → g.stands m ≡ true
+    held_now m held =
+        let it = sound.held m held in
+        d.stays m (not_goes m it.0 (λ why. elim why as (λ _. ⊥) [
+          | inl goes ↦ not_below m it.0 it.1 goes
+          | inr w ↦ let clash : true ≡ false = sym held ∙ suits.free m it.0 w in cc
+        ])) ∙ it.0
 
-    reach : {n : ℕ} {o : Option Ref} (leaf : Ref) → o ≡ Some leaf → leaf.key ≡ key → leaf.kind ≡ Inode → f.stands n ≡ true → f.root n ≡ t → d.goes n ≡ false → Reaches f key n o → Reached key n
-    reach leaf is exact kind st_n root_n stay_n (nowhere miss) = absurd (let clash : None ≡ Some leaf = is in cc)
-    reach leaf is exact kind st_n root_n stay_n (here {at = n} {r = r} i read in_r leafy) =
-        let same : r ≡ leaf = one_of r leaf is in
-        let key_is : r.key ≡ key = ap (λ (z : Ref). z.key) same ∙ exact in
-        elim (same_or_not n at) as (λ _. Reached key n) [
-          | inl e ↦ subst (Reached key) (sym e) (here_at i r (subst (λ z. slice_get (refs f z) i ≡ Some r) e read) in_r leafy key_is (subst (λ z. f.root z ≡ t) e root_n))
-          | inr ne ↦ record { leaf = r; key_is = key_is; kind_is = ap (λ (z : Ref). z.kind) same ∙ kind; path = here {r = r} i (set_same n ne i r read) in_r leafy }
-        ]
-    reach {o = o} leaf is exact kind st_n root_n stay_n (below {at = n} {c = c} {r = r} i read in_r ind link rest) =
-        let kid = (sound.node n st_n).child r.key c link in
-        elim (same_or_not n at) as (λ _. Reached key n) [
-          | inl e ↦
-              let read' : slice_get (refs f at) i ≡ Some r = subst (λ z. slice_get (refs f z) i ≡ Some r) e read in
-              let link' : f.link at r.key ≡ loaded c = subst (λ z. f.link z r.key ≡ loaded c) e link in
-              let on = onward i c r leaf read' in_r ind link' exact (subst (λ z. f.root z ≡ t) e root_n) (subst (Reaches f key at) is (below {r = r} i read' in_r ind link' rest)) in
-              subst (Reached key) (sym e) (on.up (reach leaf is exact kind kid.stands (kid.root ∙ root_n) on.stays rest))
+    -- what is right below a node that goes, goes
+    went : (m : ℕ) (h : HasParent f m) → GoesBelow f h.parent at s ⊎ GoesWith f h.parent at s → GoesBelow f m at s ⊎ GoesWith f m at s
+    went m h why = elim why as (λ _. GoesBelow f m at s ⊎ GoesWith f m at s) [
+      | inl goes ↦ inl (goes_down f at s sound stands h.parent m h.stands h.link goes)
+      | inr w ↦ let kid = (sound.node h.parent h.stands).child (f.low m) m h.link in inr (with_same m h.parent (sym kid.root) (λ t k. sym (kid.belongs t k)) w)
+    ]
+
+    -- a node that stays is below one that stays
+    pub parent_now : (m : ℕ) → g.stands m ≡ true → (g.root m ≡ m → ⊥) → HasParent g m
+    parent_now m now off =
+        let st = d.none_new m now in
+        let stay = now_stays m now in
+        let p = d.loose.place m st now in
+        let h = sound.parent m st (λ e. off (p.root ∙ e)) in
+        elim (same_or_not h.parent at) as (λ _. HasParent g m) [
+          | inl e ↦ at_it st stay p.low (ap (λ z. f.link z (f.low m)) (sym e) ∙ h.link)
           | inr ne ↦
-              let it = reach leaf is exact kind kid.stands (kid.root ∙ root_n) (kid_stays n r.key c st_n ne stay_n link) rest in
-              record { leaf = it.leaf; key_is = it.key_is; kind_is = it.kind_is; path = below {r = r} i (set_same n ne i r read) in_r ind (link_same n st_n ne stay_n r.key ∙ link) it.path }
+              let up : d.goes h.parent ≡ false = not_goes h.parent h.stands (λ why. let clash : true ≡ false = sym (d.goes_all m st (went m h why)) ∙ stay in cc) in
+              record { parent = h.parent; stands = d.stays h.parent up ∙ h.stands; link = ap (g.link h.parent) p.low ∙ link_same h.parent h.stands ne up (f.low m) ∙ h.link }
         ]
-
-  -- what stays belongs to what stays
-  owners : (m t k : ℕ) → g.stands m ≡ true → g.belongs m t k ≡ true → HasOwner g m t k
-  owners m t k now b =
-      let st = d.none_new m now in
-      let stay = now_stays m now in
-      let p = d.loose.place m st now in
-      let bel : f.belongs m t k ≡ true = sym (p.belongs t k) ∙ b in
-      let h = sound.owner m t k st bel in
-      let top : d.goes t ≡ false = not_goes t h.stands (λ why. elim why as (λ _. ⊥) [
-        | inl goes ↦ not_below t h.stands h.root goes
-        | inr w ↦
-            let far : f.belongs m (f.root at) w.key ≡ true = d.chain m t k (f.root at) w.key st bel w.belongs in
-            let goes : GoesWith f m at s = record {
-              other = (sound.owner m (f.root at) w.key st far).other;
-              key = w.key;
-              leaf = w.leaf;
-              loses = w.loses;
-              reaches = w.reaches;
-              exact = w.exact;
-              belongs = far;
-            } in
-            let clash : true ≡ false = sym (d.goes_all m st (inr goes)) ∙ stay in
-            cc
-      ]) in
-      let there : g.stands t ≡ true = d.stays t top ∙ h.stands in
-      let it = reach m t k st bel h.other stay h.leaf refl h.key_is h.kind_is h.stands h.root top h.path in
-      record {
-        other = λ e. h.other (sym p.root ∙ e);
-        stands = there;
-        root = (d.loose.place t h.stands there).root ∙ h.root;
-        leaf = it.leaf;
-        key_is = it.key_is;
-        kind_is = it.kind_is;
-        path = it.path;
-      }
-
-  pub still : IsSound g
-  still = sound_of f g d.loose sound
-      (λ m now. elim (same_or_not m at) as (λ _. IsSoundNode g m) [
-        | inl e ↦ subst (IsSoundNode g) (sym e) here_node
-        | inr ne ↦ other_node m now ne
-      ])
-      (λ m now. let st = d.none_new m now in same_top f g d.loose m sound st now (root_now m st (now_stays m now)))
-      parent_now held_now owners
-
-  pub others : (m : ℕ) → f.stands m ≡ true → (m ≡ at → ⊥) → (GoesBelow f m at s → ⊥) → (GoesWith f m at s → ⊥) → Same f g m
-  others m st ne off with' =
-      let stay = not_goes m st (λ why. elim why as (λ _. ⊥) [
-        | inl it ↦ off it
-        | inr it ↦ with' it
-      ]) in
-      same_all f g d.loose m st (d.stays m stay ∙ st) (d.there m ne) (link_same m st ne stay)
-
-  pub gone : (m : ℕ) → f.stands m ≡ true → GoesBelow f m at s ⊎ GoesWith f m at s → g.stands m ≡ false
-  gone m st why = d.gone m (d.goes_all m st why)
-
-  pub stores : Fixed f g → Stores f g at s
-  stores fixed = record {
-    sound = still;
-    fixed = fixed;
-    set = d.here;
-    place = d.loose.place at stands at_now;
-    copies = d.loose.copies at stands at_now;
-    link = kept;
-    others = others;
-    gone = gone;
-    none_new = d.none_new;
-    spare = d.spare;
-    room = d.room;
-    failed = d.failed;
-    bad = d.bad;
-  }
+      where
+        -- right below node at, it is below a reference that the set has
+        at_it : f.stands m ≡ true → d.goes m ≡ false → g.low m ≡ f.low m → f.link at (f.low m) ≡ loaded m → HasParent g m
+        at_it st stay low link =
+            let l = link_of f sound at m stands link in
+            let name = l.named in
+            let key = name.key in
+            let pos = pow_pos name.ref.keybits in
+            elim (tested (names s.refs (f.low m))) as (λ _. HasParent g m) [
+              | inl yes' ↦
+                  let it = names_below s.refs (f.low m) yes' in
+                  let same = kept it.place it.ref it.read it.indirect in
+                  record { parent = at; stands = at_now; link = ap (g.link at) low ∙ subst (λ z. g.link at z ≡ f.link at z) it.key same ∙ link }
+              | inr miss ↦
+                  let goes : GoesBelow f m at s = record {
+                    tree = l.child.root;
+                    fewer = l.child.fewer;
+                    loses = record {
+                      place = name.place;
+                      lost = name.ref;
+                      was = name.read;
+                      lacks = λ i r read same way.
+                          let there : names s.refs (f.low m) ≡ true = below_names s.refs (f.low m) i r read (way ∙ name.indirect) (same ∙ name.key) in
+                          let clash : true ≡ false = sym there ∙ miss in
+                          cc;
+                      held = in_holds (f.low m) name.ref (omega (arith, key)) (omega (arith, key, pos));
+                    };
+                  } in
+                  let clash : true ≡ false = sym (d.goes_all m st (inl goes)) ∙ stay in
+                  absurd (cc)
+            ]

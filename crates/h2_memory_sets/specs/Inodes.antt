@@ -57,10 +57,19 @@ pub record IsSought (xs : List Node) (root key c : ℕ) : Type 0 where
   pub fits : IsRootNode node item key
   pub bare : position (is_below c) xs ≡ None
 
+-- whether there is an owner, of a node that is loaded
+abbrev pub named_by : Option Owner → Bool → Bool
+named_by None loaded = false
+named_by (Some o) loaded = loaded
+
 -- whether a root has no owner
 abbrev pub is_unowned : Option Owner → Bool
 is_unowned None = true
 is_unowned (Some o) = false
+
+-- whether a node is loaded, and has an owner
+abbrev pub is_named : Node → Bool
+is_named x = named_by x.owner x.loaded
 
 -- a node that is loaded or not
 abbrev pub with_loaded : Bool → Node → Node

@@ -101,18 +101,23 @@ pub record BeginsEpoch (f g : Forest) : Type 0 where
   pub bad : g.bad ≡ f.bad
   pub met : g.met ≡ f.met
 
--- nothing has changed but that no node is loaded to which a reference with a key of `from` or more leads
+-- no node that stands belongs to a leaf
+abbrev pub NoneBelongs : Forest → Type 0
+NoneBelongs f = (m t k : ℕ) → f.stands m ≡ true → f.belongs m t k ≡ false
+
+-- nothing has changed but that, where no inode is loaded, no node is to which a reference with a key of `from` or more
+-- leads
 pub record Unloads (f g : Forest) (from : ℕ) : Type 0 where
   pub sound : IsSound g
   pub fixed : Fixed f g
   pub stays : (m : ℕ) → f.stands m ≡ true → (f.low m < from) ⊎ (f.root m ≡ m) → InPlace f g m
-  pub goes : (m k c : ℕ) → from ≤ k → f.link m k ≡ loaded c → g.stands c ≡ false
+  pub goes : (m k c : ℕ) → NoneBelongs f → from ≤ k → f.link m k ≡ loaded c → g.stands c ≡ false
   pub none_new : (m : ℕ) → g.stands m ≡ true → f.stands m ≡ true
   pub set : (m : ℕ) → g.set m ≡ f.set m
   pub writable : (m : ℕ) → g.writable m ≡ f.writable m
   pub copies : (m : ℕ) → g.copies m ≡ f.copies m
   pub link_before : (m k : ℕ) → k < from → g.link m k ≡ f.link m k
-  pub link_from : (m k : ℕ) → from ≤ k → g.link m k ≡ untold
+  pub link_from : (m k : ℕ) → NoneBelongs f → from ≤ k → g.link m k ≡ untold
   pub spare : g.spare ≡ f.spare
   pub room : g.room ≡ f.room
   pub failed : g.failed ≡ f.failed

@@ -13,7 +13,7 @@ use crate::naming::{LongName, find_unspoiled_name, inline_name};
 use crate::node::{KeyClass, Leaves, Node};
 use crate::refitting::give_set;
 use crate::roots::add_top;
-use crate::searching::find_child;
+use crate::searching::{find_child, find_named};
 use crate::unloading::{unload_all, unload_owned};
 use h2_num::{Bytes, NoMemory};
 use h2_inode::Inode;
@@ -199,13 +199,17 @@ impl MemorySets {
         recount_all(&mut self.nodes);
     }
 
-    /// Unloads the nodes below roots whose range starts at this key or after. `child` loads them again.
+    /// Unloads the nodes below roots whose range starts at this key or after, where no inode is loaded: a loaded one
+    /// stands on the path of its leaf. `child` loads them again.
     pub fn unload(&mut self, from: u64)
         requires sound { IsSound (forest_of self.old) }
         ensures unloads { Unloads (forest_of self.old) (forest_of self.new) from }
         ensures beside { KeepsBeside (forest_of self.old) (forest_of self.new) (beside_seen self.old) (beside_seen self.new) }
         ensures blocks { blocks_of self.new ≡ blocks_of self.old }
     {
+        let None = find_named(&self.nodes) else {
+            return;
+        };
         unload_all(&mut self.nodes, from);
     }
 
