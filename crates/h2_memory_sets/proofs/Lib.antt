@@ -2,6 +2,8 @@ pub mod Lists
 pub mod Owned
 pub mod Named
 pub mod Coming
+pub mod Arriving
+pub mod Inoded
 pub mod Nesting
 pub mod Settled
 pub mod Passing

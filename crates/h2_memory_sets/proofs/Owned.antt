@@ -2,13 +2,13 @@
 use Rattle.std.proofs.Common.{◌≡◌, ℕ, ◌<◌, ◌≤◌, Bool, true, false, ◌&&◌, ◌||◌, arith, refl, cond, sym, ◌∙◌, ap, List, [], ◌∷◌, ◌++◌, take, drop, Option, Some, None, subst, ◌⊎◌, inl, inr, slice_get, suc, zero, nat_eq}
 use Rattle.std.specs.Prelude.{map}
 use Rattle.std.proofs.lemmas.Bool.{cases_lt}
+use Rattle.std.proofs.lemmas.Bool.Decides.{nat_tests}
 use Rattle.h2_ref.specs.declared.reference.Ref.{Ref}
 use Rattle.h2_memory_sets.specs.declared.node.Node.{Node}
 use Rattle.h2_memory_sets.specs.declared.node.Owner.{Owner}
 use Rattle.h2_memory_sets.specs.Owners.{owner_of, either, on_chain, is_owner, belongs_to}
 use Rattle.h2_memory_sets.specs.Kept.{AreKept}
 use Rattle.h2_memory_sets.specs.View.{goes, goes_with, lost, dropped}
-use Rattle.h2_memory_sets.proofs.Parting.{alike}
 use Rattle.h2_memory_sets.proofs.Passing.{and_parts}
 
 -- what is told of the owner's root alone
@@ -99,8 +99,11 @@ pub chain_found : (p : Owner → Bool) (xs : List Node) (n m : ℕ) → on_chain
 chain_found p xs zero m h = absurd (cc)
 chain_found p xs (suc n) m h = found_step p xs n m (owner_of (slice_get xs m)) refl h (λ o is. chain_found p xs n o.root is)
 
+same_number : (a b : ℕ) → nat_eq a b ≡ true → a ≡ b
+same_number a b e = grind (arith, nat_tests)
+
 pub owner_is : (t k : ℕ) (o : Owner) → is_owner t k o ≡ true → (o.root ≡ t) × (o.key ≡ k)
-owner_is t k o e = let a = and_parts (nat_eq o.root t) _ e in (alike o.root t a.0, alike o.key k a.1)
+owner_is t k o e = let a = and_parts (nat_eq o.root t) _ e in (same_number o.root t a.0, same_number o.key k a.1)
 
 -- what a root belongs to has a lower root
 pub belongs_lower : (xs : List Node) → AreLower xs → (q t k : ℕ) → belongs_to xs q t k ≡ true → t < q
@@ -128,3 +131,8 @@ dropped_owner xs root bits old new x = go (goes root bits old new x || goes_with
     go : (b : Bool) → (let y : Node = cond b (lost x) x in y.owner) ≡ x.owner
     go true = refl
     go false = refl
+
+-- below a number, where the owners are the same
+pub chain_under : (p : Owner → Bool) (xs ys : List Node) (b : ℕ) → AreLower xs → ((m : ℕ) → m < b → owner_of (slice_get ys m) ≡ owner_of (slice_get xs m)) → (n m : ℕ) → m < b → on_chain p ys n m ≡ on_chain p xs n m
+chain_under p xs ys b low same zero m lt = refl
+chain_under p xs ys b low same (suc n) m lt = ap (either p (λ t. on_chain p ys n t)) (same m lt) ∙ either_same p (λ t. on_chain p ys n t) (λ t. on_chain p xs n t) (owner_of (slice_get xs m)) (λ o e. let less = low m o e in chain_under p xs ys b low same n o.root (omega (arith, less, lt)))

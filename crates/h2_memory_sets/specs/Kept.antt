@@ -1,17 +1,22 @@
 -- What stands at any time of the nodes of inodes, loaded or not.
-use Rattle.std.specs.Prelude.{◌≡◌, ℕ, ◌<◌, true, List, Option, Some, None, length, slice_get}
+use Rattle.std.specs.Prelude.{◌≡◌, ℕ, ◌<◌, Bool, true, false, List, Option, Some, None, length, slice_get}
 use Rattle.h2_inode.specs.declared.inode.Inode.{Inode}
 use Rattle.h2_inode.specs.Inode.{keys_from}
 use Rattle.h2_inode.specs.Nodes.{leaf_keybits, set_of as set_of_body}
 use Rattle.h2_memory_sets.specs.declared.node.Owner.{Owner}
 use Rattle.h2_memory_sets.specs.declared.node.Node.{Node}
 
+-- whether there is an inode
+abbrev pub is_known : Option Inode → Bool
+is_known None = false
+is_known (Some v) = true
+
 -- a leaf names a root, and the root of its tree has a lower number; a loaded one is that of an inode
 pub record IsNamedRoot (i : ℕ) (x : Node) (o : Owner) : Type 0 where
   pub lower : o.root < i
   pub root : x.root ≡ i
   pub bare : x.up ≡ None
-  pub known : x.loaded ≡ true → (v : Inode) × (x.inode ≡ Some v)
+  pub known : x.loaded ≡ true → is_known x.inode ≡ true
 
 -- node i is the root of the inode
 pub record IsRootOf (i : ℕ) (x : Node) (v : Inode) : Type 0 where
