@@ -204,8 +204,8 @@ module _ (xs : List Node) (at : ℕ) (x y : Node) (s : RefSet) (inode : Option I
       ap (λ z. is_top (slice_get dropped_with z)) root ∙ still_field is_top refl (root_of (slice_get xs i)) (stay i now) ∙ rooted i (none_new i now)
 
   -- what stands of the nodes of inodes still does
-  pub kept_drop : ((v : Inode) → inode ≡ Some v → IsRootOf at (given y s inode) v) → AreKept dropped_with
-  kept_drop holds = kept_from xs dropped_with kept from
+  pub kept_drop : ((v : Inode) → inode ≡ Some v → IsRootOf at (given y s inode) v) → ((w : Inode) → x.inode ≡ Some w → (v : Inode) × (inode ≡ Some v)) → AreKept dropped_with
+  kept_drop holds known = kept_from xs dropped_with kept from
     where
       long : length dropped_with ≡ length xs
       long = length-set ds at (given y s inode) ∙ length-map _ _
@@ -220,6 +220,7 @@ module _ (xs : List Node) (at : ℕ) (x y : Node) (s : RefSet) (inode : Option I
         above = λ u up. let lt = kept.above at x u read (sym (ap (λ (v : Node). v.up) same) ∙ up) in omega (arith, long, lt);
         loaded = λ o own on. sym (ap (λ (u : Node). u.loaded) same) ∙ on;
         inode = holds;
+        known = λ o own on w e. known w e;
       })
 
       stayed : (i : ℕ) (z a : Node) → slice_get xs i ≡ Some z → z ≡ a → CameFrom xs (length dropped_with) i a
@@ -232,6 +233,7 @@ module _ (xs : List Node) (at : ℕ) (x y : Node) (s : RefSet) (inode : Option I
         above = λ u up. let lt = kept.above i z u got up in omega (arith, long, lt);
         loaded = λ o own on. on;
         inode = λ v e. kept.inode i z v got e;
+        known = λ o own on w e. (w, e);
       })
 
       went : (i : ℕ) (z a : Node) → slice_get xs i ≡ Some z → lost z ≡ a → CameFrom xs (length dropped_with) i a
@@ -244,6 +246,7 @@ module _ (xs : List Node) (at : ℕ) (x y : Node) (s : RefSet) (inode : Option I
         above = λ u up. absurd (none-some u up);
         loaded = λ o own on. absurd (let clash : false ≡ true = on in cc);
         inode = λ v e. absurd (none-some v e);
+        known = λ o own on w e. absurd (let clash : false ≡ true = on in cc);
       })
 
       from : (i : ℕ) (a : Node) → slice_get dropped_with i ≡ Some a → CameFrom xs (length dropped_with) i a ⊎ IsPlain (length dropped_with) a

@@ -44,6 +44,8 @@ pub record CameFrom (xs : List Node) (n i : ℕ) (y : Node) : Type 0 where
   pub above : (u : ℕ) → y.up ≡ Some u → u < n
   pub loaded : (o : Owner) → y.owner ≡ Some o → y.loaded ≡ true → old.loaded ≡ true
   pub inode : (v : Inode) → y.inode ≡ Some v → IsRootOf i y v
+  -- where it is loaded, it has an inode still
+  pub known : (o : Owner) → y.owner ≡ Some o → y.loaded ≡ true → (w : Inode) → old.inode ≡ Some w → (v : Inode) × (y.inode ≡ Some v)
 
 -- a node that no leaf names, and that isn't the root of an inode
 pub record IsPlain (n : ℕ) (y : Node) : Type 0 where
@@ -59,7 +61,7 @@ kept_from xs ys kept from = record {
   ];
   owner = λ i y o read named. elim (from i y read) as (λ _. IsNamedRoot i y o) [
     | inr it ↦ absurd (none-some o (sym it.owner ∙ named))
-    | inl it ↦ let old = kept.owner i it.old o it.read (sym it.owner ∙ named) in record { lower = old.lower; root = it.root ∙ old.root; bare = it.bare old.bare }
+    | inl it ↦ let old = kept.owner i it.old o it.read (sym it.owner ∙ named) in record { lower = old.lower; root = it.root ∙ old.root; bare = it.bare old.bare; known = λ on. let w = old.known (it.loaded o named on) in it.known o named on w.0 w.1 }
   ];
   inode = λ i y v read holds. elim (from i y read) as (λ _. IsRootOf i y v) [
     | inr it ↦ absurd (none-some v (sym it.inode ∙ holds))
@@ -134,6 +136,7 @@ kept_map h xs kept like = kept_from xs (map h xs) kept (λ i y read. inl (from i
           inode = λ v e.
               let it = kept.inode i x v got (sym l.inode ∙ e) in
               record { root = l.root ∙ it.root; bare = l.up ∙ it.bare; low = l.low ∙ it.low; bits = l.bits ∙ it.bits; leaf_bits = l.leaf_bits ∙ it.leaf_bits; set = l.set ∙ it.set; number = λ o own. it.number o (sym l.owner ∙ own) };
+          known = λ o own on w e. (w, l.inode ∙ e);
         }
 
     from : (i : ℕ) (y : Node) → slice_get (map h xs) i ≡ Some y → CameFrom xs (length (map h xs)) i y

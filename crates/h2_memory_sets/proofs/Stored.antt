@@ -18,7 +18,7 @@ use Rattle.h2_memory_sets.specs.declared.node.Leaves.{Leaves}
 use Rattle.h2_memory_sets.specs.declared.node.Leaves.TheVariants.{Any, Inodes}
 use Rattle.h2_memory_sets.specs.declared.node.Node.{Node}
 use Rattle.h2_memory_sets.specs.Kept.{AreKept, IsRootOf}
-use Rattle.h2_memory_sets.specs.Owners.{is_leaf_of, inode_allows, allowed_by, allows_of, beside_of, refit}
+use Rattle.h2_memory_sets.specs.Owners.{is_leaf_of, inode_allows, allowed_by, allows_of, beside_of, refit, refit_inode}
 use Rattle.h2_memory_sets.specs.View.{stands_of, set_of, root_of, with_set, forest_with, dropped, dropped_all, AllRooted}
 use Rattle.h2_memory_sets.proofs.Drops.{given, dropped_with, own_stays, kept_drop}
 use Rattle.h2_memory_sets.proofs.Keeping.{refit_allows, refit_twice, refit_root}
@@ -162,7 +162,7 @@ module _ (xs : List Node) (at : ℕ) (x : Node) (s : RefSet) (kept : AreKept xs)
   is_stored rooted = record {
     stores = stores f g at s d sound stands suits fixed;
     rooted = rooted_dropped xs at x x s (refit x.inode s) kept read refl spare epoch room failed bad met sound stands storable.free rooted;
-    kept = kept_drop xs at x x s (refit x.inode s) kept read refl (refit_root at x s (λ w e. kept.inode at x w read e) bare);
+    kept = kept_drop xs at x x s (refit x.inode s) kept read refl (refit_root at x s (λ w e. kept.inode at x w read e) bare) (λ w e. (refit_inode w s, ap (λ n. refit n s) e));
     beside = record { same = λ m st now. stays_field xs at x x s (refit x.inode s) kept read refl spare epoch room failed bad met sound stands storable.free beside_of (refit_twice x.inode s (record { refs = []; capacity = 4 })) m now };
   }
 

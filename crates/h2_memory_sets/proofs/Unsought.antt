@@ -273,3 +273,6 @@ module _ (xs : List Node) (spare epoch room failed bad : ℕ) (met : Option (ℕ
       let bare : is_bare x.up ≡ true = (and_parts x.loaded (is_bare x.up) (sym (ap is_top it.1) ∙ rooted i st)).1 in
       let on : (x.loaded && is_unowned (owner_of (slice_get xs x.root))) ≡ true = sym (ap stands_of (get_map h xs t x it.1)) ∙ there in
       ap (λ z. is_top (slice_get ys z)) (field root_of (λ y. refl) i) ∙ ap is_top (get_map h xs t x it.1) ∙ rw (on, bare) refl
+
+  pub beside_unsought : (m : ℕ) → beside_of (slice_get (unsought_all xs) m) ≡ beside_of (slice_get xs m)
+  beside_unsought = field beside_of (λ x. refl)
