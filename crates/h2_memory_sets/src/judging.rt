@@ -158,6 +158,13 @@ fn all_fit(set: &Set, top: &Ref, root: &Node) -> bool
     true
 }
 
+// The root of a tree.
+fn root_node(nodes: &[Node], root: u32) -> Option<&Node>
+    ensures { IfSome result (λ x. slice_get nodes.now root ≡ Some x.now) }
+{
+    nodes.get(root as usize)
+}
+
 // The node to which a reference in the set of node `at` leads, where it isn't loaded. None where it isn't one
 // of its tree.
 fn find_loadable(nodes: &[Node], at: u32, r: &Ref) -> Option<usize>
@@ -166,7 +173,7 @@ fn find_loadable(nodes: &[Node], at: u32, r: &Ref) -> Option<usize>
     ensures { IfSome result (IsLoadable nodes.now at r.now) }
 {
     let c = find_away(nodes, at, r.key)?;
-    let root = nodes.get(nodes[at as usize].root as usize)?;
+    let root = root_node(nodes, nodes[at as usize].root)?;
     if !all_fit(&nodes[c].set, r, root) {
         return None;
     }
