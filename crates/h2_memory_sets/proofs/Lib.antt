@@ -8,6 +8,7 @@ pub mod Arrived
 pub mod Plantable
 pub mod Topped
 pub mod Planted
+pub mod Sought
 pub mod Nesting
 pub mod Settled
 pub mod Passing
