@@ -151,11 +151,11 @@ module _ (xs : List Node) (at : ℕ) (x : Node) (w v : Inode) (kept : AreKept xs
   kinds m key i r st bel got leafy =
       let h = sound.owner m (f.root at) key st bel in
       let a : f.allows at h.leaf ≡ true = subst (λ t. f.allows t h.leaf ≡ true) (h.root ∙ own) (allowed_leaf f key sound h.leaf refl h.stands h.path) in
-      (replaceable.fits i r got).allowed leafy ∙ ap leaf_kind kind ∙ sym (by_body w.body ((may_have w.kind w.body h.leaf).0 (sym (allowed_was h.leaf) ∙ a))) ∙ h.kind_is
+      (replaceable.fits i r got).allowed leafy ∙ ap leaf_kind kind ∙ sym (by_body h.leaf w.body ((may_have w.kind w.body h.leaf).0 (sym (allowed_was h.leaf) ∙ a))) ∙ h.kind_is
     where
-      by_body : {q : Ref} (b : Body) → MayHave w.kind b q → q.kind ≡ leaf_kind w.kind
-      by_body (Refs t) h = h.0
-      by_body (Bytes bytes) h = absurd h
+      by_body : (q : Ref) (b : Body) → MayHave w.kind b q → q.kind ≡ leaf_kind w.kind
+      by_body q (Refs t) h = h.0
+      by_body q (Bytes bytes) h = absurd h
 
   suits : Suits f g at s
   suits = record {
