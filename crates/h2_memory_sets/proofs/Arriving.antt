@@ -1,5 +1,5 @@
 -- The root of an inode that is loaded, or new, and the leaf that names it.
-use Rattle.std.proofs.Common.{◌≡◌, ℕ, ◌+◌, ◌<◌, ◌≤◌, Bool, true, false, ◌&&◌, ◌||◌, arith, refl, cond, sym, ◌∙◌, ap, List, [], ◌∷◌, ◌++◌, length, Option, Some, None, subst, ◌⊎◌, inl, inr, slice_get, slice_set, nat_eq}
+use Rattle.std.proofs.Common.{◌≡◌, ℕ, ◌+◌, ◌<◌, ◌≤◌, Bool, true, false, ◌&&◌, ◌||◌, arith, refl, cond, sym, ◌∙◌, ap, List, [], ◌∷◌, ◌++◌, length, Option, Some, None, subst, ◌⊎◌, inl, inr, slice_get, slice_set, suc, nat_eq}
 use Rattle.std.specs.List.{position}
 use Rattle.std.proofs.Math.ListN.{length-set}
 use Rattle.std.proofs.lemmas.Option.{none-some, slice_get_within, slice_get_past}
@@ -49,7 +49,7 @@ pushed xs y rooted kept low on bare root bits copies unheld = record {
   unheld = unheld;
   first = first;
   bare = λ k. first (length xs) k ∙ none_passes (is_child (length xs) k) xs (λ i x read. none i x k read);
-  belongs = λ m t k st. chain_under (is_owner t k) xs (xs ++ y ∷ []) (length xs) low (λ i lt. ap owner_of (get_push xs y i (λ e. omega (arith, e, lt)))) _ _ (there m st);
+  belongs = λ m t k st. chain_under (is_owner t k) xs (xs ++ y ∷ []) (length xs) low (λ i lt. ap owner_of (get_push xs y i (λ e. omega (arith, e, lt)))) (suc (root_of (slice_get xs m))) (root_of (slice_get xs m)) (there m st);
 }
   where
     fresh : stands_of (slice_get xs (length xs)) ≡ false
@@ -158,7 +158,7 @@ module _ (xs ys : List Node) (c : ℕ) (y : Node) (spare spare' epoch room faile
 
   -- what it belongs to, it belongs to by loaded paths
   paths : (t k : ℕ) → belongs_to ys c t k ≡ true → HasPath f t k
-  paths t k b = elim (or_parts _ _ (sym (belongs_step ys low c t k (record { root = top; key = leaf.key }) at_owner) ∙ b)) as (λ _. HasPath f t k) [
+  paths t k b = elim (or_parts (is_owner t k (record { root = top; key = leaf.key })) (belongs_to ys top t k) (sym (belongs_step ys low c t k (record { root = top; key = leaf.key }) at_owner) ∙ b)) as (λ _. HasPath f t k) [
     | inl is ↦
         let same = owner_is t k (record { root = top; key = leaf.key }) is in
         subst (λ z. HasPath f z k) same.0 (subst (λ z. HasPath f top z) same.1 (record { stands = named.stands; root = named.root; leaf = leaf; key_is = refl; kind_is = named.kind; path = named.path }))

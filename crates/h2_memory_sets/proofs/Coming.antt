@@ -120,7 +120,7 @@ module _ (xs ys : List Node) (c : ℕ) (y : Node) (spare spare' epoch room faile
 
   pub held : (m : ℕ) → g.held m ≡ f.held m
   held m = elim (same_or_not m c) as (λ _. g.held m ≡ f.held m) [
-    | inl e ↦ subst (λ z. g.held z ≡ f.held z) (sym e) (ap held_of h.at_c ∙ unheld_there y h.unheld ∙ sym (unheld_away _ h.fresh))
+    | inl e ↦ subst (λ z. g.held z ≡ f.held z) (sym e) (ap held_of h.at_c ∙ unheld_there y h.unheld ∙ sym (unheld_away (slice_get xs c) h.fresh))
     | inr ne ↦ ap held_of (h.off_c m ne)
   ]
 

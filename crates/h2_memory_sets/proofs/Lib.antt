@@ -4,6 +4,10 @@ pub mod Named
 pub mod Coming
 pub mod Arriving
 pub mod Inoded
+pub mod Arrived
+pub mod Plantable
+pub mod Topped
+pub mod Planted
 pub mod Nesting
 pub mod Settled
 pub mod Passing

@@ -27,7 +27,7 @@ module _ (xs : List Node) (spare epoch room failed bad : ℕ) (met : Option (ℕ
         let here : f.belongs c t k ≡ belongs_to xs c t k = ap (λ q. belongs_to xs q t k) own in
         let there : f.belongs top t k ≡ belongs_to xs top t k = ap (λ q. belongs_to xs q t k) top_own in
         let step = belongs_step xs low c t k (record { root = top; key = key }) owner in
-        ((λ e. elim (or_parts _ _ (sym step ∙ sym here ∙ e)) as (λ _. ((t ≡ top) × (k ≡ key)) ⊎ (f.belongs top t k ≡ true)) [
+        ((λ e. elim (or_parts (is_owner t k (record { root = top; key = key })) (belongs_to xs top t k) (sym step ∙ sym here ∙ e)) as (λ _. ((t ≡ top) × (k ≡ key)) ⊎ (f.belongs top t k ≡ true)) [
           | inl is ↦ let o = owner_is t k (record { root = top; key = key }) is in inl (sym o.0, sym o.1)
           | inr above ↦ inr (there ∙ above)
         ]), (λ e. here ∙ step ∙ back t k e there));
@@ -49,7 +49,7 @@ module _ (xs : List Node) (spare epoch room failed bad : ℕ) (met : Option (ℕ
 
       go : (o : Option Owner) → owner_of (slice_get xs c) ≡ o → owner_of (slice_get xs c) ≡ Some (record { root = top; key = key })
       go None e = let clash : true ≡ false = sym belongs ∙ belongs_none xs c top key e in absurd (cc)
-      go (Some o) e = e ∙ elim (or_parts _ _ (sym (belongs_step xs low c top key o e) ∙ belongs)) as (λ _. ◌≡◌ {A = Option Owner} (Some o) (Some (record { root = top; key = key }))) [
+      go (Some o) e = e ∙ elim (or_parts (is_owner top key o) (belongs_to xs o.root top key) (sym (belongs_step xs low c top key o e) ∙ belongs)) as (λ _. ◌≡◌ {A = Option Owner} (Some o) (Some (record { root = top; key = key }))) [
         | inl here ↦ let same = owner_is top key o here in ap (λ n. Some (record { root = n; key = o.key })) same.0 ∙ ap (λ n. Some (record { root = top; key = n })) same.1
         | inr above ↦
             let less : top < o.root = belongs_lower xs low o.root top key above in

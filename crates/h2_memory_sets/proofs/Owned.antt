@@ -54,7 +54,7 @@ belongs_step xs low c t k o e = ap (either (is_owner t k) (λ u. on_chain (is_ow
 pub belongs_none : (xs : List Node) (c t k : ℕ) → owner_of (slice_get xs c) ≡ None → belongs_to xs c t k ≡ false
 belongs_none xs c t k e = ap (either (is_owner t k) (λ u. on_chain (is_owner t k) xs c u)) e
 
-or_parts : (a b : Bool) → (a || b) ≡ true → (a ≡ true) ⊎ (b ≡ true)
+pub or_parts : (a b : Bool) → (a || b) ≡ true → (a ≡ true) ⊎ (b ≡ true)
 or_parts true b h = inl refl
 or_parts false b h = inr h
 

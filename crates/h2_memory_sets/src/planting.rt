@@ -1,6 +1,7 @@
 //! Roots of inodes.
 ghost use Rattle.std.specs.Prelude.{◌≡◌, ◌<◌, ◌≤◌, ◌^◌, ◌+◌, ◌++◌, ◌∷◌, [], length};
 ghost use Rattle.std.specs.Vec.{vec_len, vec_capacity};
+ghost use Rattle.h2_set.specs.RefSet.{IsRefSet};
 ghost use Rattle.h2_inode.specs.Inode.{keys_from};
 ghost use Rattle.h2_inode.specs.Nodes.{leaf_keybits, set_of};
 ghost use Rattle.h2_memory_sets.specs.Inodes.{inode_node, with_inode};
@@ -12,7 +13,8 @@ use h2_set::Set;
 
 /// The set of a body; one that is bytes has none, which counts as an empty one.
 pub(crate) fn set_of(body: &Body) -> Set
-    ensures { result ≡ set_of body.now }
+    ensures same { result ≡ set_of body.now }
+    ensures set { IsRefSet result }
 {
     match body {
         Body::Refs(set) => set.copy(),
@@ -46,6 +48,7 @@ pub(crate) fn add_inode(nodes: &mut Vec<Node>, leaf: Owner, inode: Inode) -> u32
     requires space { vec_len nodes.old < vec_capacity nodes.old }
     ensures number { result ≡ length nodes.old.items }
     ensures pushed { nodes.new.items ≡ nodes.old.items ++ inode_node (length nodes.old.items) leaf inode ∷ [] }
+    ensures set { IsRefSet (set_of inode.body) }
     ensures capacity { vec_capacity nodes.old ≤ vec_capacity nodes.new }
     ensures len { vec_len nodes.new ≡ vec_len nodes.old + 1 }
 {

@@ -3,6 +3,7 @@ ghost use Rattle.std.specs.Prelude.{◌≡◌, ◌<◌, ◌^◌, ℕ, IsTrue, If
 ghost use Rattle.std.specs.List.{position};
 ghost use Rattle.h2_ref.specs.declared.reference.Ref.{Ref};
 ghost use Rattle.h2_memory_sets.specs.View.{FitsBelow, range_of};
+ghost use Rattle.h2_set.specs.RefSet.{IsRefSet};
 ghost use Rattle.h2_memory_sets.specs.Inodes.{owned_by, is_sought, sought, IsSought, IsRootNode};
 
 use crate::judging::{fits_below, is_due};
@@ -40,7 +41,8 @@ pub(crate) fn find_root(nodes: &[Node], root: u32, key: u64) -> Option<usize>
 
 // Whether each reference of a root may stand there.
 fn all_fit_in(set: &Set, x: &Node) -> bool
-    ensures { IsTrue result → (i : ℕ) (r : Ref) → slice_get set.now.refs i ≡ Some r → FitsBelow (range_of x.now) (Some x.now) r }
+    ensures set { IsRefSet set.now }
+    ensures fits { IsTrue result → (i : ℕ) (r : Ref) → slice_get set.now.refs i ≡ Some r → FitsBelow (range_of x.now) (Some x.now) r }
 {
     let top = range_of(x);
     for i in 0..set.len() {
@@ -51,14 +53,28 @@ fn all_fit_in(set: &Set, x: &Node) -> bool
     true
 }
 
+// Whether a set has the room of a root's.
+fn has_root_room(set: &Set) -> bool
+    ensures { IsTrue result → set.now.capacity ≡ 4 }
+{
+    set.capacity() == ROOT_CAPACITY
+}
+
+// Whether an inode has the number.
+fn has_number(inode: &Inode, number: u64) -> bool
+    ensures { IsTrue result → inode.now.number ≡ number }
+{
+    inode.number == number
+}
+
 // Whether a node is the root of an inode that can be spelled, with references that may stand there.
 fn is_root_node(x: &Node, inode: &Inode, key: u64) -> bool
     ensures { IsTrue result → IsRootNode x.now inode.now key }
 {
-    if x.set.capacity() != ROOT_CAPACITY {
+    if !has_root_room(&x.set) {
         return false;
     }
-    if inode.number != key {
+    if !has_number(inode, key) {
         return false;
     }
     if !is_inode(inode) {

@@ -4,9 +4,11 @@ ghost use Rattle.h2_num.specs.Places.{places, ZeroIn};
 ghost use Rattle.h2_ref.specs.declared.reference.Kind.TheVariants.{Indirect};
 ghost use Rattle.h2_set.specs.SetBytes.{IsHeld};
 ghost use Rattle.h2_inode.specs.Limits.{limits_of, numbers, InSpan};
-ghost use Rattle.h2_inode.specs.Head.{IsNameOf};
+ghost use Rattle.h2_inode.specs.Head.{IsNameOf, body_of};
+ghost use Rattle.h2_inode.specs.declared.inode.Body.TheVariants.{Refs, Bytes};
 ghost use Rattle.h2_inode.specs.Inode.{keys_from, keys_end, IsLeafOf, IsPartOf, IsRootSet, BodyFits, IsInode};
 
+use crate::roots::ROOT_CAPACITY;
 use h2_dirkey::is_pfs_name;
 use h2_inode::{Body, Inode, InodeKind};
 use h2_num::first_nonzero;
@@ -121,22 +123,55 @@ fn is_root_set(kind: InodeKind, size: u64, set: &Set) -> bool
     true
 }
 
-// Whether its body may have these bytes at this size.
+// The number of the body that it has at the size: 0 for references, 1 for bytes.
+fn body_of(kind: InodeKind, size: u64) -> u8
+    ensures { result ≡ body_of kind size }
+{
+    match kind {
+        InodeKind::File if size <= EMBEDDED_BYTES => 1,
+        _ => 0,
+    }
+}
+
+// Whether a file whose bytes lie in its inode may have these at the size.
 fn bytes_fit(size: u64, bytes: &[u8; 512]) -> bool
     ensures small { IsTrue result → size ≤ 512 }
+    ensures len { length bytes.now ≡ 512 }
     ensures zeros { IsTrue result → ZeroIn size 512 (places bytes.now) }
 {
     size <= EMBEDDED_BYTES && first_nonzero(bytes, size as usize, 512).is_none()
+}
+
+// Whether its body may have these bytes.
+fn is_bytes_body(kind: InodeKind, size: u64, bytes: &[u8; 512]) -> bool
+    ensures { IsTrue result → BodyFits kind size (Bytes bytes.now) }
+{
+    if body_of(kind, size) != 1 {
+        return false;
+    }
+    bytes_fit(size, bytes)
+}
+
+// Whether its body may have this set.
+fn is_refs_body(kind: InodeKind, size: u64, set: &Set) -> bool
+    ensures { IsTrue result → BodyFits kind size (Refs set.now) }
+{
+    if body_of(kind, size) != 0 {
+        return false;
+    }
+    if set.capacity() != ROOT_CAPACITY {
+        return false;
+    }
+    is_root_set(kind, size, set)
 }
 
 // Whether it may have the body.
 fn body_fits(kind: InodeKind, size: u64, body: &Body) -> bool
     ensures { IsTrue result → BodyFits kind size body.now }
 {
-    let is_embedded = kind == InodeKind::File && size <= EMBEDDED_BYTES;
     match body {
-        Body::Refs(set) => !is_embedded && set.capacity() == 4 && is_root_set(kind, size, set),
-        Body::Bytes(bytes) => is_embedded && bytes_fit(size, bytes),
+        Body::Refs(set) => is_refs_body(kind, size, set),
+        Body::Bytes(bytes) => is_bytes_body(kind, size, bytes),
     }
 }
 
