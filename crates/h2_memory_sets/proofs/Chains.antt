@@ -16,15 +16,15 @@ or_right false b e = e
 -- as far as is looked
 trans_within : (xs : List Node) → AreLower xs → (n q t k t' k' : ℕ) → q < n → belongs_to xs q t k ≡ true → belongs_to xs t t' k' ≡ true → belongs_to xs q t' k' ≡ true
 trans_within xs low zero q t k t' k' lt a b = absurd (omega (arith, lt))
-trans_within xs low (suc n) q t k t' k' lt a b = go (owner_of (slice_get xs q)) refl
+trans_within xs low (suc n) q t k t' k' lt a b = go (owner_of (slice_get xs q)) refl (λ (r : ℕ) less above. trans_within xs low n r t k t' k' less above b)
   where
-    go : (o : Option Owner) → owner_of (slice_get xs q) ≡ o → belongs_to xs q t' k' ≡ true
-    go None e = let clash : true ≡ false = sym a ∙ belongs_none xs q t k e in absurd (cc)
-    go (Some o) e =
+    go : (o : Option Owner) → owner_of (slice_get xs q) ≡ o → ((r : ℕ) → r < n → belongs_to xs r t k ≡ true → belongs_to xs r t' k' ≡ true) → belongs_to xs q t' k' ≡ true
+    go None e ih = let clash : true ≡ false = sym a ∙ belongs_none xs q t k e in absurd (cc)
+    go (Some o) e ih =
         let less = low q o e in
-        let up : belongs_to xs o.root t' k' ≡ true = elim (or_parts _ _ (sym (belongs_step xs low q t k o e) ∙ a)) as (λ _. belongs_to xs o.root t' k' ≡ true) [
+        let up : belongs_to xs o.root t' k' ≡ true = elim (or_parts (is_owner t k o) (belongs_to xs o.root t k) (sym (belongs_step xs low q t k o e) ∙ a)) as (λ _. belongs_to xs o.root t' k' ≡ true) [
           | inl here ↦ ap (λ z. belongs_to xs z t' k') (owner_is t k o here).0 ∙ b
-          | inr above ↦ trans_within xs low n o.root t k t' k' (omega (arith, less, lt)) above b
+          | inr above ↦ ih o.root (omega (arith, less, lt)) above
         ] in
         belongs_step xs low q t' k' o e ∙ or_right (is_owner t' k' o) (belongs_to xs o.root t' k') up
 

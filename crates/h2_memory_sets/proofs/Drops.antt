@@ -16,7 +16,7 @@ use Rattle.h2_set.specs.Forest.{loaded, untold, Loses}
 use Rattle.h2_set.specs.ChangeLaws.{same_or_not}
 use Rattle.h2_memory_sets.specs.declared.node.Node.{Node}
 use Rattle.h2_memory_sets.specs.View.{stands_of, set_of, root_of, low_of, bits_of, writable_of, copies_of, leaf_bits_of, is_up, is_child, is_top, is_bare, names, link_to, link_of, forest_with, any_of, names_same, lacks, loses, goes, is_lost, goes_with, lost, dropped, dropped_all, AllRooted}
-use Rattle.h2_memory_sets.specs.Kept.{AreKept, IsRootOf}
+use Rattle.h2_memory_sets.specs.Kept.{is_known, AreKept, IsRootOf}
 use Rattle.h2_memory_sets.proofs.Nodes.{get_set, get_set_other}
 use Rattle.h2_memory_sets.proofs.Keeping.{CameFrom, IsPlain, kept_from}
 use Rattle.h2_memory_sets.proofs.Owned.{are_lower, chain_found}
@@ -119,14 +119,18 @@ module _ (xs : List Node) (at : ℕ) (x y : Node) (s : RefSet) (inode : Option I
       let miss : (goes x.root x.bits (let t = x.set in t.refs) s.refs z || goes_with xs x.root (let t = x.set in t.refs) s.refs z.root) ≡ false = sym (ap (goes_of xs x.root x.bits (let t = x.set in t.refs) s.refs) got) ∙ e in
       read_other m z ne got ∙ ap (λ b. Some (cond b (lost z) z)) miss
 
+  -- of another node that doesn't go
+  pub still_other : {X : Type 0} (F : Option Node → X) → (m : ℕ) → (m ≡ at → ⊥) → going m ≡ false → F (slice_get dropped_with m) ≡ F (slice_get xs m)
+  still_other F m ne e = elim (cases_lt m (length xs)) as (λ _. F (slice_get dropped_with m) ≡ F (slice_get xs m)) [
+    | inl lt ↦ let it = item_at xs m lt in ap F (stays_read m it.0 ne it.1 e) ∙ ap F (sym it.1)
+    | inr ge ↦ ap F (at_other m ne) ∙ ap F (slice_get_past ds m (let n : length ds ≡ length xs = length-map _ _ in omega (arith, n, ge))) ∙ ap F (sym (slice_get_past xs m ge))
+  ]
+
   -- of a node that doesn't go, but for its set and its inode at node at
   pub still_field : {X : Type 0} (F : Option Node → X) → F (Some (given y s inode)) ≡ F (Some y) → (m : ℕ) → going m ≡ false → F (slice_get dropped_with m) ≡ F (slice_get xs m)
   still_field F same_set m e = elim (same_or_not m at) as (λ _. F (slice_get dropped_with m) ≡ F (slice_get xs m)) [
     | inl here ↦ subst (λ z. F (slice_get dropped_with z) ≡ F (slice_get xs z)) (sym here) (ap F at_here ∙ same_set ∙ ap (λ (z : Node). F (Some z)) same ∙ ap F (sym read))
-    | inr ne ↦ elim (cases_lt m (length xs)) as (λ _. F (slice_get dropped_with m) ≡ F (slice_get xs m)) [
-      | inl lt ↦ let it = item_at xs m lt in ap F (stays_read m it.0 ne it.1 e) ∙ ap F (sym it.1)
-      | inr ge ↦ ap F (at_other m ne) ∙ ap F (slice_get_past ds m (let n : length ds ≡ length xs = length-map _ _ in omega (arith, n, ge))) ∙ ap F (sym (slice_get_past xs m ge))
-    ]
+    | inr ne ↦ still_other F m ne e
   ]
 
   pub stays : (m : ℕ) → going m ≡ false → stands_of (slice_get dropped_with m) ≡ stands_of (slice_get xs m)
@@ -204,7 +208,7 @@ module _ (xs : List Node) (at : ℕ) (x y : Node) (s : RefSet) (inode : Option I
       ap (λ z. is_top (slice_get dropped_with z)) root ∙ still_field is_top refl (root_of (slice_get xs i)) (stay i now) ∙ rooted i (none_new i now)
 
   -- what stands of the nodes of inodes still does
-  pub kept_drop : ((v : Inode) → inode ≡ Some v → IsRootOf at (given y s inode) v) → ((w : Inode) → x.inode ≡ Some w → (v : Inode) × (inode ≡ Some v)) → AreKept dropped_with
+  pub kept_drop : ((v : Inode) → inode ≡ Some v → IsRootOf at (given y s inode) v) → (is_known x.inode ≡ true → is_known inode ≡ true) → AreKept dropped_with
   kept_drop holds known = kept_from xs dropped_with kept from
     where
       long : length dropped_with ≡ length xs
@@ -220,7 +224,7 @@ module _ (xs : List Node) (at : ℕ) (x y : Node) (s : RefSet) (inode : Option I
         above = λ u up. let lt = kept.above at x u read (sym (ap (λ (v : Node). v.up) same) ∙ up) in omega (arith, long, lt);
         loaded = λ o own on. sym (ap (λ (u : Node). u.loaded) same) ∙ on;
         inode = holds;
-        known = λ o own on w e. known w e;
+        known = λ on e. known e;
       })
 
       stayed : (i : ℕ) (z a : Node) → slice_get xs i ≡ Some z → z ≡ a → CameFrom xs (length dropped_with) i a
@@ -233,7 +237,7 @@ module _ (xs : List Node) (at : ℕ) (x y : Node) (s : RefSet) (inode : Option I
         above = λ u up. let lt = kept.above i z u got up in omega (arith, long, lt);
         loaded = λ o own on. on;
         inode = λ v e. kept.inode i z v got e;
-        known = λ o own on w e. (w, e);
+        known = λ on e. e;
       })
 
       went : (i : ℕ) (z a : Node) → slice_get xs i ≡ Some z → lost z ≡ a → CameFrom xs (length dropped_with) i a
@@ -246,7 +250,7 @@ module _ (xs : List Node) (at : ℕ) (x y : Node) (s : RefSet) (inode : Option I
         above = λ u up. absurd (none-some u up);
         loaded = λ o own on. absurd (let clash : false ≡ true = on in cc);
         inode = λ v e. absurd (none-some v e);
-        known = λ o own on w e. absurd (let clash : false ≡ true = on in cc);
+        known = λ on e. absurd (let clash : false ≡ true = on in cc);
       })
 
       from : (i : ℕ) (a : Node) → slice_get dropped_with i ≡ Some a → CameFrom xs (length dropped_with) i a ⊎ IsPlain (length dropped_with) a

@@ -12,7 +12,7 @@ use Rattle.h2_inode.specs.Nodes.{set_of as set_of_body}
 use Rattle.h2_memory_sets.specs.declared.node.Leaves.{Leaves}
 use Rattle.h2_memory_sets.specs.declared.node.Node.{Node}
 use Rattle.h2_memory_sets.specs.declared.node.Owner.{Owner}
-use Rattle.h2_memory_sets.specs.Kept.{AreKept, IsNamedRoot, IsRootOf}
+use Rattle.h2_memory_sets.specs.Kept.{is_known, AreKept, IsNamedRoot, IsRootOf}
 use Rattle.h2_memory_sets.specs.Owners.{held_of, allowed_by, inode_allows, refit, refit_body, refit_inode}
 use Rattle.h2_memory_sets.specs.View.{stands_of, with_set}
 
@@ -45,7 +45,7 @@ pub record CameFrom (xs : List Node) (n i : ℕ) (y : Node) : Type 0 where
   pub loaded : (o : Owner) → y.owner ≡ Some o → y.loaded ≡ true → old.loaded ≡ true
   pub inode : (v : Inode) → y.inode ≡ Some v → IsRootOf i y v
   -- where it is loaded, it has an inode still
-  pub known : (o : Owner) → y.owner ≡ Some o → y.loaded ≡ true → (w : Inode) → old.inode ≡ Some w → (v : Inode) × (y.inode ≡ Some v)
+  pub known : y.loaded ≡ true → is_known old.inode ≡ true → is_known y.inode ≡ true
 
 -- a node that no leaf names, and that isn't the root of an inode
 pub record IsPlain (n : ℕ) (y : Node) : Type 0 where
@@ -61,7 +61,7 @@ kept_from xs ys kept from = record {
   ];
   owner = λ i y o read named. elim (from i y read) as (λ _. IsNamedRoot i y o) [
     | inr it ↦ absurd (none-some o (sym it.owner ∙ named))
-    | inl it ↦ let old = kept.owner i it.old o it.read (sym it.owner ∙ named) in record { lower = old.lower; root = it.root ∙ old.root; bare = it.bare old.bare; known = λ on. let w = old.known (it.loaded o named on) in it.known o named on w.0 w.1 }
+    | inl it ↦ let old = kept.owner i it.old o it.read (sym it.owner ∙ named) in record { lower = old.lower; root = it.root ∙ old.root; bare = it.bare old.bare; known = λ on. it.known on (old.known (it.loaded o named on)) }
   ];
   inode = λ i y v read holds. elim (from i y read) as (λ _. IsRootOf i y v) [
     | inr it ↦ absurd (none-some v (sym it.inode ∙ holds))
@@ -75,6 +75,10 @@ kept_from xs ys kept from = record {
     ]
   ];
 }
+
+pub refit_known : (o : Option Inode) (s : RefSet) → is_known (refit o s) ≡ is_known o
+refit_known None s = refl
+refit_known (Some i) s = refl
 
 -- the root of an inode, of which the set has changed
 pub refit_root : (i : ℕ) (x : Node) (s : RefSet) → ((w : Inode) → x.inode ≡ Some w → IsRootOf i x w) → ((w : Inode) (bytes : List ℕ) → x.inode ≡ Some w → w.body ≡ Bytes bytes → s ≡ record { refs = []; capacity = 4 }) → (v : Inode) → refit x.inode s ≡ Some v → IsRootOf i (with_set x s) v
@@ -136,7 +140,7 @@ kept_map h xs kept like = kept_from xs (map h xs) kept (λ i y read. inl (from i
           inode = λ v e.
               let it = kept.inode i x v got (sym l.inode ∙ e) in
               record { root = l.root ∙ it.root; bare = l.up ∙ it.bare; low = l.low ∙ it.low; bits = l.bits ∙ it.bits; leaf_bits = l.leaf_bits ∙ it.leaf_bits; set = l.set ∙ it.set; number = λ o own. it.number o (sym l.owner ∙ own) };
-          known = λ o own on w e. (w, l.inode ∙ e);
+          known = λ on e. ap is_known l.inode ∙ e;
         }
 
     from : (i : ℕ) (y : Node) → slice_get (map h xs) i ≡ Some y → CameFrom xs (length (map h xs)) i y

@@ -39,3 +39,4 @@ pub mod Altered
 pub mod Stored
 pub mod Parted
 pub mod Unsought
+pub mod Replacing

@@ -16,7 +16,7 @@ use Rattle.h2_memory_sets.specs.Kept.{AreKept}
 use Rattle.h2_memory_sets.specs.Owners.{owner_of, is_owner, belongs_to, held_of}
 use Rattle.h2_memory_sets.specs.View.{stands_of, set_of, root_of, low_of, bits_of, writable_of, copies_of, leaf_bits_of, is_child, names, link_to, forest_with, loses, goes, is_lost, goes_with, lost, AllRooted}
 use Rattle.h2_memory_sets.proofs.Chains.{belongs_trans}
-use Rattle.h2_memory_sets.proofs.Drops.{given, goes_of, dropped_with, going, at_here, other_field, field, still_field, there_of, read_other, gone, stays, none_new, first, link_other, loses_is, is_losing, rooted_drop}
+use Rattle.h2_memory_sets.proofs.Drops.{given, goes_of, dropped_with, going, at_here, other_field, field, still_field, still_other, there_of, read_other, gone, stays, none_new, first, link_other, loses_is, is_losing, rooted_drop}
 use Rattle.h2_memory_sets.proofs.Nesting.{few_bits}
 use Rattle.h2_memory_sets.proofs.Nodes.{KeepsRoots, KeepsNode, loose_of}
 use Rattle.h2_memory_sets.proofs.Owned.{are_lower, chain_found, owner_is}
@@ -87,7 +87,7 @@ module _ (xs : List Node) (at : ℕ) (x y : Node) (s : RefSet) (inode : Option I
   goes_is : (m : ℕ) → f.stands m ≡ true → goes_at m ≡ true → GoesBelow f m at s ⊎ GoesWith f m at s
   goes_is m st e =
       let it = there_of xs at x y s inode kept read same m e in
-      elim (or_parts _ _ it.2) as (λ _. GoesBelow f m at s ⊎ GoesWith f m at s) [
+      elim (or_parts (goes x.root x.bits (let t = x.set in t.refs) s.refs it.0) (goes_with xs x.root (let t = x.set in t.refs) s.refs (it.0).root) it.2) as (λ _. GoesBelow f m at s ⊎ GoesWith f m at s) [
         | inl below ↦ inl (is_below m it.0 it.1 below)
         | inr with' ↦ inr (is_with m it.0 st it.1 with')
       ]
@@ -134,7 +134,7 @@ module _ (xs : List Node) (at : ℕ) (x y : Node) (s : RefSet) (inode : Option I
     -- what is held doesn't go
     unheld : (m : ℕ) → goes_at m ≡ true → held_of (slice_get xs m) ≡ false
     unheld m e = elim (tested (held_of (slice_get xs m))) as (λ _. held_of (slice_get xs m) ≡ false) [
-      | inr no ↦ no
+      | inr free' ↦ free'
       | inl h ↦
           let it = sound.held m h in
           elim (goes_is m it.0 e) as (λ _. held_of (slice_get xs m) ≡ false) [
@@ -201,6 +201,7 @@ module _ (xs : List Node) (at : ℕ) (x y : Node) (s : RefSet) (inode : Option I
 
     -- the root of what stays stays
     pub root_stays : (m : ℕ) → g.stands m ≡ true → goes_at (f.root m) ≡ false
+    unfolding differs_by_store
     root_stays m now =
         let d = differs_by_store in
         let st = d.none_new m now in
@@ -209,6 +210,12 @@ module _ (xs : List Node) (at : ℕ) (x y : Node) (s : RefSet) (inode : Option I
     pub rooted_dropped : AllRooted xs → AllRooted (dropped_with xs at x y s inode kept read same)
     rooted_dropped rooted = rooted_drop xs at x y s inode kept read same rooted root_stays
 
+    -- of what stays, another node is the same
+    pub other_stays : {X : Type 0} (F : Option Node → X) → (m : ℕ) → (m ≡ at → ⊥) → g.stands m ≡ true → F (slice_get (dropped_with xs at x y s inode kept read same) m) ≡ F (slice_get xs m)
+    unfolding differs_by_store
+    other_stays F m ne now = still_other xs at x y s inode kept read same F m ne (now_stays f g at s differs_by_store sound stands m now)
+
     -- what reads the same of node at with its new set and inode reads the same of all that stays
     pub stays_field : {X : Type 0} (F : Option Node → X) → F (Some (given y s inode)) ≡ F (Some y) → (m : ℕ) → g.stands m ≡ true → F (slice_get (dropped_with xs at x y s inode kept read same) m) ≡ F (slice_get xs m)
+    unfolding differs_by_store
     stays_field F same_set m now = still_field xs at x y s inode kept read same F same_set m (now_stays f g at s differs_by_store sound stands m now)

@@ -9,11 +9,9 @@ use Rattle.h2_set.specs.ChangeLaws.{same_or_not}
 use Rattle.h2_inode.specs.declared.inode.Body.TheVariants.{Bytes}
 use Rattle.h2_inode.specs.declared.inode.Inode.{Inode}
 use Rattle.h2_memory_sets.specs.declared.node.Node.{Node}
-use Rattle.h2_memory_sets.specs.declared.node.Owner.{Owner}
-use Rattle.h2_memory_sets.specs.Kept.{AreKept, IsRootOf}
-use Rattle.h2_memory_sets.specs.Owners.{refit, refit_inode}
+use Rattle.h2_memory_sets.specs.Kept.{is_known, AreKept, IsRootOf}
 use Rattle.h2_memory_sets.specs.View.{moved, moved_up, new_node, parted, with_set}
-use Rattle.h2_memory_sets.proofs.Keeping.{CameFrom, IsPlain, kept_from, refit_root}
+use Rattle.h2_memory_sets.proofs.Keeping.{CameFrom, IsPlain, kept_from, refit_known, refit_root}
 use Rattle.h2_memory_sets.proofs.Parting.{at_new, at_here, at_other, past, item_at, one_of}
 
 -- what is above a node once some have moved was there, or is the new node
@@ -43,7 +41,7 @@ module _ (xs : List Node) (at : ℕ) (x : Node) (whole part : RefSet) (r : Ref) 
   within : at < length xs
   within = slice_get_within xs at x read
 
-  came : (i : ℕ) (z : Node) → slice_get xs i ≡ Some z → (y : Node) → ((v : Inode) → (let n : Node = moved at (length xs) r y in n.inode) ≡ Some v → IsRootOf i (moved at (length xs) r y) v) → y.owner ≡ z.owner → y.root ≡ z.root → y.up ≡ z.up → y.loaded ≡ z.loaded → ((o : Owner) → y.owner ≡ Some o → y.loaded ≡ true → (w : Inode) → z.inode ≡ Some w → (v : Inode) × (y.inode ≡ Some v)) → CameFrom xs (length (parted xs at x whole part r)) i (moved at (length xs) r y)
+  came : (i : ℕ) (z : Node) → slice_get xs i ≡ Some z → (y : Node) → ((v : Inode) → (let n : Node = moved at (length xs) r y in n.inode) ≡ Some v → IsRootOf i (moved at (length xs) r y) v) → y.owner ≡ z.owner → y.root ≡ z.root → y.up ≡ z.up → y.loaded ≡ z.loaded → (is_known z.inode ≡ true → is_known y.inode ≡ true) → CameFrom xs (length (parted xs at x whole part r)) i (moved at (length xs) r y)
   came i z got y holds owner root up loaded known = record {
     old = z;
     read = got;
@@ -56,7 +54,7 @@ module _ (xs : List Node) (at : ℕ) (x : Node) (whole part : RefSet) (r : Ref) 
     ];
     loaded = λ o own on. sym loaded ∙ on;
     inode = holds;
-    known = known;
+    known = λ on e. known e;
   }
 
   moved_root : (i : ℕ) (y : Node) (v : Inode) → IsRootOf i y v → IsRootOf i (moved at (length xs) r y) v
@@ -70,14 +68,14 @@ module _ (xs : List Node) (at : ℕ) (x : Node) (whole part : RefSet) (r : Ref) 
     | inr ne ↦ elim (same_or_not i at) as (λ _. CameFrom xs (length (parted xs at x whole part r)) i y ⊎ IsPlain (length (parted xs at x whole part r)) y) [
       | inl e ↦
           let is : moved at (length xs) r (with_set x whole) ≡ y = one_of (moved at (length xs) r (with_set x whole)) y (sym (at_here xs at x whole part r read) ∙ subst (λ z. slice_get (parted xs at x whole part r) z ≡ Some y) e got) in
-          inl (subst (λ z. CameFrom xs (length (parted xs at x whole part r)) z y) (sym e) (subst (CameFrom xs (length (parted xs at x whole part r)) at) is (came at x read (with_set x whole) (λ v holds. moved_root at (with_set x whole) v (refit_root at x whole (λ w h. kept.inode at x w read h) bare v holds)) refl refl refl refl (λ o own on w h. (refit_inode w whole, ap (λ n. refit n whole) h)))))
+          inl (subst (λ z. CameFrom xs (length (parted xs at x whole part r)) z y) (sym e) (subst (CameFrom xs (length (parted xs at x whole part r)) at) is (came at x read (with_set x whole) (λ v holds. moved_root at (with_set x whole) v (refit_root at x whole (λ w h. kept.inode at x w read h) bare v holds)) refl refl refl refl (λ e. refit_known x.inode whole ∙ e))))
       | inr off ↦ elim (cases_lt i (length xs)) as (λ _. CameFrom xs (length (parted xs at x whole part r)) i y ⊎ IsPlain (length (parted xs at x whole part r)) y) [
         | inr ge ↦ absurd (none-some y (sym (past xs at x whole part r read i ne ge) ∙ got))
         | inl lt ↦
             let it = item_at xs i lt in
             let z = it.0 in
             let is : moved at (length xs) r z ≡ y = one_of (moved at (length xs) r z) y (sym (at_other xs at x whole part r read i z off it.1) ∙ got) in
-            inl (subst (CameFrom xs (length (parted xs at x whole part r)) i) is (came i z it.1 z (λ v holds. moved_root i z v (kept.inode i z v it.1 holds)) refl refl refl refl (λ o own on w h. (w, h))))
+            inl (subst (CameFrom xs (length (parted xs at x whole part r)) i) is (came i z it.1 z (λ v holds. moved_root i z v (kept.inode i z v it.1 holds)) refl refl refl refl (λ e. e)))
       ]
     ]
   ]

@@ -18,17 +18,17 @@ use Rattle.h2_memory_sets.specs.declared.node.Leaves.{Leaves}
 use Rattle.h2_memory_sets.specs.declared.node.Leaves.TheVariants.{Any, Inodes}
 use Rattle.h2_memory_sets.specs.declared.node.Node.{Node}
 use Rattle.h2_memory_sets.specs.Kept.{AreKept, IsRootOf}
-use Rattle.h2_memory_sets.specs.Owners.{is_leaf_of, inode_allows, allowed_by, allows_of, beside_of, refit, refit_inode}
+use Rattle.h2_memory_sets.specs.Owners.{is_leaf_of, inode_allows, allowed_by, allows_of, beside_of, refit}
 use Rattle.h2_memory_sets.specs.View.{stands_of, set_of, root_of, with_set, forest_with, dropped, dropped_all, AllRooted}
 use Rattle.h2_memory_sets.proofs.Drops.{given, dropped_with, own_stays, kept_drop}
-use Rattle.h2_memory_sets.proofs.Keeping.{refit_allows, refit_twice, refit_root}
+use Rattle.h2_memory_sets.proofs.Keeping.{refit_allows, refit_twice, refit_known, refit_root}
 use Rattle.h2_memory_sets.proofs.Losing.{roots, differs_by_store, rooted_dropped, stays_field}
 use Rattle.h2_memory_sets.proofs.Nodes.{fixed_of}
 use Rattle.h2_memory_sets.proofs.Parting.{one_of, get_map}
 use Rattle.h2_memory_sets.proofs.Passing.{and_parts}
 use Rattle.h2_memory_sets.proofs.Reaching.{stores}
 use Rattle.h2_memory_sets.proofs.Settled.{KeepsRules, fits_in}
-use Rattle.h2_memory_sets.proofs.Storing.{Suits, at_now, now_stays, root_now}
+use Rattle.h2_memory_sets.proofs.Storing.{DiffersByStore, Suits, at_now, now_stays, root_now}
 
 -- a leaf that is reached is one that the tree may have
 pub allowed_leaf : (f : Forest) (key : ℕ) → IsSound f → {n : ℕ} {o : Option Ref} (leaf : Ref) → o ≡ Some leaf → f.stands n ≡ true → Reaches f key n o → f.allows (f.root n) leaf ≡ true
@@ -100,7 +100,8 @@ module _ (xs : List Node) (at : ℕ) (x : Node) (s : RefSet) (kept : AreKept xs)
   abbrev g : Forest
   g = forest_with (dropped_with xs at x x s (refit x.inode s) kept read refl) spare epoch room failed bad met
 
-  abbrev d = differs_by_store xs at x x s (refit x.inode s) kept read refl spare epoch room failed bad met sound stands storable.free
+  d : DiffersByStore f g at s
+  d = differs_by_store xs at x x s (refit x.inode s) kept read refl spare epoch room failed bad met sound stands storable.free
 
   allows_same : (m : ℕ) (r : Ref) → g.stands m ≡ true → g.allows m r ≡ f.allows m r
   allows_same m r now = stays_field xs at x x s (refit x.inode s) kept read refl spare epoch room failed bad met sound stands storable.free (λ o. allows_of o r) (refit_allows x.inode s x.leaves r) m now
@@ -162,14 +163,14 @@ module _ (xs : List Node) (at : ℕ) (x : Node) (s : RefSet) (kept : AreKept xs)
   is_stored rooted = record {
     stores = stores f g at s d sound stands suits fixed;
     rooted = rooted_dropped xs at x x s (refit x.inode s) kept read refl spare epoch room failed bad met sound stands storable.free rooted;
-    kept = kept_drop xs at x x s (refit x.inode s) kept read refl (refit_root at x s (λ w e. kept.inode at x w read e) bare) (λ w e. (refit_inode w s, ap (λ n. refit n s) e));
+    kept = kept_drop xs at x x s (refit x.inode s) kept read refl (refit_root at x s (λ w e. kept.inode at x w read e) bare) (λ e. refit_known x.inode s ∙ e);
     beside = record { same = λ m st now. stays_field xs at x x s (refit x.inode s) kept read refl spare epoch room failed bad met sound stands storable.free beside_of (refit_twice x.inode s (record { refs = []; capacity = 4 })) m now };
   }
 
 -- the nodes that were written, where y is the node that was read once the others were dropped
-pub stored : (xs items : List Node) (at : ℕ) (x y : Node) (s : RefSet) (old : List Ref) (spare epoch room failed bad : ℕ) (met : Option (ℕ × Why)) → IsSound (forest_with xs spare epoch room failed bad met) → stands_of (slice_get xs at) ≡ true → Storable (forest_with xs spare epoch room failed bad met) at s → AllRooted xs → (kept : AreKept xs) → items ≡ dropped_all x.root x.bits old s.refs xs → old ≡ (let t = x.set in t.refs) → slice_get xs at ≡ Some x → slice_get items at ≡ Some y → IsStored xs (slice_set items at (with_set y s)) (forest_with xs spare epoch room failed bad met) (forest_with (slice_set items at (with_set y s)) spare epoch room failed bad met) at s
-stored xs items at x y s old spare epoch room failed bad met sound stands storable rooted kept items_is old_is read read_y =
+pub stored : (xs items : List Node) (at : ℕ) (x y : Node) (s : RefSet) (old : List Ref) (spare epoch room failed bad : ℕ) (met : Option (ℕ × Why)) → IsSound (forest_with xs spare epoch room failed bad met) → stands_of (slice_get xs at) ≡ true → Storable (forest_with xs spare epoch room failed bad met) at s → AllRooted xs → (kept : AreKept xs) → items ≡ dropped_all x.root x.bits old s.refs xs → old ≡ (let t = x.set in t.refs) → slice_get xs at ≡ Some x → slice_get items at ≡ Some y → (z : Node) → z ≡ with_set y s → IsStored xs (slice_set items at z) (forest_with xs spare epoch room failed bad met) (forest_with (slice_set items at z) spare epoch room failed bad met) at s
+stored xs items at x y s old spare epoch room failed bad met sound stands storable rooted kept items_is old_is read read_y z z_is =
     let all_is : items ≡ dropped_all x.root x.bits (let t = x.set in t.refs) s.refs xs = items_is ∙ ap (λ (o : List Ref). dropped_all x.root x.bits o s.refs xs) old_is in
     let same : y ≡ x = one_of y x (sym read_y ∙ ap (λ (l : List Node). slice_get l at) all_is ∙ get_map (dropped xs x.root x.bits (let t = x.set in t.refs) s.refs) xs at x read ∙ ap Some (own_stays xs at x s kept read)) in
-    let is : slice_set items at (with_set y s) ≡ dropped_with xs at x x s (refit x.inode s) kept read refl = ap (λ (l : List Node). slice_set l at (with_set y s)) all_is ∙ ap (λ (n : Node). slice_set (dropped_all x.root x.bits (let t = x.set in t.refs) s.refs xs) at (with_set n s)) same in
+    let is : slice_set items at z ≡ dropped_with xs at x x s (refit x.inode s) kept read refl = ap (slice_set items at) z_is ∙ ap (λ (l : List Node). slice_set l at (with_set y s)) all_is ∙ ap (λ (n : Node). slice_set (dropped_all x.root x.bits (let t = x.set in t.refs) s.refs xs) at (with_set n s)) same in
     subst (λ (zs : List Node). IsStored xs zs (forest_with xs spare epoch room failed bad met) (forest_with zs spare epoch room failed bad met) at s) (sym is) (is_stored xs at x s kept read spare epoch room failed bad met sound stands storable rooted)

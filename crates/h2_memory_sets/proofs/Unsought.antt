@@ -32,7 +32,7 @@ or_left a b e = rw e refl
 
 -- a tree that a leaf names belongs to it
 belongs_owner : (xs : List Node) → AreKept xs → (c : ℕ) (o : Owner) → owner_of (slice_get xs c) ≡ Some o → belongs_to xs c o.root o.key ≡ true
-belongs_owner xs kept c o e = belongs_step xs (are_lower xs kept) c o.root o.key o e ∙ or_left _ _ (rw (same_eq o.root, same_eq o.key) refl)
+belongs_owner xs kept c o e = belongs_step xs (are_lower xs kept) c o.root o.key o e ∙ or_left (is_owner o.root o.key o) (belongs_to xs o.root o.root o.key) (rw (same_eq o.root, same_eq o.key) refl)
 
 -- where a loaded root has an owner, some node belongs to a leaf
 named_belongs : (xs : List Node) (c : ℕ) (spare epoch room failed bad : ℕ) (met : Option (ℕ × Why)) → position is_named xs ≡ Some c → AreKept xs → NoneBelongs (forest_with xs spare epoch room failed bad met) → ⊥
@@ -241,7 +241,7 @@ module _ (xs : List Node) (spare epoch room failed bad : ℕ) (met : Option (ℕ
   unloads_inodes = record {
     sound = still;
     fixed = fixed_of xs ys spare spare epoch room room failed failed bad bad met met roots (λ m r st now. field (λ o. allows_of o r) (λ x. refl) m) (omega arith) (omega arith);
-    stays = λ m st bare. same m st (is_still m st (unnamed (owner_of (slice_get xs (f.root m))) refl bare));
+    stays = λ m st bare. same m st (is_still m st (unnamed m (owner_of (slice_get xs (f.root m))) refl bare));
     goes = λ m t k b. gone m t k b (stands_of (slice_get ys m)) refl;
     none_new = stood;
     spare = refl;
@@ -251,9 +251,9 @@ module _ (xs : List Node) (spare epoch room failed bad : ℕ) (met : Option (ℕ
     met = refl;
   }
     where
-      unnamed : {m : ℕ} (w : Option Owner) → owner_of (slice_get xs (root_of (slice_get xs m))) ≡ w → ((t k : ℕ) → f.belongs m t k ≡ false) → owner_of (slice_get xs (root_of (slice_get xs m))) ≡ None
-      unnamed None e bare = e
-      unnamed {m} (Some o) e bare = let clash : true ≡ false = sym (belongs_owner xs kept (root_of (slice_get xs m)) o e) ∙ bare o.root o.key in absurd (cc)
+      unnamed : (m : ℕ) (w : Option Owner) → owner_of (slice_get xs (root_of (slice_get xs m))) ≡ w → ((t k : ℕ) → f.belongs m t k ≡ false) → owner_of (slice_get xs (root_of (slice_get xs m))) ≡ None
+      unnamed m None e bare = e
+      unnamed m (Some o) e bare = let clash : true ≡ false = sym (belongs_owner xs kept (root_of (slice_get xs m)) o e) ∙ bare o.root o.key in absurd (cc)
 
       gone : (m t k : ℕ) → f.belongs m t k ≡ true → (b : Bool) → stands_of (slice_get ys m) ≡ b → stands_of (slice_get ys m) ≡ false
       gone m t k bel false e = e

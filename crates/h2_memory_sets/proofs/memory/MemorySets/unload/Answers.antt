@@ -1,5 +1,7 @@
 use Rattle.std.proofs.Common.{List, map, refl, slice_get, sym, ap, ◌∙◌, subst}
 use Rattle.h2_memory_sets.specs.declared.node.Node.{Node}
+use Rattle.std.specs.List.{position}
+use Rattle.h2_memory_sets.specs.Inodes.{is_named}
 use Rattle.h2_memory_sets.specs.Kept.{AreKept}
 use Rattle.h2_memory_sets.specs.Owners.{beside_of}
 use Rattle.h2_memory_sets.specs.View.{AllRooted, block, forest_with, unloaded}
@@ -17,7 +19,7 @@ invariant_of-self-clause-rooted c =
 pub returns-clause-unloads : goal.returns-clause-unloads
 returns-clause-unloads c =
     let p = c.args.self.now in
-    subst (λ (ys : List Node). Unloads (forest_with p.nodes.items p.spare p.epoch p.room p.failed p.bad p.met) (forest_with ys p.spare p.epoch p.room p.failed p.bad p.met) c.args.from) (sym (rewritten p.nodes.items c.deref_mut.result.now c.unload_all.new.nodes p.nodes.len c.args.from (sym (c.unload_all.auto.nodes ∙ c.deref_mut.ensures.len)) c.deref_mut.ensures.value c.unload_all.ensures)) (unloads p.nodes.items c.args.from p.spare p.epoch p.room p.failed p.bad p.met (sym c.find_named.ensures ∙ c.in-None.is) p.rooted c.requires.sound)
+    subst (λ (ys : List Node). Unloads (forest_with p.nodes.items p.spare p.epoch p.room p.failed p.bad p.met) (forest_with ys p.spare p.epoch p.room p.failed p.bad p.met) c.args.from) (sym (rewritten p.nodes.items c.deref_mut.result.now c.unload_all.new.nodes p.nodes.len c.args.from (sym (c.unload_all.auto.nodes ∙ c.deref_mut.ensures.len)) c.deref_mut.ensures.value c.unload_all.ensures)) (unloads p.nodes.items c.args.from p.spare p.epoch p.room p.failed p.bad p.met (ap (position is_named) (sym c.deref.ensures.value) ∙ sym c.find_named.ensures ∙ c.in-None.is) p.rooted c.requires.sound)
 
 pub returns-clause-blocks : goal.returns-clause-blocks
 returns-clause-blocks c =
@@ -37,4 +39,4 @@ returns-clause-beside c =
 pub returns-in_default-clause-unloads : goal.returns-in_default-clause-unloads
 returns-in_default-clause-unloads c =
     let p = c.args.self.now in
-    stays_named p.nodes.items c.args.from p.spare p.epoch p.room p.failed p.bad p.met _ (sym c.find_named.ensures ∙ c.in_default.is) p.kept c.requires.sound
+    stays_named p.nodes.items c.args.from p.spare p.epoch p.room p.failed p.bad p.met _ (ap (position is_named) (sym c.deref.ensures.value) ∙ sym c.find_named.ensures ∙ c.in_default.is) p.kept c.requires.sound

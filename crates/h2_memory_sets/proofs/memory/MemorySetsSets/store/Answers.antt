@@ -15,7 +15,7 @@ returns-clause-stores c =
     let read = slice_get_read xs _ c.args.at.0 x refl there c.index-x.ensures in
     let items_is = dropped_written xs c.deref_mut.result.now c.drop_all.new.nodes p.nodes.len x.root x.bits c.copy-old.result.refs (let t : RefSet = c.args.set in t.refs) (sym (c.drop_all.auto.nodes ∙ c.deref_mut.ensures.len)) c.deref_mut.ensures.value c.drop_all.ensures in
     let read_y = slice_get_read _ _ c.args.at.0 c.index_mut.result.now refl (dropped_length xs x.root x.bits c.copy-old.result.refs (let t : RefSet = c.args.set in t.refs) _ c.args.at.0 items_is there) c.index_mut.ensures.value in
-    (stored xs _ c.args.at.0 x c.index_mut.result.now c.args.set c.copy-old.result.refs p.spare p.epoch p.room p.failed p.bad p.met c.requires.sound c.requires.stands c.requires.storable p.rooted p.kept items_is (ap (λ (t : RefSet). t.refs) c.copy-old.ensures.same) read read_y).stores
+    (stored xs _ c.args.at.0 x c.index_mut.result.now c.args.set c.copy-old.result.refs p.spare p.epoch p.room p.failed p.bad p.met c.requires.sound c.requires.stands c.requires.storable p.rooted p.kept items_is (ap (λ (t : RefSet). t.refs) c.copy-old.ensures.same) read read_y c.give_set.new.x c.give_set.ensures).stores
 
 pub invariant_of-self-clause-rooted : goal.invariant_of-self-clause-rooted
 invariant_of-self-clause-rooted c =
@@ -26,7 +26,7 @@ invariant_of-self-clause-rooted c =
     let read = slice_get_read xs _ c.args.at.0 x refl there c.index-x.ensures in
     let items_is = dropped_written xs c.deref_mut.result.now c.drop_all.new.nodes p.nodes.len x.root x.bits c.copy-old.result.refs (let t : RefSet = c.args.set in t.refs) (sym (c.drop_all.auto.nodes ∙ c.deref_mut.ensures.len)) c.deref_mut.ensures.value c.drop_all.ensures in
     let read_y = slice_get_read _ _ c.args.at.0 c.index_mut.result.now refl (dropped_length xs x.root x.bits c.copy-old.result.refs (let t : RefSet = c.args.set in t.refs) _ c.args.at.0 items_is there) c.index_mut.ensures.value in
-    (stored xs _ c.args.at.0 x c.index_mut.result.now c.args.set c.copy-old.result.refs p.spare p.epoch p.room p.failed p.bad p.met c.requires.sound c.requires.stands c.requires.storable p.rooted p.kept items_is (ap (λ (t : RefSet). t.refs) c.copy-old.ensures.same) read read_y).rooted
+    (stored xs _ c.args.at.0 x c.index_mut.result.now c.args.set c.copy-old.result.refs p.spare p.epoch p.room p.failed p.bad p.met c.requires.sound c.requires.stands c.requires.storable p.rooted p.kept items_is (ap (λ (t : RefSet). t.refs) c.copy-old.ensures.same) read read_y c.give_set.new.x c.give_set.ensures).rooted
 
 pub invariant_of-self-clause-kept : goal.invariant_of-self-clause-kept
 invariant_of-self-clause-kept c =
@@ -37,7 +37,7 @@ invariant_of-self-clause-kept c =
     let read = slice_get_read xs _ c.args.at.0 x refl there c.index-x.ensures in
     let items_is = dropped_written xs c.deref_mut.result.now c.drop_all.new.nodes p.nodes.len x.root x.bits c.copy-old.result.refs (let t : RefSet = c.args.set in t.refs) (sym (c.drop_all.auto.nodes ∙ c.deref_mut.ensures.len)) c.deref_mut.ensures.value c.drop_all.ensures in
     let read_y = slice_get_read _ _ c.args.at.0 c.index_mut.result.now refl (dropped_length xs x.root x.bits c.copy-old.result.refs (let t : RefSet = c.args.set in t.refs) _ c.args.at.0 items_is there) c.index_mut.ensures.value in
-    (stored xs _ c.args.at.0 x c.index_mut.result.now c.args.set c.copy-old.result.refs p.spare p.epoch p.room p.failed p.bad p.met c.requires.sound c.requires.stands c.requires.storable p.rooted p.kept items_is (ap (λ (t : RefSet). t.refs) c.copy-old.ensures.same) read read_y).kept
+    (stored xs _ c.args.at.0 x c.index_mut.result.now c.args.set c.copy-old.result.refs p.spare p.epoch p.room p.failed p.bad p.met c.requires.sound c.requires.stands c.requires.storable p.rooted p.kept items_is (ap (λ (t : RefSet). t.refs) c.copy-old.ensures.same) read read_y c.give_set.new.x c.give_set.ensures).kept
 
 pub returns-clause-beside : goal.returns-clause-beside
 returns-clause-beside c =
@@ -48,4 +48,4 @@ returns-clause-beside c =
     let read = slice_get_read xs _ c.args.at.0 x refl there c.index-x.ensures in
     let items_is = dropped_written xs c.deref_mut.result.now c.drop_all.new.nodes p.nodes.len x.root x.bits c.copy-old.result.refs (let t : RefSet = c.args.set in t.refs) (sym (c.drop_all.auto.nodes ∙ c.deref_mut.ensures.len)) c.deref_mut.ensures.value c.drop_all.ensures in
     let read_y = slice_get_read _ _ c.args.at.0 c.index_mut.result.now refl (dropped_length xs x.root x.bits c.copy-old.result.refs (let t : RefSet = c.args.set in t.refs) _ c.args.at.0 items_is there) c.index_mut.ensures.value in
-    (stored xs _ c.args.at.0 x c.index_mut.result.now c.args.set c.copy-old.result.refs p.spare p.epoch p.room p.failed p.bad p.met c.requires.sound c.requires.stands c.requires.storable p.rooted p.kept items_is (ap (λ (t : RefSet). t.refs) c.copy-old.ensures.same) read read_y).beside
+    (stored xs _ c.args.at.0 x c.index_mut.result.now c.args.set c.copy-old.result.refs p.spare p.epoch p.room p.failed p.bad p.met c.requires.sound c.requires.stands c.requires.storable p.rooted p.kept items_is (ap (λ (t : RefSet). t.refs) c.copy-old.ensures.same) read read_y c.give_set.new.x c.give_set.ensures).beside
