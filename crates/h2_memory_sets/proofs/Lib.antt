@@ -40,3 +40,4 @@ pub mod Stored
 pub mod Parted
 pub mod Unsought
 pub mod Replacing
+pub mod Brought
