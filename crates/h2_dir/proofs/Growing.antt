@@ -52,8 +52,8 @@ same_but_set fields f g old new at i place fixed beside has is = record {
   tree = record {
     low = place.low ∙ is.tree.low;
     bits = place.bits ∙ is.tree.bits;
-    leaf_bits = fixed.leaf_bits at ∙ is.tree.leaf_bits;
-    allows = λ r. subst (λ x. (x ≡ true) ↔ MayHave i.kind (Refs (g.set at)) r) (sym (fixed.allows at r)) (subst (λ (b : Body). (f.allows at r ≡ true) ↔ MayHave i.kind b r) has.body_is (is.tree.allows r));
+    leaf_bits = fixed.leaf_bits at is.stands place.stands ∙ is.tree.leaf_bits;
+    allows = λ r. subst (λ x. (x ≡ true) ↔ MayHave i.kind (Refs (g.set at)) r) (sym (fixed.allows at r is.stands place.stands)) (subst (λ (b : Body). (f.allows at r ≡ true) ↔ MayHave i.kind b r) has.body_is (is.tree.allows r));
   };
   fields = ap fields (beside.same at is.stands place.stands) ∙ is.fields ∙ ap Some (λ k. record { kind = i.kind; number = i.number; size = i.size; links = i.links; next = i.next; name = i.name; bytes = ap bytes_of has.body_is k });
   set = refl;
@@ -113,7 +113,7 @@ not_lacking f g root key leaf sound stands path is lacks = lacks.other leaf (rea
 
 -- The root is writable then
 
-descends_root : {f : Forest} {key at n : ℕ} → IsSound f → f.stands at ≡ true → Descends f key at n → f.root n ≡ f.root at
+pub descends_root : {f : Forest} {key at n : ℕ} → IsSound f → f.stands at ≡ true → Descends f key at n → f.root n ≡ f.root at
 descends_root sound stands arrived = refl
 descends_root {f} sound stands (onward {at = at} {r = r} i read in_r ind link rest) =
     let child = (sound.node at stands).child r.key _ link in

@@ -9,8 +9,12 @@ pub mod Spotting
 pub mod Leaf
 pub mod Resized
 pub mod Growing
+pub mod Renewed
+pub mod Others
 pub mod Areas
 pub mod Walked
 pub mod Listed
 pub mod Ordered
 pub mod Told
+pub mod Entered
+pub mod Entries

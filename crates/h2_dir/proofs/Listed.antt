@@ -42,6 +42,6 @@ pub entry_leaves : (f : Forest) (holds : ℕ → Option Fields) (dir from to : �
 entry_leaves f holds dir from to i l sound is kind lists k d lt =
     let leaf = get_or l k d in
     let path = (lists.each k leaf (slice_get-get_or l k d lt)).1 in
-    let valid = leaf_valid sound is.stands path in
+    let valid = leaf_valid sound is path in
     let of = of_entry leaf valid (entry_kind f holds dir i leaf.key leaf sound is kind path) in
     record { valid = valid; entry = of.entry; entry_is = of.entry_is }

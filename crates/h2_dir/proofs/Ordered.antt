@@ -15,22 +15,22 @@ use Rattle.h2_inode.specs.ListLaws.{all_beside}
 use Rattle.h2_dir.specs.Listing.{by_name}
 use Rattle.h2_dir.proofs.Held.{held_in, held_by, exact_names, names_total}
 
-abbrev Name : Type 0
+abbrev pub Name : Type 0
 Name = List ℕ
 
-abbrev Pair : Type 0
+abbrev pub Pair : Type 0
 Pair = List ℕ × ℕ
 
-abbrev order : Name → Name → Ordering
+abbrev pub order : Name → Name → Ordering
 order = slice_cmp nat_cmp
 
 abbrev alike : Pair → Pair → Bool
 alike x y = eq_by_cmp order x.0 y.0
 
-abbrev Differ : List Pair → Type 0
+abbrev pub Differ : List Pair → Type 0
 Differ = AllPairs (λ (x y : Pair). x.0 ≢ y.0)
 
-equal_is : (r : Ordering) → is_eq r ≡ true → r ≡ Equal
+pub equal_is : (r : Ordering) → is_eq r ≡ true → r ≡ Equal
 equal_is Less e = absurd (cc)
 equal_is Equal e = refl
 equal_is Greater e = absurd (cc)
@@ -46,19 +46,19 @@ alike_of_same : (x y : Pair) → x.0 ≡ y.0 → alike x y ≡ true
 alike_of_same x y e = subst (λ n. eq_by_cmp order x.0 n ≡ true) e ((eq_by_cmp_equiv names_total).refl x.0)
 
 -- names that differ do so in any order
-differ_still : (xs ys : List Pair) → IsPermutation xs ys → Differ xs → Differ ys
+pub differ_still : (xs ys : List Pair) → IsPermutation xs ys → Differ xs → Differ ys
 differ_still xs ys p differ =
     let before : IsDistinct alike xs = IsDistinct-from_apart alike xs (λ i j d lt len. not_alike _ (λ e. differ i j d lt len (same_of_alike (get_or xs i d) (get_or xs j d) e))) in
     let after = IsDistinct-IsPermutation alike (λ x y. (eq_by_cmp_equiv names_total).symm x.0 y.0) xs ys p before in
     λ i j d lt len e. let clash : true ≡ false = sym (alike_of_same (get_or ys i d) (get_or ys j d) e) ∙ apart_from_distinct alike ys i j d after lt len in absurd (cc)
 
 -- the member with the key is what the map has
-member_of : (xs : List Pair) (q : Name) (v : ℕ) → get (from_entries {R = order} xs) q ≡ Some v → Contains xs (q, v)
+pub member_of : (xs : List Pair) (q : Name) (v : ℕ) → get (from_entries {R = order} xs) q ≡ Some v → Contains xs (q, v)
 member_of xs q v e =
     let g = held_by names_total exact_names (λ (x y : Pair). x ≡ y) xs xs (all_beside (λ (x y : Pair). x ≡ y) xs (λ x h. refl)) q v e in
     subst (λ (x : Pair). Contains xs x) g.2 g.1
 
-has_member : (xs : List Pair) → Differ xs → (q : Name) (v : ℕ) → Contains xs (q, v) → get (from_entries {R = order} xs) q ≡ Some v
+pub has_member : (xs : List Pair) → Differ xs → (q : Name) (v : ℕ) → Contains xs (q, v) → get (from_entries {R = order} xs) q ≡ Some v
 has_member xs differ q v at =
     let g = held_in names_total exact_names (λ (x y : Pair). x ≡ y) xs xs (all_beside (λ (x y : Pair). x ≡ y) xs (λ x h. refl)) differ (q, v) at in
     subst (λ (x : Pair). get (from_entries {R = order} xs) x.0 ≡ Some x.1) (sym g.1) g.2
@@ -68,7 +68,7 @@ agrees xs ys p dx dy q None None e h = refl
 agrees xs ys p dx dy q None (Some v) e h = sym e ∙ has_member xs dx q v (Contains-permutation ys xs (q, v) (IsPermutation-sym xs ys p) (member_of ys q v h))
 agrees xs ys p dx dy q (Some v) u e h = sym (has_member ys dy q v (Contains-permutation xs ys (q, v) p (member_of xs q v e))) ∙ h
 
-same_of : (xs ys : List Pair) → IsPermutation xs ys → Differ xs → Differ ys → from_entries {R = order} xs ≡ from_entries ys
+pub same_of : (xs ys : List Pair) → IsPermutation xs ys → Differ xs → Differ ys → from_entries {R = order} xs ≡ from_entries ys
 same_of xs ys p dx dy = same_map names_total exact_names _ _ (λ q. agrees xs ys p dx dy q _ _ refl refl)
 
 -- Strictly rising names

@@ -1,10 +1,12 @@
 -- A root whose inode gets another size, with the same set: the tree is as before.
-use Rattle.std.specs.Prelude.{◌≡◌, ◌<◌, ◌≤◌, ℕ, ◌+◌, ◌^◌, true, Option, Some, None, slice_get, refl}
-use Rattle.std.proofs.Common.{ap, sym, ◌∙◌, arith, subst}
+use Rattle.std.specs.Prelude.{◌≡◌, ◌<◌, ◌≤◌, ℕ, ◌+◌, ◌^◌, true, false, Option, Some, None, slice_get, refl}
+use Rattle.std.proofs.Common.{ap, sym, ◌∙◌, arith, subst, inl, inr}
+use Rattle.std.proofs.lemmas.Bool.{cases_Bool}
 use Rattle.std.proofs.lemmas.Option.{none-some, same_Some}
 use Rattle.h2_ref.specs.declared.reference.Ref.{Ref}
 use Rattle.h2_set.specs.Ranges.{is_indirect, Rising}
 use Rattle.h2_set.specs.RefSet.{RefSet}
+use Rattle.h2_set.specs.SetBytes.{IsHeld}
 use Rattle.h2_set.specs.Forest.{Forest, loaded, refs, IsSound, Fits, Loses, Same, Stays, Alike, KeepsLeaves, Reaches, nowhere, here, below}
 use Rattle.h2_set.specs.StayLaws.{Alike-refl, leaves_stay, Same-Stays}
 use Rattle.h2_set.specs.ChangeLaws.{leaves_move}
@@ -70,21 +72,24 @@ module _ (f g : Forest) (at : ℕ) (sound : IsSound f) (stands : f.stands at ≡
 
 -- A root's own set may be stored again
 
-fits_kind : (kind : InodeKind) (body : Body) (r : Ref) → MayHave kind body r → r.kind ≡ leaf_kind kind
+fits_kind : (kind : InodeKind) (body : Body) (r : Ref) → MayHave kind body r → (r.kind ≡ leaf_kind kind) × IsHeld r
 fits_kind kind (Refs s) r may = may
 fits_kind kind (Bytes b) r may = absurd may
 
 fits_again : (f : Forest) (holds : ℕ → Option Fields) (at : ℕ) (i : Inode) (r : Ref) → HasInode f holds at i → Fits f at r → FitsIn i.kind r
 fits_again f holds at i r is fits = record {
-  held = fits.held;
+  held = elim (cases_Bool (is_indirect r)) as (λ _. IsHeld r) [ inl ind ↦ fits.held ind | inr leaf ↦ (may leaf).1 ];
   aligned = fits.aligned;
   class = fits.class;
   leaf = λ e. fits.leaf e ∙ ap f.leaf_bits is.root ∙ is.tree.leaf_bits;
-  allowed = λ e. fits_kind i.kind i.body r ((is.tree.allows r).0 (subst (λ m. f.allows m r ≡ true) is.root (fits.allowed e)));
+  allowed = λ e. (may e).0;
   wide = λ e. subst (λ n. n ≤ r.keybits) (ap f.leaf_bits is.root ∙ is.tree.leaf_bits) (fits.wide e);
   some_bits = fits.some_bits;
   falls = λ e. subst (λ n. r.keybits < n) is.tree.bits (fits.falls e);
 }
+  where
+    may : is_indirect r ≡ false → (r.kind ≡ leaf_kind i.kind) × IsHeld r
+    may e = fits_kind i.kind i.body r ((is.tree.allows r).0 (subst (λ m. f.allows m r ≡ true) is.root (fits.allowed e)))
 
 pub own_set : (f : Forest) (holds : ℕ → Option Fields) (at : ℕ) (i : Inode) → IsSound f → HasInode f holds at i → Replaceable f at i.kind (f.set at)
 own_set f holds at i sound is =

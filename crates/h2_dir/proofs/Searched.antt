@@ -1,19 +1,21 @@
 -- What a search among the leaves under a name's keys tells of the directory.
-use Rattle.std.specs.Prelude.{◌≡◌, ◌<◌, ◌≤◌, ◌⊎◌, ℕ, ◌+◌, ◌/◌, ◌^◌, true, List, Option, Some, None, slice_get}
-use Rattle.std.proofs.Common.{sym, arith, inl, inr, subst}
+use Rattle.std.specs.Prelude.{◌≡◌, ◌<◌, ◌≤◌, ◌⊎◌, ℕ, ◌+◌, ◌/◌, ◌^◌, true, false, List, Option, Some, None, slice_get}
+use Rattle.std.proofs.Common.{sym, ◌∙◌, arith, inl, inr, subst}
 use Rattle.std.proofs.lemmas.Bool.Decides.{nat_tests}
+use Rattle.h2_ref.specs.declared.faults.Trouble.{Trouble}
+use Rattle.h2_ref.specs.declared.faults.Trouble.TheVariants.{NoMemory}
 use Rattle.h2_ref.specs.declared.reference.Dirent.{Dirent}
 use Rattle.h2_ref.specs.declared.reference.Ref.{Ref}
 use Rattle.h2_set.specs.Forest.{Forest, Reaches, Unchanged}
-use Rattle.h2_tree.specs.Changes.{is_between, LoadsTouched, Lists}
+use Rattle.h2_tree.specs.Changes.{is_between, LoadsTouched, LoadsIn, Lists}
 use Rattle.h2_dirkey.specs.Name.{IsName}
 use Rattle.h2_dirkey.specs.Key.{upper_bits, least_key}
-use Rattle.h2_dir.specs.Names.{NoneNamed, IsPlaceOfName, Scanned}
-use Rattle.h2_dir.specs.Finding.{last_key, IsFound, IsMissing}
+use Rattle.h2_dir.specs.Names.{AnyLongCandidate, NoneNamed, IsPlaceOfName, Scanned}
+use Rattle.h2_dir.specs.Finding.{last_key, IsFound, IsMissing, MayLoad}
 use Rattle.h2_dir.proofs.Unchanging.{named_stays, may_stays}
 use Rattle.h2_dir.proofs.Agreeing.{key_between}
 
-pub touched_same : (f g h : Forest) (from to : ℕ) → LoadsTouched f g from to → Unchanged g h → LoadsTouched f h from to
+touched_same : (f g h : Forest) (from to : ℕ) → LoadsTouched f g from to → Unchanged g h → LoadsTouched f h from to
 touched_same f g h from to touched same = record {
   only = λ m stands.
       let before = same.none_new m stands in
@@ -22,6 +24,21 @@ touched_same f g h from to touched same = record {
         | inl old ↦ inl old
         | inr new ↦ inr (subst (λ n. n ≤ to) (sym place.low) new.0, subst (λ n. from < n + 2 ^ h.bits m) (sym place.low) (subst (λ n. from < g.low m + 2 ^ n) (sym place.bits) new.1))
       ];
+}
+
+-- all loads are in the tree
+pub loads_same : (f g h : Forest) (at from to : ℕ) → LoadsIn f g at from to → Unchanged g h → LoadsIn f h at from to
+loads_same f g h at from to loads same = record {
+  touched = touched_same f g h from to loads.touched same;
+  tree = λ m gone stands. let before = same.none_new m stands in (same.same m before).place.root ∙ loads.tree m gone before;
+  some = λ m gone stands. loads.some m gone (same.none_new m stands);
+}
+
+pub loads_none : (f : Forest) (at from to : ℕ) → LoadsIn f f at from to
+loads_none f at from to = record {
+  touched = record { only = λ m stands. inl stands };
+  tree = λ m gone stands. let clash : false ≡ true = sym gone ∙ stands in absurd (cc);
+  some = λ m gone stands. let clash : false ≡ true = sym gone ∙ stands in absurd (cc);
 }
 
 none_stays : (f g : Forest) (xs : List Ref) (name : List ℕ) → ((r : Ref) → f.name r ≡ g.name r) → NoneNamed f xs name → NoneNamed g xs name
@@ -54,6 +71,13 @@ found_there f dir name items i key entry good lists at is =
       under = record { good = good; upper = subst (λ k. k / 2 ^ 15 ≡ upper_bits name) says.0 (between_upper name at.leaf one.0) };
       named = at.named;
     }
+
+-- a long name that was to be read is one of an entry under a key of the name
+pub candidate_loads : (f g : Forest) (dir : ℕ) (name : List ℕ) (items : List Ref) (e : Trouble) → Lists g dir (least_key name) (last_key name) items → (e ≡ NoMemory) ⊎ AnyLongCandidate items name → MayLoad f g dir name e
+candidate_loads f g dir name items e lists (inl none) = inl none
+candidate_loads f g dir name items e lists (inr any) =
+    let one = lists.each any.place any.leaf any.read in
+    inr (inr (record { leaf = any.leaf; path = one.1; upper = between_upper name any.leaf one.0; long = any.long }))
 
 pub missing_there : (f : Forest) (dir : ℕ) (name : List ℕ) (items : List Ref) → Lists f dir (least_key name) (last_key name) items → NoneNamed f items name → IsMissing f dir name
 missing_there f dir name items lists none = record {

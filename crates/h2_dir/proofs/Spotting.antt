@@ -23,7 +23,7 @@ use Rattle.h2_dir.proofs.Agreeing.{between}
 use Rattle.h2_dir.proofs.Paths.{hangs}
 use Rattle.h2_dir.proofs.Searched.{missing_there, found_there}
 
-link_cases : (x : Link) → ((c : ℕ) × (x ≡ loaded c)) ⊎ ((c : ℕ) → x ≡ loaded c → ⊥)
+pub link_cases : (x : Link) → ((c : ℕ) × (x ≡ loaded c)) ⊎ ((c : ℕ) → x ≡ loaded c → ⊥)
 link_cases (loaded c) = inl (c, refl)
 link_cases (told l) = inr (λ c e. cc)
 link_cases untold = inr (λ c e. cc)
@@ -48,6 +48,7 @@ touching from to key r low high h =
     let range = holds_inside key r h in
     let start : r.key ≤ to = omega (arith, low, high, range.0) in
     let end : from < limit r = omega (arith, low, high, range.1) in
+    let some : from ≤ to = omega (arith, low, high) in
     grind (arith, nat_tests)
 
 -- where all that a range needs is loaded, so is the path of each of its keys

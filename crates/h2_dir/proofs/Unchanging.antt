@@ -26,7 +26,7 @@ unchanged_refl f sound = record { sound = sound; fixed = Fixed-refl f; same = sa
 pub unchanged_trans : (f g h : Forest) → Unchanged f g → Unchanged g h → Unchanged f h
 unchanged_trans f g h a b = record {
   sound = b.sound;
-  fixed = Fixed-trans f g h a.fixed b.fixed;
+  fixed = Fixed-trans f g h (λ m stands stands_too. (a.same m stands).place.stands) a.fixed b.fixed;
   same = λ m stands. same_trans f g h m (a.same m stands) (b.same m (a.same m stands).place.stands);
   none_new = λ m e. a.none_new m (b.none_new m e);
   spare = b.spare ∙ a.spare;

@@ -1,5 +1,5 @@
 -- What adding an entry to a directory, or taking one out, changes.
-use Rattle.std.specs.Prelude.{◌≡◌, ◌<◌, ℕ, ◌-◌, List, ◌++◌, replicate, length, Option, Some, None}
+use Rattle.std.specs.Prelude.{◌≡◌, ◌<◌, ◌≤◌, ⊤, ℕ, ◌-◌, List, ◌++◌, replicate, length, Option, Some, None}
 use Rattle.h2_num.specs.declared.block.Block.{Block}
 use Rattle.h2_ref.specs.declared.reference.Kind.TheVariants as kinds
 use Rattle.h2_ref.specs.declared.reference.Check.{Check}
@@ -26,6 +26,12 @@ long_entry name number target = record { number = number; len = length name; tar
 abbrev pub entry_ref : ℕ → ℕ → List ℕ → Option (Block × Check) → ℕ → ℕ → Ref
 entry_ref epoch key name None number target = record { kind = kinds.Dirent; key = key; keybits = 0; place = 0; radix = 0; id = epoch; check = Nothing; dirent = Some (short_entry name number target) }
 entry_ref epoch key name (Some named) number target = record { kind = kinds.Dirent; key = key; keybits = 0; place = named.0.place; radix = named.0.radix; id = epoch; check = named.1; dirent = Some (long_entry name number target) }
+
+-- A name without a block stands in the entry. One with a block has more than 64 bytes, and the forest tells that the
+-- block holds it.
+abbrev pub TellsName : Forest → Ref → List ℕ → Option (Block × Check) → Type 0
+TellsName f leaf name None = ⊤
+TellsName f leaf name (Some named) = (65 ≤ length name) × (f.name leaf ≡ Some name)
 
 -- an inode with references
 pub record HasRefs (i : Inode) : Type 0 where

@@ -1,5 +1,5 @@
 -- Finding a name among the entries of a directory.
-use Rattle.std.specs.Prelude.{◌≡◌, ◌≤◌, ◌⊎◌, ℕ, ◌+◌, Bool, true, List, length, Option, Some, None, Result, Ok, Err, ⊤}
+use Rattle.std.specs.Prelude.{◌≡◌, ◌⊎◌, ℕ, ◌+◌, ◌/◌, ◌^◌, Bool, true, List, Option, Some, None, Result, Ok, Err, ⊤}
 use Rattle.std.specs.FinMap.{get}
 use Rattle.h2_ref.specs.declared.faults.Trouble.{Trouble}
 use Rattle.h2_ref.specs.declared.faults.Trouble.TheVariants.{NoMemory}
@@ -8,7 +8,7 @@ use Rattle.h2_ref.specs.declared.reference.Ref.{Ref}
 use Rattle.h2_set.specs.Forest.{Forest, Reaches, HasCause}
 use Rattle.h2_tree.specs.Changes.{RangeUnloaded}
 use Rattle.h2_dirkey.specs.Name.{IsName}
-use Rattle.h2_dirkey.specs.Key.{least_key, IsNameUnder}
+use Rattle.h2_dirkey.specs.Key.{upper_bits, least_key, IsNameUnder}
 use Rattle.h2_inode.specs.declared.kind.InodeKind.{InodeKind}
 use Rattle.h2_inode.specs.declared.kind.InodeKind.TheVariants.{Directory}
 use Rattle.h2_inode.specs.Nodes.{Fields, Told}
@@ -16,7 +16,7 @@ use Rattle.h2_inode.specs.Loaded.{loaded_nodes, no_content, at_root}
 use Rattle.h2_inode.specs.Directory.{Entries, IsDirectory}
 use Rattle.h2_dir.specs.declared.fault.DirFault.{DirFault}
 use Rattle.h2_dir.specs.declared.fault.DirFault.TheVariants as fault
-use Rattle.h2_dir.specs.Names.{IsNamed, MayBeNamed}
+use Rattle.h2_dir.specs.Names.{IsNamed, MayBeNamed, IsLongCandidate}
 
 -- the greatest key of a name
 abbrev pub last_key : List ℕ → ℕ
@@ -41,17 +41,24 @@ pub record IsMissing (f : Forest) (dir : ℕ) (name : List ℕ) : Type 0 where
   pub none : (leaf : Ref) → Reaches f leaf.key dir (Some leaf) → IsNameUnder leaf.key name → IsNamed f leaf name → ⊥
   pub loaded : IsName name → RangeUnloaded f (least_key name) (last_key name) dir → ⊥
 
--- A load that a search for the name needs. One of nodes whose ranges have a key of the name, or, for a name of more
--- than 64 bytes, one of an entry's name.
-abbrev pub MayLoad : Forest → ℕ → List ℕ → Trouble → Type 0
-MayLoad f dir name e = (e ≡ NoMemory) ⊎ (RangeUnloaded f (least_key name) (last_key name) dir ⊎ (65 ≤ length name))
+-- an entry under a key of the name, whose path is loaded, has as many bytes as the name, and a block for them
+pub record HasLongCandidate (f : Forest) (dir : ℕ) (name : List ℕ) : Type 0 where
+  pub leaf : Ref
+  pub path : Reaches f leaf.key dir (Some leaf)
+  pub upper : leaf.key / 2 ^ 15 ≡ upper_bits name
+  pub long : IsLongCandidate leaf name
+
+-- A load that a search for the name needs: of a node whose range has a key of the name, or of the block of such an
+-- entry's name. The entry's path is loaded then.
+abbrev pub MayLoad : Forest → Forest → ℕ → List ℕ → Trouble → Type 0
+MayLoad f g dir name e = (e ≡ NoMemory) ⊎ (RangeUnloaded f (least_key name) (last_key name) dir ⊎ HasLongCandidate g dir name)
 
 -- why the name wasn't found
 abbrev pub FindFails : Forest → Forest → InodeKind → ℕ → List ℕ → DirFault → Type 0
 FindFails f g kind dir name fault.NoEntry = (kind ≡ Directory) × IsMissing g dir name
 FindFails f g kind dir name fault.Exists = ⊥
 FindFails f g kind dir name fault.NotDir = kind ≡ Directory → ⊥
-FindFails f g kind dir name (fault.Trouble e) = (kind ≡ Directory) × HasCause f g e × MayLoad f dir name e
+FindFails f g kind dir name (fault.Trouble e) = (kind ≡ Directory) × HasCause f g e × MayLoad f g dir name e
 
 -- what was found agrees with the entries of the directory: the number that the name has, or that it has none
 abbrev pub AgreesOn : Entries → List ℕ → Result (ℕ × Dirent) DirFault → Type 0

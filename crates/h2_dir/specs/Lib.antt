@@ -2,5 +2,6 @@ pub mod Names
 pub mod Finding
 pub mod Placing
 pub mod Changing
+pub mod Others
 pub mod Walking
 pub mod Listing

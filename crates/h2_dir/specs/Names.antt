@@ -20,6 +20,20 @@ pub record MayBeNamed (f : Forest) (leaf : Ref) (name : List ℕ) : Type 0 where
   pub short : entry.len ≤ 64 → name ≡ take entry.len entry.name
   pub long : (told : List ℕ) → 65 ≤ entry.len → f.name leaf ≡ Some told → told ≡ name
 
+-- the leaf is an entry whose name has as many bytes as this one, and a block, which alone tells whether it's this one
+pub record IsLongCandidate (leaf : Ref) (name : List ℕ) : Type 0 where
+  pub entry : Dirent
+  pub entry_is : leaf.dirent ≡ Some entry
+  pub length_is : length name ≡ entry.len
+  pub long : 65 ≤ length name
+
+-- a leaf of the list is such an entry
+pub record AnyLongCandidate (leaves : List Ref) (name : List ℕ) : Type 0 where
+  pub place : ℕ
+  pub leaf : Ref
+  pub read : slice_get leaves place ≡ Some leaf
+  pub long : IsLongCandidate leaf name
+
 -- no leaf of the list is known to have the name
 abbrev pub NoneNamed : Forest → List Ref → List ℕ → Type 0
 NoneNamed f leaves name = (i : ℕ) (leaf : Ref) → slice_get leaves i ≡ Some leaf → IsNamed f leaf name → ⊥

@@ -30,7 +30,7 @@ abbrev pub SpotFails : Forest → Forest → InodeKind → ℕ → List ℕ → 
 SpotFails f g kind dir name fault.NoEntry = ⊥
 SpotFails f g kind dir name fault.Exists = (kind ≡ Directory) × IsTaken g dir name
 SpotFails f g kind dir name fault.NotDir = kind ≡ Directory → ⊥
-SpotFails f g kind dir name (fault.Trouble e) = (kind ≡ Directory) × HasCause f g e × MayLoad f dir name e
+SpotFails f g kind dir name (fault.Trouble e) = (kind ≡ Directory) × HasCause f g e × MayLoad f g dir name e
 
 -- the answer agrees with the entries of the directory: a key only for a name that none has, Exists only for another
 abbrev pub SpotAgrees : Entries → List ℕ → Result ℕ DirFault → Type 0

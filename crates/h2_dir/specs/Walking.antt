@@ -1,14 +1,17 @@
 -- Where names lead from inode to inode of a PFS.
-use Rattle.std.specs.Prelude.{◌≡◌, ◌⊎◌, ℕ, List, [], ◌∷◌, Option, None, Result, Ok, Err}
+use Rattle.std.specs.Prelude.{◌≡◌, ◌⊎◌, ℕ, false, List, [], ◌∷◌, Option, None, Result, Ok, Err}
 use Rattle.h2_ref.specs.declared.reference.Dirent.{Dirent}
 use Rattle.h2_ref.specs.declared.reference.Ref.{Ref}
+use Rattle.h2_ref.specs.declared.faults.Trouble.TheVariants.{NoMemory}
 use Rattle.h2_set.specs.Forest.{Forest, Reaches, HasCause}
+use Rattle.h2_tree.specs.Changes.{PathUnloaded, RangeUnloaded}
+use Rattle.h2_dirkey.specs.Key.{least_key}
 use Rattle.h2_inode.specs.declared.inode.Inode.{Inode}
 use Rattle.h2_inode.specs.declared.kind.InodeKind.TheVariants.{Directory, Pfs}
-use Rattle.h2_inode.specs.Nodes.{Fields, HasInode, IsInodeLeaf, IsNamed}
+use Rattle.h2_inode.specs.Nodes.{Fields, HasInode, IsInodeLeaf, IsNamed, IsUnloaded}
 use Rattle.h2_dir.specs.declared.fault.DirFault.{DirFault}
 use Rattle.h2_dir.specs.declared.fault.DirFault.TheVariants as fault
-use Rattle.h2_dir.specs.Finding.{IsFound, IsMissing}
+use Rattle.h2_dir.specs.Finding.{last_key, HasLongCandidate, IsFound, IsMissing}
 
 -- the PFS has the inode with this number: this one, loaded with this root
 pub record IsMember (f : Forest) (holds : ℕ → Option Fields) (pfs number root : ℕ) (inode : Inode) : Type 0 where
@@ -28,13 +31,31 @@ pub data Leads (f : Forest) (holds : ℕ → Option Fields) (pfs : ℕ) : ℕ �
   in_file : {number : ℕ} {name : List ℕ} {names : List (List ℕ)} → (root : ℕ) (inode : Inode) → IsMember f holds pfs number root inode → (inode.kind ≡ Directory → ⊥) → Leads f holds pfs number (name ∷ names) (Err fault.NotDir)
   in_nothing : {number : ℕ} {name : List ℕ} {names : List (List ℕ)} → Reaches f number pfs None → Leads f holds pfs number (name ∷ names) (Err fault.NotDir)
 
--- what a walk from an inode came to
+-- A load that a search for the name below a root needs: of a node whose range has a key of the name, or of the block
+-- of such an entry's name. Where the inode itself came by a load, it's said of that.
+abbrev pub SearchLoads : Forest → Forest → ℕ → List ℕ → Type 0
+SearchLoads f g root name = (f.stands root ≡ false) ⊎ (RangeUnloaded f (least_key name) (last_key name) root ⊎ HasLongCandidate g root name)
+
+-- A load that one step needs, from the inode with this number by the name: of a node on the path of the number, of the
+-- inode, or one that the search needs.
+pub data StepLoads (f g : Forest) (holds : ℕ → Option Fields) (pfs number : ℕ) (name : List ℕ) : Type 0 where
+  by_node : PathUnloaded f pfs number → StepLoads f g holds pfs number name
+  by_inode : (leaf : Ref) → IsInodeLeaf g pfs leaf → leaf.key ≡ number → IsUnloaded f pfs number → StepLoads f g holds pfs number name
+  by_search : (root : ℕ) (inode : Inode) → IsMember g holds pfs number root inode → inode.kind ≡ Directory → SearchLoads f g root name → StepLoads f g holds pfs number name
+
+-- a load that the names from an inode on need: one of the first step, or, where that leads on, one of a later one
+pub data WalkLoads (f g : Forest) (holds : ℕ → Option Fields) (pfs : ℕ) : ℕ → List (List ℕ) → Type 0 where
+  at_once : {number : ℕ} {name : List ℕ} {names : List (List ℕ)} → StepLoads f g holds pfs number name → WalkLoads f g holds pfs number (name ∷ names)
+  further : {number : ℕ} {name : List ℕ} {names : List (List ℕ)} → (root key : ℕ) (inode : Inode) (entry : Dirent) → IsMember g holds pfs number root inode → inode.kind ≡ Directory → IsFound g root name key entry
+      → WalkLoads f g holds pfs entry.number names → WalkLoads f g holds pfs number (name ∷ names)
+
+-- what a walk from an inode came to; after a trouble, by which load
 abbrev pub WalkEnds : Forest → Forest → (ℕ → Option Fields) → ℕ → ℕ → List (List ℕ) → Result ℕ DirFault → Type 0
 WalkEnds f g holds pfs number names (Ok found) = Leads g holds pfs number names (Ok found)
 WalkEnds f g holds pfs number names (Err fault.NoEntry) = Leads g holds pfs number names (Err fault.NoEntry)
 WalkEnds f g holds pfs number names (Err fault.Exists) = ⊥
 WalkEnds f g holds pfs number names (Err fault.NotDir) = Leads g holds pfs number names (Err fault.NotDir)
-WalkEnds f g holds pfs number names (Err (fault.Trouble e)) = HasCause f g e
+WalkEnds f g holds pfs number names (Err (fault.Trouble e)) = HasCause f g e × ((e ≡ NoMemory) ⊎ WalkLoads f g holds pfs number names)
 
 -- the entry of a name in an inode, or why there is none
 abbrev pub StepEnds : Forest → Forest → (ℕ → Option Fields) → ℕ → ℕ → List ℕ → Result ℕ DirFault → Type 0
@@ -42,7 +63,7 @@ StepEnds f g holds pfs number name (Ok found) = (root : ℕ) × (key : ℕ) × (
 StepEnds f g holds pfs number name (Err fault.NoEntry) = (root : ℕ) × (inode : Inode) × IsMember g holds pfs number root inode × (inode.kind ≡ Directory) × IsMissing g root name
 StepEnds f g holds pfs number name (Err fault.Exists) = ⊥
 StepEnds f g holds pfs number name (Err fault.NotDir) = Reaches g number pfs None ⊎ ((root : ℕ) × (inode : Inode) × IsMember g holds pfs number root inode × (inode.kind ≡ Directory → ⊥))
-StepEnds f g holds pfs number name (Err (fault.Trouble e)) = HasCause f g e
+StepEnds f g holds pfs number name (Err (fault.Trouble e)) = HasCause f g e × ((e ≡ NoMemory) ⊎ StepLoads f g holds pfs number name)
 
 -- root pfs is that of a PFS's inode
 pub record IsPfsRoot (f : Forest) (holds : ℕ → Option Fields) (pfs : ℕ) : Type 0 where

@@ -1,5 +1,5 @@
-ghost use Rattle.std.specs.Prelude.{◌≡◌, ◌≤◌, ◌+◌, true, List, Some, None};
-ghost use Rattle.std.specs.FinMap.{insert};
+ghost use Rattle.std.specs.Prelude.{◌≡◌, ◌≤◌, ◌+◌, ℕ, Bool, true, List, Some, None};
+ghost use Rattle.std.specs.FinMap.{get, insert};
 ghost use Rattle.h2_ref.specs.Ref.{IsValid};
 ghost use Rattle.h2_ref.specs.declared.reference.Ref.{Ref};
 ghost use Rattle.h2_set.specs.Ranges.{put};
@@ -8,7 +8,10 @@ ghost use Rattle.h2_tree.specs.Changes.{Takes, Inserts, KeepsPaths};
 ghost use Rattle.h2_dirkey.specs.Key.{IsNameUnder};
 ghost use Rattle.h2_inode.specs.declared.inode.Inode.{Inode};
 ghost use Rattle.h2_inode.specs.Nodes.{held_by, HasInode, KeepsOthersBeside};
-ghost use Rattle.h2_dir.specs.Changing.{HasRoom, Adds, entry_ref, with_entries};
+ghost use Rattle.h2_inode.specs.Directory.{Entries};
+ghost use Rattle.h2_dir.specs.Finding.{HoldsEntries};
+ghost use Rattle.h2_dir.specs.Changing.{HasRoom, Adds, TellsName, entry_ref, with_entries};
+ghost use Rattle.h2_dir.specs.Others.{KeepsOtherTrees, KeepsOtherEntries, RenewsOtherTrees};
 
 use crate::entry::entry_ref;
 use crate::resizing::resize;
@@ -37,12 +40,14 @@ fn put_in<N: Sets>(alloc: Global, n: &mut N, root: NodeId, leaf: Ref)
     };
 }
 
-/// Adds an entry to a directory, with the epoch as its id, and raises the directory's size by one.
+/// Adds an entry to a directory, with the epoch as its id, and raises the directory's size by one. Where no entry had
+/// the name, the directory stands for its entries and this one.
 ///
 /// No entry has the key, its path is loaded, and it has the upper bits of the name's keys (`spot` gives such a key). The size
 /// is below 4096. The number is from 1 to 2^62 - 1, and the target 1 for a directory or 2 for a file. A name of more
 /// than 64 bytes has a block of 1 KiB, and no other has: it is given with its check. At least one node is spare, and
-/// the room is at least 63. It can't be refused. No node is unloaded, and all loaded paths stay.
+/// the room is at least 63. It can't be refused. No node is unloaded, and all loaded paths stay. Other directories and
+/// files stay the same, and the trees of PFSs do, but for where the blocks of inodes lie.
 pub fn add_at<N: Nodes>(
     alloc: Global,
     n: &mut N,
@@ -62,8 +67,13 @@ pub fn add_at<N: Nodes>(
     ensures adds { let f = N.forest n.old in Adds f (N.forest n.new) dir.0 (entry_ref f.epoch key name.now block number target) }
     ensures inode { let g = N.forest n.new in (i : Inode) → HasInode (N.forest n.old) (held_by N.fields (N.beside n.old)) dir.0 i → HasInode g (held_by N.fields (N.beside n.new)) dir.0 (with_entries i (i.size + 1) (g.set dir.0)) }
     ensures leaves { let f = N.forest n.old in (l : List Ref) → LeavesOf f dir.0 l → LeavesOf (N.forest n.new) dir.0 (put (entry_ref f.epoch key name.now block number target) l) }
+    ensures entries { let f = N.forest n.old in (may : ℕ → ℕ → Bool) (size : ℕ) (entries : Entries) → HoldsEntries f (held_by N.fields (N.beside n.old)) (N.told n.old) may dir.0 size entries → get entries name.now ≡ None → may target number ≡ true → TellsName f (entry_ref f.epoch key name.now block number target) name.now block
+        → HoldsEntries (N.forest n.new) (held_by N.fields (N.beside n.new)) (N.told n.new) may dir.0 (size + 1) (insert entries name.now number) }
     ensures path { let f = N.forest n.old in Reaches (N.forest n.new) key dir.0 (Some (entry_ref f.epoch key name.now block number target)) }
     ensures paths { let f = N.forest n.old in KeepsPaths f (N.forest n.new) dir.0 (entry_ref f.epoch key name.now block number target) }
+    ensures others { KeepsOtherTrees (N.forest n.old) (N.forest n.new) (held_by N.fields (N.beside n.old)) (held_by N.fields (N.beside n.new)) dir.0 }
+    ensures above { RenewsOtherTrees (N.forest n.old) (N.forest n.new) (held_by N.fields (N.beside n.old)) (held_by N.fields (N.beside n.new)) dir.0 }
+    ensures other_entries { KeepsOtherEntries (N.forest n.old) (N.forest n.new) (held_by N.fields (N.beside n.old)) (held_by N.fields (N.beside n.new)) (N.told n.old) (N.told n.new) dir.0 }
     ensures beside { KeepsOthersBeside (N.forest n.old) (N.forest n.new) dir.0 (N.beside n.old) (N.beside n.new) }
     ensures later { N.later n.old n.new }
 {

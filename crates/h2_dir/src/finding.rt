@@ -2,7 +2,7 @@ ghost use Rattle.std.specs.Prelude.{◌≡◌, ◌↔◌, ℕ, Bool, IsTrue, IfO
 ghost use Rattle.h2_ref.specs.declared.reference.Ref.{Ref};
 ghost use Rattle.h2_ref.specs.declared.reference.Dirent.{Dirent};
 ghost use Rattle.h2_set.specs.Forest.{IsSound, Walks, KeepsBeside};
-ghost use Rattle.h2_tree.specs.Changes.{LoadsTouched};
+ghost use Rattle.h2_tree.specs.Changes.{LoadsIn};
 ghost use Rattle.h2_dirkey.specs.Key.{least_key};
 ghost use Rattle.h2_inode.specs.declared.inode.Inode.{Inode};
 ghost use Rattle.h2_inode.specs.declared.kind.InodeKind.TheVariants.{Directory};
@@ -39,7 +39,7 @@ fn entry_at(leaves: &[Ref], i: usize) -> (u64, Dirent)
 }
 
 /// The entry of a directory that has the name, with its key. Afterwards the paths of all keys that the name may have
-/// are loaded; no node is loaded whose range has none of them, and only the names of entries under these keys are
+/// are loaded; no node is loaded of another tree, or whose range has none of them, and only the names of entries under these keys are
 /// read, those of more than 64 bytes and of this length.
 ///
 /// NoEntry exactly where there is none, as for a name that no entry may have; NotDir exactly where the inode isn't
@@ -58,7 +58,7 @@ pub fn find<N: Nodes>(
     ensures kind { (i : Inode) → HasInode (N.forest n.old) (held_by N.fields (N.beside n.old)) dir.0 i → IfOk result (λ x. i.kind ≡ Directory) }
     ensures err { (i : Inode) → HasInode (N.forest n.old) (held_by N.fields (N.beside n.old)) dir.0 i → IfErr result (FindFails (N.forest n.old) (N.forest n.new) i.kind dir.0 name.now) }
     ensures agrees { (may : ℕ → ℕ → Bool) (size : ℕ) (entries : Entries) → HoldsEntries (N.forest n.old) (held_by N.fields (N.beside n.old)) (N.told n.old) may dir.0 size entries → AgreesOn entries name.now result }
-    ensures touched { LoadsTouched (N.forest n.old) (N.forest n.new) (least_key name.now) (last_key name.now) }
+    ensures touched { LoadsIn (N.forest n.old) (N.forest n.new) dir.0 (least_key name.now) (last_key name.now) }
     ensures beside { KeepsBeside (N.forest n.old) (N.forest n.new) (N.beside n.old) (N.beside n.new) }
     ensures later { N.later n.old n.new }
 {

@@ -1,6 +1,7 @@
 ghost use Rattle.std.specs.Prelude.{◌≡◌, ◌≤◌, ◌⊎◌, ◌-◌, ◌^◌, ℕ, Bool, true, IfOk, IfErr, List, All, Some, IsPermutation, IsSorted};
 ghost use Rattle.h2_ref.specs.declared.reference.Ref.{Ref};
 ghost use Rattle.h2_set.specs.Forest.{Forest, IsSound, Walks, Unchanged, HasCause, KeepsBeside};
+ghost use Rattle.h2_tree.specs.Changes.{LoadsIn};
 ghost use Rattle.h2_inode.specs.declared.inode.Inode.{Inode};
 ghost use Rattle.h2_inode.specs.declared.kind.InodeKind.TheVariants.{Directory};
 ghost use Rattle.h2_inode.specs.Access.{OneByOne};
@@ -73,7 +74,7 @@ fn sort_by_name(all: &mut Vec<(Name, u64)>) -> Result<(), AllocError>
 }
 
 /// The names and the numbers of a directory's entries, in byte order of the names. Each block of the tree is loaded,
-/// and the name of each entry with more than 64 bytes is read.
+/// and the name of each entry with more than 64 bytes is read; no node is loaded but of this tree.
 ///
 /// NotDir exactly where the inode isn't that of a directory; never NoEntry or Exists. Trouble only where a node that may
 /// have entries isn't loaded or an entry has such a name, or for want of memory.
@@ -85,6 +86,7 @@ pub fn list<N: Nodes>(alloc: Global, n: &mut N, dir: NodeId) -> Result<Vec<(Name
     ensures entries { (may : ℕ → ℕ → Bool) (size : ℕ) (entries : Entries) → HoldsEntries (N.forest n.old) (held_by N.fields (N.beside n.old)) (N.told n.old) may dir.0 size entries → IfOk result (λ v. v.items ≡ entries_of entries) }
     ensures kind { (i : Inode) → HasInode (N.forest n.old) (held_by N.fields (N.beside n.old)) dir.0 i → IfOk result (λ v. i.kind ≡ Directory) }
     ensures err { (i : Inode) → HasInode (N.forest n.old) (held_by N.fields (N.beside n.old)) dir.0 i → IfErr result (ListFails (N.forest n.old) (N.forest n.new) i.kind dir.0) }
+    ensures touched { LoadsIn (N.forest n.old) (N.forest n.new) dir.0 (2 ^ 63) (2 ^ 64 - 1) }
     ensures beside { KeepsBeside (N.forest n.old) (N.forest n.new) (N.beside n.old) (N.beside n.new) }
     ensures later { N.later n.old n.new }
 {

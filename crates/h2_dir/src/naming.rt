@@ -2,7 +2,7 @@ ghost use Rattle.std.specs.Prelude.{◌≡◌, ◌≤◌, ◌⊎◌, true, false
 ghost use Rattle.h2_ref.specs.Ref.{IsValid};
 ghost use Rattle.h2_ref.specs.declared.reference.Ref.{Ref};
 ghost use Rattle.h2_set.specs.Forest.{IsSound, Unchanged, HasCause, KeepsBeside};
-ghost use Rattle.h2_dir.specs.Names.{IsNamed, MayBeNamed, Scanned};
+ghost use Rattle.h2_dir.specs.Names.{IsNamed, MayBeNamed, IsLongCandidate, AnyLongCandidate, Scanned};
 
 use h2_ref::{Dirent, Ref, Trouble};
 use h2_set::Sets;
@@ -34,7 +34,7 @@ pub(crate) fn has_name<N: Sets>(
     ensures yes { IfOk result (λ b. b ≡ true → MayBeNamed (N.forest n.old) leaf.now name.now) }
     ensures no { IfOk result (λ b. b ≡ false → IsNamed (N.forest n.old) leaf.now name.now → ⊥) }
     ensures err { IfErr result (HasCause (N.forest n.old) (N.forest n.new)) }
-    ensures unread { IfErr result (λ e. (e ≡ Trouble.NoMemory) ⊎ (65 ≤ length name.now)) }
+    ensures unread { IfErr result (λ e. (e ≡ Trouble.NoMemory) ⊎ IsLongCandidate leaf.now name.now) }
     ensures beside { KeepsBeside (N.forest n.old) (N.forest n.new) (N.beside n.old) (N.beside n.new) }
     ensures later { N.later n.old n.new }
 {
@@ -64,7 +64,7 @@ pub(crate) fn scan<N: Sets>(
     ensures same { Unchanged (N.forest n.old) (N.forest n.new) }
     ensures scanned { IfOk result (Scanned (N.forest n.old) leaves.now name.now) }
     ensures err { IfErr result (HasCause (N.forest n.old) (N.forest n.new)) }
-    ensures unread { IfErr result (λ e. (e ≡ Trouble.NoMemory) ⊎ (65 ≤ length name.now)) }
+    ensures unread { IfErr result (λ e. (e ≡ Trouble.NoMemory) ⊎ AnyLongCandidate leaves.now name.now) }
     ensures beside { KeepsBeside (N.forest n.old) (N.forest n.new) (N.beside n.old) (N.beside n.new) }
     ensures later { N.later n.old n.new }
 {

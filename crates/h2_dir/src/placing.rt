@@ -1,7 +1,7 @@
 ghost use Rattle.std.specs.Prelude.{◌≡◌, ◌%◌, ℕ, Bool, IfOk, IfErr, map};
 ghost use Rattle.h2_ref.specs.declared.reference.Ref.{Ref};
 ghost use Rattle.h2_set.specs.Forest.{IsSound, Walks, KeepsBeside};
-ghost use Rattle.h2_tree.specs.Changes.{LoadsTouched};
+ghost use Rattle.h2_tree.specs.Changes.{LoadsIn};
 ghost use Rattle.h2_dirkey.specs.Name.{IsName};
 ghost use Rattle.h2_dirkey.specs.Key.{least_key, IsPicked};
 ghost use Rattle.h2_inode.specs.declared.inode.Inode.{Inode};
@@ -60,7 +60,7 @@ pub fn spot<N: Nodes>(alloc: Global, n: &mut N, dir: NodeId, name: &[u8]) -> Res
     ensures kind { (i : Inode) → HasInode (N.forest n.old) (held_by N.fields (N.beside n.old)) dir.0 i → IfOk result (λ x. i.kind ≡ Directory) }
     ensures err { (i : Inode) → HasInode (N.forest n.old) (held_by N.fields (N.beside n.old)) dir.0 i → IfErr result (SpotFails (N.forest n.old) (N.forest n.new) i.kind dir.0 name.now) }
     ensures agrees { (may : ℕ → ℕ → Bool) (size : ℕ) (entries : Entries) → HoldsEntries (N.forest n.old) (held_by N.fields (N.beside n.old)) (N.told n.old) may dir.0 size entries → SpotAgrees entries name.now result }
-    ensures touched { LoadsTouched (N.forest n.old) (N.forest n.new) (least_key name.now) (last_key name.now) }
+    ensures touched { LoadsIn (N.forest n.old) (N.forest n.new) dir.0 (least_key name.now) (last_key name.now) }
     ensures beside { KeepsBeside (N.forest n.old) (N.forest n.new) (N.beside n.old) (N.beside n.new) }
     ensures later { N.later n.old n.new }
 {

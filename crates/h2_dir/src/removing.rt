@@ -1,11 +1,16 @@
-ghost use Rattle.std.specs.Prelude.{◌≡◌, ◌≤◌, ◌-◌, true, List, Some, None, IsSome};
+ghost use Rattle.std.specs.Prelude.{◌≡◌, ◌≤◌, ◌-◌, ℕ, Bool, true, List, Some, None, IsSome};
+ghost use Rattle.std.specs.FinMap.{get, remove};
 ghost use Rattle.h2_ref.specs.declared.reference.Ref.{Ref};
+ghost use Rattle.h2_ref.specs.declared.reference.Dirent.{Dirent};
 ghost use Rattle.h2_set.specs.Ranges.{without};
 ghost use Rattle.h2_set.specs.Forest.{IsSound, LeavesOf, Reaches, KeepsBeside};
 ghost use Rattle.h2_tree.specs.Changes.{IsFree, Removes, KeepsPaths};
 ghost use Rattle.h2_inode.specs.declared.inode.Inode.{Inode};
 ghost use Rattle.h2_inode.specs.Nodes.{held_by, HasInode, KeepsOthersBeside};
+ghost use Rattle.h2_inode.specs.Directory.{Entries};
+ghost use Rattle.h2_dir.specs.Finding.{HoldsEntries, IsFound};
 ghost use Rattle.h2_dir.specs.Changing.{IsDirectoryRoot, TakesAway, with_entries};
+ghost use Rattle.h2_dir.specs.Others.{KeepsOtherTrees, KeepsOtherEntries, RenewsOtherTrees};
 
 use crate::resizing::resize;
 use h2_inode::Nodes;
@@ -66,10 +71,11 @@ fn says(leaf: Ref) -> Dirent
 }
 
 /// Takes the entry under a key out of a directory, and lowers the directory's size by one, unless it is 0. What the
-/// entry said is answered.
+/// entry said is answered. The directory stands for its entries without the one of this name.
 ///
 /// The entry is there, its path is loaded, and the room is at least 62. It can't be refused. Of the tree nothing goes
-/// but indirect blocks that would be left empty, and loaded paths to other keys stay.
+/// but indirect blocks that would be left empty, and loaded paths to other keys stay. Other directories and files stay
+/// the same, and the trees of PFSs do, but for where the blocks of inodes lie.
 pub fn remove_at<N: Nodes>(alloc: Global, n: &mut N, dir: NodeId, key: u64) -> Dirent
     requires sound { IsSound (N.forest n.old) }
     requires directory { IsDirectoryRoot (N.forest n.old) (held_by N.fields (N.beside n.old)) dir.0 }
@@ -79,8 +85,13 @@ pub fn remove_at<N: Nodes>(alloc: Global, n: &mut N, dir: NodeId, key: u64) -> D
     ensures says { (leaf : Ref) → Reaches (N.forest n.old) key dir.0 (Some leaf) → leaf.dirent ≡ Some result }
     ensures inode { let g = N.forest n.new in (i : Inode) → HasInode (N.forest n.old) (held_by N.fields (N.beside n.old)) dir.0 i → HasInode g (held_by N.fields (N.beside n.new)) dir.0 (with_entries i (i.size - 1) (g.set dir.0)) }
     ensures leaves { (l : List Ref) → LeavesOf (N.forest n.old) dir.0 l → LeavesOf (N.forest n.new) dir.0 (without key l) }
+    ensures entries { (may : ℕ → ℕ → Bool) (size : ℕ) (entries : Entries) (name : List ℕ) (entry : Dirent) → HoldsEntries (N.forest n.old) (held_by N.fields (N.beside n.old)) (N.told n.old) may dir.0 size entries → IsFound (N.forest n.old) dir.0 name key entry
+        → (get entries name ≡ Some result.number) × HoldsEntries (N.forest n.new) (held_by N.fields (N.beside n.new)) (N.told n.new) may dir.0 (size - 1) (remove entries name) }
     ensures path { Reaches (N.forest n.new) key dir.0 None }
     ensures paths { (leaf : Ref) → Reaches (N.forest n.old) key dir.0 (Some leaf) → KeepsPaths (N.forest n.old) (N.forest n.new) dir.0 leaf }
+    ensures others { KeepsOtherTrees (N.forest n.old) (N.forest n.new) (held_by N.fields (N.beside n.old)) (held_by N.fields (N.beside n.new)) dir.0 }
+    ensures above { RenewsOtherTrees (N.forest n.old) (N.forest n.new) (held_by N.fields (N.beside n.old)) (held_by N.fields (N.beside n.new)) dir.0 }
+    ensures other_entries { KeepsOtherEntries (N.forest n.old) (N.forest n.new) (held_by N.fields (N.beside n.old)) (held_by N.fields (N.beside n.new)) (N.told n.old) (N.told n.new) dir.0 }
     ensures beside { KeepsOthersBeside (N.forest n.old) (N.forest n.new) dir.0 (N.beside n.old) (N.beside n.new) }
     ensures later { N.later n.old n.new }
 {

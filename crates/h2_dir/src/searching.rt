@@ -1,14 +1,17 @@
-ghost use Rattle.std.specs.Prelude.{◌≡◌, true, IfOk, IfErr, List, filter};
+ghost use Rattle.std.specs.Prelude.{◌≡◌, IfOk, IfErr, List, filter};
 ghost use Rattle.h2_ref.specs.declared.reference.Ref.{Ref};
 ghost use Rattle.h2_set.specs.Forest.{IsSound, Walks, HasCause, KeepsBeside, LeavesOf};
-ghost use Rattle.h2_tree.specs.Changes.{LoadsTouched, Lists, is_between};
+ghost use Rattle.h2_tree.specs.Changes.{LoadsIn, Lists, is_between};
 ghost use Rattle.h2_dirkey.specs.Key.{least_key};
+ghost use Rattle.h2_inode.specs.declared.inode.Inode.{Inode};
+ghost use Rattle.h2_inode.specs.Nodes.{held_by, HasInode};
 ghost use Rattle.h2_dir.specs.Names.{Scanned};
 ghost use Rattle.h2_dir.specs.Finding.{last_key, MayLoad};
 
 use crate::naming::scan;
+use h2_inode::Nodes;
 use h2_ref::{Ref, Trouble};
-use h2_set::{NodeId, Sets};
+use h2_set::NodeId;
 use h2_tree::range;
 use std::alloc::Global;
 
@@ -24,7 +27,7 @@ pub(crate) struct Candidates {
 
 /// Looks for a name among the entries under its keys, of which the least is given. Only nodes whose ranges have one of
 /// these keys are loaded.
-pub(crate) fn search<N: Sets>(
+pub(crate) fn search<N: Nodes>(
     alloc: Global,
     n: &mut N,
     dir: NodeId,
@@ -32,15 +35,15 @@ pub(crate) fn search<N: Sets>(
     least: u64,
 ) -> Result<Candidates, Trouble>
     requires sound { IsSound (N.forest n.old) }
-    requires stands { let f = N.forest n.old in f.stands dir.0 ≡ true }
+    requires inode { (i : Inode) × HasInode (N.forest n.old) (held_by N.fields (N.beside n.old)) dir.0 i }
     requires least { least ≡ least_key name.now }
     ensures walks { Walks (N.forest n.old) (N.forest n.new) }
     ensures told { IfOk result (λ s. (l : List Ref) → LeavesOf (N.forest n.old) dir.0 l → s.leaves.items ≡ filter (is_between (least_key name.now) (last_key name.now)) l) }
     ensures lists { IfOk result (λ s. Lists (N.forest n.new) dir.0 (least_key name.now) (last_key name.now) s.leaves.items) }
     ensures scanned { IfOk result (λ s. Scanned (N.forest n.new) s.leaves.items name.now s.place) }
     ensures err { IfErr result (HasCause (N.forest n.old) (N.forest n.new)) }
-    ensures touched { LoadsTouched (N.forest n.old) (N.forest n.new) (least_key name.now) (last_key name.now) }
-    ensures unread { IfErr result (MayLoad (N.forest n.old) dir.0 name.now) }
+    ensures touched { LoadsIn (N.forest n.old) (N.forest n.new) dir.0 (least_key name.now) (last_key name.now) }
+    ensures unread { IfErr result (MayLoad (N.forest n.old) (N.forest n.new) dir.0 name.now) }
     ensures beside { KeepsBeside (N.forest n.old) (N.forest n.new) (N.beside n.old) (N.beside n.new) }
     ensures later { N.later n.old n.new }
 {

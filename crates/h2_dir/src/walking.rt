@@ -69,7 +69,9 @@ fn walk_on<N: Nodes>(
 ///
 /// Names are looked up from left to right: NoEntry exactly where one is missing in its directory, NotDir exactly where
 /// one is looked up in what isn't a directory: in a file, or in a number that the PFS has no inode of, which no sound
-/// volume has. Never Exists. After a Trouble nothing but loads took place.
+/// volume has. Never Exists. Trouble only where a node on the path of a number, an inode on the way or a node that a
+/// search for a name needs isn't loaded, or a name of more than 64 bytes was to be read, or for want of memory. Nothing
+/// but loads took place then.
 pub fn walk<N: Nodes>(alloc: Global, n: &mut N, pfs: NodeId, names: &Names) -> Result<u64, DirFault>
     requires sound { IsSound (N.forest n.old) }
     requires pfs { IsPfsRoot (N.forest n.old) (held_by N.fields (N.beside n.old)) pfs.0 }

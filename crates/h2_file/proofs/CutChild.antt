@@ -11,14 +11,16 @@ use Rattle.h2_set.specs.RefSet.{RefSet}
 use Rattle.h2_set.specs.Forest.{Forest, refs, loaded, HasLeaves, done, near, LeavesOf, KeepsLeaves, Alike, IsChild, IsSoundNode, IsSound, InPlace, Stays, Keeps, Renews, Fixed, Walks, Loads, Reaches, nowhere, here, below}
 use Rattle.h2_set.specs.StayLaws.{Alike-refl, Fixed-trans, InPlace-trans, Walks-trans, Walks-leaves, Reaches-walks, leaves_stay, stands_below}
 use Rattle.h2_set.specs.LeafLaws.{holds_inside, leaves_rising, outside_holds}
-use Rattle.h2_set.specs.ChangeLaws.{Keeps-Stays, Keeps-trans, leaves_move, same_or_not, apart_places}
+use Rattle.h2_set.specs.ChangeLaws.{Keeps-Stays, Keeps-trans, leaves_move, same_or_not}
 use Rattle.h2_set.specs.RenewLaws.{Keeps-Renews, Renews-trans, Alike-length, LikeAt, like_at, Alike-sym}
 use Rattle.h2_tree.specs.Changes.{Under, LoadsTouched, WalksUnder, PathUnloaded}
 use Rattle.h2_file.specs.Blocks.{HasContents}
 use Rattle.h2_file.specs.Cutting.{IsCutBlock, cut_to, front, leads, Cuts, cut_block, ReachesBy, misses, arrives}
+use Rattle.h2_file.proofs.Answering.{Touched-on}
 use Rattle.h2_file.proofs.Parts.{cut_append, Parted, leaves_parted, leaves_join, take_from, taken_at, take_next, in_order}
+use Rattle.h2_file.proofs.Onward.{contents_root, onward}
 use Rattle.h2_file.proofs.Fronts.{contents_keep, reaches_keeps, same_holds, same_holds_back}
-use Rattle.h2_file.proofs.CutLevels.{Touched-on, Readied, FrontLeft, nothing_left, none_before, none_upto, none_of, own_below, cut_parts, block_le}
+use Rattle.h2_file.proofs.CutLevels.{Readied, FrontLeft, nothing_left, none_before, none_upto, none_of, own_below, cut_parts, block_le}
 
 Alike-take : (n : ℕ) (rs qs : List Ref) → Alike rs qs → Alike (take n rs) (take n qs)
 Alike-take zero rs qs a = tt
@@ -26,41 +28,6 @@ Alike-take (suc n) [] [] a = tt
 Alike-take (suc n) [] (q ∷ qs) a = absurd a
 Alike-take (suc n) (r ∷ rs) [] a = absurd a
 Alike-take (suc n) (r ∷ rs) (q ∷ qs) a = (a.0, Alike-take n rs qs a.1)
-
-contents_root : (f : Forest) (m n : ℕ) → f.root m ≡ f.root n → HasContents f m → HasContents f n
-contents_root f m n e h = record {
-  kinds = λ r may. h.kinds r (subst (λ k. f.allows k r ≡ true) (sym e) may);
-  kinds_all = λ r is. subst (λ k. f.allows k r ≡ true) e (h.kinds_all r is);
-  keybits = ap f.leaf_bits (sym e) ∙ h.keybits;
-}
-
--- what a loaded path at a node leads on to
-record Onward (f : Forest) (key at : ℕ) (r : Ref) : Type 0 where
-  pub next : ℕ
-  pub link : f.link at r.key ≡ loaded next
-  pub found : Option Ref
-  pub rest : Reaches f key next found
-
-holder : (low high key : ℕ) (rs : List Ref) (i j : ℕ) (q r : Ref) → Rising low high rs → slice_get rs i ≡ Some q → slice_get rs j ≡ Some r → holds key q ≡ true → holds key r ≡ true → r ≡ q
-holder low high key rs i j q r h read_q read_r in_q in_r =
-    let a = holds_inside key q in_q in
-    let b = holds_inside key r in_r in
-    elim (same_or_not j i) as (λ _. r ≡ q) [
-      | inl e ↦ let moved : slice_get rs i ≡ Some r = subst (λ z. slice_get rs z ≡ Some r) e read_r in cc
-      | inr ne ↦ elim (apart_places low high rs i j q r h read_q read_r ne) as (λ _. r ≡ q) [
-        | inl lower ↦ absurd (omega (arith, lower, a.0, b.1))
-        | inr upper ↦ absurd (omega (arith, upper, a.1, b.0))
-      ]
-    ]
-
-onward : {f : Forest} {key at : ℕ} {o : Option Ref} → IsSound f → Reaches f key at o → f.stands at ≡ true → (i : ℕ) (r : Ref) → slice_get (refs f at) i ≡ Some r → holds key r ≡ true → is_indirect r ≡ true → Onward f key at r
-onward sound (nowhere miss) stands i r read in_r ind = absurd (let clash : true ≡ false = sym in_r ∙ miss i r read in cc)
-onward {key = key} sound (here {at = at} {r = q} j read_q in_q leaf) stands i r read in_r ind =
-    let same : r ≡ q = holder _ _ key _ j i q r (sound.node at stands).inside read_q read in_q in_r in
-    absurd (let clash : false ≡ true = sym leaf ∙ (ap (λ (x : Ref). is_indirect x) (sym same) ∙ ind) in cc)
-onward {f} {key} sound (below {at = at} {c = c} {r = q} {o = o} j read_q in_q ind_q link rest) stands i r read in_r ind =
-    let same : r ≡ q = holder _ _ key _ j i q r (sound.node at stands).inside read_q read in_q in_r in
-    subst (λ (x : Ref). Onward f key at x) (sym same) (record { next = c; link = link; found = o; rest = rest })
 
 -- A load of what the last reference below the size leads to
 
@@ -112,7 +79,7 @@ module _ (f h : Forest) (at i size : ℕ) (r : Ref) (sound : IsSound f) (stands 
         (omega (arith, bits, some, slope), omega (arith, walks.room, room.1))
 
     pub child_contents : HasContents f at → HasContents h c
-    child_contents holds_contents = contents_root h at c (sym child.root) (contents_keep f h at (sym there.root) walks.fixed.leaf_bits walks.fixed.allows holds_contents)
+    child_contents holds_contents = contents_root h at c (sym child.root) (contents_keep f h at sound walks.sound stands there walks.fixed holds_contents)
 
     pub unloaded_below : PathUnloaded h c size → PathUnloaded f at size
     unloaded_below unloaded o reached =
@@ -142,7 +109,7 @@ module _ (f h : Forest) (at i size : ℕ) (r : Ref) (sound : IsSound f) (stands 
     readied : (k : Forest) → IsSound k → Fixed h k → InPlace h k at → ((m : ℕ) → h.stands m ≡ true → h.root m ≡ h.root c → (Under h m c → ⊥) → Keeps h k m) → ((m : ℕ) → h.stands m ≡ true → (h.root m ≡ h.root c → ⊥) → Renews h k m) → ((m : ℕ) → h.stands m ≡ true → k.stands m ≡ true → InPlace h k m) → LoadsTouched h k size size → h.room + k.copies at ≤ k.room + 62 → k.room ≤ h.room → k.spare ≡ h.spare → Readied f k at size
     readied k sound_k fixed place tree above still touched room falls spare = record {
       sound = sound_k;
-      fixed = Fixed-trans f h k walks.fixed fixed;
+      fixed = Fixed-trans f h k (λ m st st'. (walks.stays m st).place.stands) walks.fixed fixed;
       place = InPlace-trans f h k at there place;
       tree = λ m st root out.
           let first = loads.keeps m st (other_node m out) in
@@ -250,7 +217,7 @@ module _ (f h : Forest) (at count size : ℕ) (last : Option Ref) (r : Ref) (sou
   read_at_h = ap (λ (s : RefSet). slice_get s.refs (count - 1)) (walks.sets at stands) ∙ read
 
   contents_h : HasContents h at
-  contents_h = contents_keep f h at (sym (walks.stays at stands).place.root) walks.fixed.leaf_bits walks.fixed.allows holds_contents
+  contents_h = contents_keep f h at sound walks.sound stands (walks.stays at stands).place walks.fixed holds_contents
 
   past_h : (j : ℕ) (q : Ref) → slice_get (refs h at) j ≡ Some q → count ≤ j → size ≤ q.key
   past_h j q read' le = past j q (ap (λ (s : RefSet). slice_get s.refs j) (sym (walks.sets at stands)) ∙ read') le

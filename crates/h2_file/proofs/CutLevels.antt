@@ -1,13 +1,13 @@
 -- A cut at a node, and what one below it is to the node.
 use Rattle.std.proofs.lemmas.Bool.{cases_lt}
-use Rattle.std.proofs.Common.{◌≡◌, ℕ, ◌+◌, ◌-◌, ◌%◌, ◌<◌, ◌≤◌, ◌^◌, true, false, arith, refl, sym, ◌∙◌, ap, List, [], ◌∷◌, ◌++◌, length, Option, Some, None, subst, ◌⊎◌, inl, inr, Result, Ok, Err, nat_eq, slice_get, slice_set, take, drop, suc, zero, Bool}
-use Rattle.std.specs.Prelude.{IfSome, OnErr}
+use Rattle.std.proofs.Common.{◌≡◌, ℕ, ◌+◌, ◌-◌, ◌%◌, ◌<◌, ◌≤◌, ◌^◌, true, false, arith, refl, sym, ◌∙◌, ap, List, [], ◌∷◌, ◌++◌, length, Option, Some, None, subst, ◌⊎◌, inl, inr, nat_eq, slice_get, slice_set, take, drop, suc, zero, Bool}
+use Rattle.std.specs.Prelude.{IfSome}
 use Rattle.std.proofs.lemmas.Bool.Decides.{nat_tests}
 use Rattle.std.proofs.lemmas.Option.{none-some}
 use Rattle.std.proofs.lemmas.List.{append-nil}
 use Rattle.h2_ref.specs.declared.reference.Ref.{Ref}
 use Rattle.h2_set.specs.Ranges.{Rising, limit, holds, NoneHolds, is_indirect, leads_on}
-use Rattle.h2_set.specs.Forest.{Forest, refs, loaded, told, HasLeaves, done, one, near, far, LeavesOf, Fits, IsSoundNode, IsSound, InPlace, Keeps, Renews, Fixed, KeepsBeside, Reaches, nowhere, here, below}
+use Rattle.h2_set.specs.Forest.{Forest, refs, loaded, told, HasLeaves, done, one, near, far, LeavesOf, Fits, IsSoundNode, IsSound, InPlace, Keeps, Renews, Fixed, Reaches, nowhere, here, below}
 use Rattle.h2_set.specs.StayLaws.{Fixed-refl, Fixed-trans, InPlace-refl, InPlace-trans, Walks-refl}
 use Rattle.h2_set.specs.LeafLaws.{holds_inside, holds_outside, outside_holds}
 use Rattle.h2_set.specs.ChangeLaws.{Keeps-refl, Keeps-trans, same_or_not}
@@ -15,30 +15,8 @@ use Rattle.h2_set.specs.RenewLaws.{Keeps-Renews, Renews-trans}
 use Rattle.h2_tree.specs.Changes.{Under, LoadsTouched, WalksUnder}
 use Rattle.h2_file.specs.Blocks.{HasContents}
 use Rattle.h2_file.specs.Cutting.{cut_block, IsCutBlock, in_place, cut_to, front, FitsLast, ReachesBy, misses, arrives, IsLeft, KeepsFront, Cuts, leads}
+use Rattle.h2_file.proofs.Answering.{Touched-refl, Touched-on}
 use Rattle.h2_file.proofs.Parts.{cut_append, cut_one, cut_key, end_block, Parted, leaves_parted, leaves_join, behind_gone, before_stays, take_from, drop_from, take_next, set_next, in_order, taken_at}
-
-pub always_err : {T E P : Type 0} (r : Result T E) → P → OnErr r P
-always_err (Ok o) p = tt
-always_err (Err e) p = p
-
-pub beside_on : {B : Type 0} (f g h : Forest) (a b c : ℕ → B) → ((m : ℕ) → f.stands m ≡ true → g.stands m ≡ true) → KeepsBeside f g a b → KeepsBeside g h b c → KeepsBeside f h a c
-beside_on f g h a b c still first second = record { same = λ m st st'. let there = still m st in second.same m there st' ∙ first.same m st there }
-
-pub Touched-refl : (f : Forest) (from to : ℕ) → LoadsTouched f f from to
-Touched-refl f from to = record { only = λ m st. inl st }
-
-pub Touched-on : (f g h : Forest) (from to : ℕ) → ((m : ℕ) → g.stands m ≡ true → h.stands m ≡ true → InPlace g h m) → LoadsTouched f g from to → LoadsTouched g h from to → LoadsTouched f h from to
-Touched-on f g h from to places a b = record {
-  only = λ m st. elim (b.only m st) as (λ _. (f.stands m ≡ true) ⊎ ((h.low m ≤ to) × (from < h.low m + 2 ^ h.bits m))) [
-    | inr new ↦ inr new
-    | inl was ↦ elim (a.only m was) as (λ _. (f.stands m ≡ true) ⊎ ((h.low m ≤ to) × (from < h.low m + 2 ^ h.bits m))) [
-      | inl first ↦ inl first
-      | inr new ↦
-          let place = places m was st in
-          inr (omega (arith, place.low, new.0), omega (arith, place.low, ap (λ z. 2 ^ z) place.bits, new.1))
-    ]
-  ];
-}
 
 -- each reference of a file's tree is a block long at least
 pub wide : (f : Forest) (at : ℕ) (r : Ref) → HasContents f at → Fits f at r → 14 ≤ r.keybits
@@ -113,7 +91,7 @@ in_append (z ∷ xs) x (suc i) y e = in_append xs x i y e
 pub cuts_front : (f k g : Forest) (at size count : ℕ) (last last' : Option Ref) → Readied f k at size → KeepsFront k g at count last' → ((l : List Ref) → LeavesOf f at l → HasLeaves k at (front count last' (refs k at)) (cut_to size last l)) → ((key : ℕ) → size ≤ key → FrontLeft k at (front count last' (refs k at)) size last key) → ((key : ℕ) (o : Option Ref) → key < cut_block size → Reaches f key at o → ReachesBy k key at (front count last' (refs k at)) o) → Cuts f g at size last
 cuts_front f k g at size count last last' mid keeps leaves past before = record {
   sound = keeps.sound;
-  fixed = Fixed-trans f k g mid.fixed keeps.fixed;
+  fixed = Fixed-trans f k g (λ m st st'. keeps.none_new m st') mid.fixed keeps.fixed;
   place = InPlace-trans f k g at mid.place keeps.place;
   leaves = λ l hl. keeps.leaves (cut_to size last l) (leaves l hl);
   before = λ key o lt reached. keeps.paths key o (before key o lt reached);
@@ -394,10 +372,6 @@ module _ (f : Forest) (at count size : ℕ) (last : Option Ref) (r : Ref) (sound
 
 pub under_refl : (f : Forest) (at : ℕ) → IsSound f → WalksUnder f f at
 under_refl f at sound = record { walks = Walks-refl f sound; keeps = λ m st out. Keeps-refl f m st }
-
--- three changes, of which the first loses no node and the last makes none
-pub beside_over : {B : Type 0} (f h k g : Forest) (a b c d : ℕ → B) → ((m : ℕ) → f.stands m ≡ true → h.stands m ≡ true) → ((m : ℕ) → g.stands m ≡ true → k.stands m ≡ true) → KeepsBeside f h a b → KeepsBeside h k b c → KeepsBeside k g c d → KeepsBeside f g a d
-beside_over f h k g a b c d still none_new first second third = record { same = λ m st st'. let there = still m st in let was = none_new m st' in third.same m was st' ∙ (second.same m there was ∙ first.same m st there) }
 
 -- At a root, where nothing is below the size: all its references go
 

@@ -19,9 +19,10 @@ use Rattle.h2_file.specs.declared.cutting.Left.{Left}
 use Rattle.h2_file.specs.declared.cutting.Left.TheVariants.{Nothing, All, Something}
 use Rattle.h2_file.specs.Cutting.{cut_block, cut_to, front, ReachesBy, misses, arrives, leads, IsChanged, KeepsFront, Shortens, Cuts, CutsNodes, Remains}
 use Rattle.h2_file.specs.Sizing.{Sizes}
+use Rattle.h2_file.proofs.Answering.{Touched-on}
 use Rattle.h2_file.proofs.Parts.{taken_at}
 use Rattle.h2_file.proofs.Fronts.{front_length}
-use Rattle.h2_file.proofs.CutLevels.{Touched-on, Readied, FrontLeft, cuts_front, root_ready}
+use Rattle.h2_file.proofs.CutLevels.{Readied, FrontLeft, cuts_front, root_ready}
 
 -- A node that a walk down from another leads to
 

@@ -9,7 +9,7 @@ use Rattle.h2_ref.specs.declared.reference.Kind.{Kind}
 use Rattle.h2_ref.specs.declared.reference.Kind.TheVariants.{Inode, Content}
 use Rattle.h2_set.specs.Ranges.{Rising, limit, holds, is_indirect, leads_on}
 use Rattle.h2_set.specs.RefSet.{RefSet}
-use Rattle.h2_set.specs.Forest.{Forest, refs, loaded, HasLeaves, KeepsLeaves, Fits, IsSoundNode, IsSound, InPlace, Stays, Keeps, IsAlike, Alters, Stores, Storable, Same, AllRenewed, GoesBelow, GoesWith, OnWay, inside, across, IsAbove, itself, by, Reaches, nowhere, here, below}
+use Rattle.h2_set.specs.Forest.{Forest, refs, loaded, HasLeaves, KeepsLeaves, Fits, IsSoundNode, IsSound, InPlace, Fixed, Stays, Keeps, IsAlike, Alters, Stores, Storable, Same, AllRenewed, GoesBelow, GoesWith, OnWay, inside, across, IsAbove, itself, by, Reaches, nowhere, here, below}
 use Rattle.h2_set.specs.StayLaws.{Alike-refl, Fixed-trans, InPlace-trans, leaves_stay}
 use Rattle.h2_set.specs.LeafLaws.{holds_inside, place_above}
 use Rattle.h2_set.specs.EditLaws.{Rising-set, length-slice_set}
@@ -91,16 +91,21 @@ pub nothing_goes : (f : Forest) (at : ℕ) (s : RefSet) → IsSound f → HasCon
 nothing_goes f at s sound holds m st goes =
     let it = sound.owner m (f.root at) goes.key st goes.belongs in
     let may : f.allows (f.root (f.root at)) it.leaf ≡ true = reached_allowed sound it.stands it.path it.leaf refl in
-    let is : it.leaf.kind ≡ Content = holds.kinds it.leaf (subst (λ n. f.allows n it.leaf ≡ true) it.root may) in
+    let is : it.leaf.kind ≡ Content = (holds.kinds it.leaf (subst (λ n. f.allows n it.leaf ≡ true) it.root may)).0 in
     let clash : Inode ≡ Content = sym it.kind_is ∙ is in
     cc
 
-pub contents_keep : (f g : Forest) (at : ℕ) → (f.root at ≡ g.root at) → ((m : ℕ) → g.leaf_bits m ≡ f.leaf_bits m) → ((m : ℕ) (r : Ref) → g.allows m r ≡ f.allows m r) → HasContents f at → HasContents g at
-contents_keep f g at root bits allows h = record {
-  kinds = λ r e. h.kinds r (sym (allows (f.root at) r) ∙ subst (λ m. g.allows m r ≡ true) (sym root) e);
-  kinds_all = λ r e. subst (λ m. g.allows m r ≡ true) root (allows (f.root at) r ∙ h.kinds_all r e);
-  keybits = ap g.leaf_bits (sym root) ∙ (bits (f.root at) ∙ h.keybits);
-}
+pub contents_keep : (f g : Forest) (at : ℕ) → IsSound f → IsSound g → f.stands at ≡ true → InPlace f g at → Fixed f g → HasContents f at → HasContents g at
+contents_keep f g at sound sound_g stands place fixed h =
+    let root : f.root at ≡ g.root at = sym place.root in
+    let top : f.stands (f.root at) ≡ true = (sound.top at stands).0 in
+    let top_g : g.stands (f.root at) ≡ true = subst (λ n. g.stands n ≡ true) place.root (sound_g.top at place.stands).0 in
+    let allows : (r : Ref) → g.allows (f.root at) r ≡ f.allows (f.root at) r = λ r. fixed.allows (f.root at) r top top_g in
+    record {
+      kinds = λ r e. h.kinds r (sym (allows r) ∙ subst (λ m. g.allows m r ≡ true) (sym root) e);
+      kinds_all = λ r e is. subst (λ m. g.allows m r ≡ true) root (allows r ∙ h.kinds_all r e is);
+      keybits = ap g.leaf_bits (sym root) ∙ (fixed.leaf_bits (f.root at) top top_g ∙ h.keybits);
+    }
 
 -- Loaded paths through nodes that keep what they have
 
@@ -151,7 +156,7 @@ module _ (f h : Forest) (at count : ℕ) (last : Option Ref) (sound : IsSound f)
   same = own_set f h at sound stands alters
 
   holds_h : HasContents h at
-  holds_h = contents_keep f h at (sym here_at.place.root) alters.fixed.leaf_bits alters.fixed.allows holds
+  holds_h = contents_keep f h at sound alters.sound stands here_at.place alters.fixed holds
 
   pub fits_h : IfSome last (FitsLast (refs h at) count)
   fits_h = subst (λ (s : RefSet). IfSome last (FitsLast s.refs count)) (sym same) fits
@@ -173,11 +178,11 @@ module _ (f h : Forest) (at count : ℕ) (last : Option Ref) (sound : IsSound f)
       let class : (q.key < 2 ^ 62) ⊎ (2 ^ 63 ≤ q.key) = rw is.key at old.class in
       subst (λ (y : Ref). Fits h at y × (is_indirect y ≡ false)) it (
         record {
-          held = is.held;
+          held = λ ind. absurd (no ind);
           aligned = aligned;
           class = class;
           leaf = λ _. sym bits ∙ old.leaf is.leaf_was;
-          allowed = λ _. holds_h.kinds_all q is.kind;
+          allowed = λ _. holds_h.kinds_all q is.kind is.held;
           wide = λ ind. absurd (no ind);
           some_bits = λ ind. absurd (no ind);
           falls = λ ind. absurd (no ind);
@@ -290,7 +295,7 @@ module _ (f h : Forest) (at count : ℕ) (last : Option Ref) (sound : IsSound f)
     pub keeps_front : KeepsFront f g at count last
     keeps_front = record {
       sound = stores.sound;
-      fixed = Fixed-trans f h g alters.fixed stores.fixed;
+      fixed = Fixed-trans f h g (λ m st st'. (altered_place f h at alters m st).stands) alters.fixed stores.fixed;
       place = InPlace-trans f h g at here_at.place stores.place;
       leaves = λ l hl.
           let P : ℕ → Type 0 = λ m. (f.stands m ≡ true) × (f.root m ≡ f.root at) in

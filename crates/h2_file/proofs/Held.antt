@@ -18,10 +18,10 @@ use Rattle.h2_file.specs.Cutting.{cut_block, IsCutBlock, in_place, cut_to, CutsF
 use Rattle.h2_file.specs.FileContents.{file_reading, FileHas, IsBlockOf, EndsIn}
 use Rattle.h2_file.proofs.Parts.{cut_key, cut_one, cut_gone}
 
-all_head : {X : Type 0} (P : X → Type 0) (x : X) (xs : List X) → All P (x ∷ xs) → P x
+pub all_head : {X : Type 0} (P : X → Type 0) (x : X) (xs : List X) → All P (x ∷ xs) → P x
 all_head P x xs h = h 0 x (omega arith)
 
-all_tail : {X : Type 0} (P : X → Type 0) (x : X) (xs : List X) → All P (x ∷ xs) → All P xs
+pub all_tail : {X : Type 0} (P : X → Type 0) (x : X) (xs : List X) → All P (x ∷ xs) → All P xs
 all_tail P x xs h = λ k d lt. h (suc k) d (omega (arith, lt))
 
 all_cons : {X : Type 0} (P : X → Type 0) (x : X) (xs : List X) → P x → All P xs → All P (x ∷ xs)

@@ -5,7 +5,8 @@ use Rattle.h2_ref.specs.declared.reference.Ref.{Ref}
 use Rattle.h2_ref.specs.declared.reference.Kind.TheVariants.{Content}
 use Rattle.h2_set.specs.Ranges.{is_indirect}
 use Rattle.h2_set.specs.RefSet.{RefSet}
-use Rattle.h2_set.specs.Forest.{Forest, refs, loaded, HasLeaves, KeepsLeaves, IsSound, InPlace, Stays, Same, Loses, Storable, KeepsBeside, Reaches, nowhere, here, below}
+use Rattle.h2_set.specs.SetBytes.{IsHeld}
+use Rattle.h2_set.specs.Forest.{Forest, refs, loaded, HasLeaves, KeepsLeaves, IsSound, InPlace, Fixed, Stays, Same, Loses, Storable, KeepsBeside, Reaches, nowhere, here, below}
 use Rattle.h2_set.specs.StayLaws.{Alike-refl, InPlace-trans, Same-Stays, leaves_stay}
 use Rattle.h2_set.specs.ChangeLaws.{leaves_move, same_or_not, Same-Keeps}
 use Rattle.h2_set.specs.RenewLaws.{Keeps-Renews, Renews-trans}
@@ -18,8 +19,8 @@ use Rattle.h2_inode.specs.NodeLaws.{storable_replaceable}
 use Rattle.h2_file.specs.Blocks.{IsFileOfRefs, HasContents}
 use Rattle.h2_file.specs.Sizing.{IsResized, HasResized, Sizes}
 use Rattle.h2_file.specs.Cutting.{Cuts, CutsNodes, CutsFile, cut_to}
+use Rattle.h2_file.proofs.Answering.{Touched-on}
 use Rattle.h2_file.proofs.CutNodes.{nodes_sized}
-use Rattle.h2_file.proofs.CutLevels.{Touched-on}
 
 some_same : {X : Type 0} {x y : X} → Some x ≡ Some y → x ≡ y
 some_same e = (cc)
@@ -31,13 +32,13 @@ both_ways false false f g = refl
 
 -- The tree of a file
 
-may_have : (f : Forest) (holds : ℕ → Option Fields) (at : ℕ) (i : Inode) (s : RefSet) → HasInode f holds at i → i.kind ≡ File → i.body ≡ Refs s → (r : Ref) → (f.allows at r ≡ true) ↔ (r.kind ≡ Content)
-may_have f holds at i s has kind body r = subst (λ k. (f.allows at r ≡ true) ↔ (r.kind ≡ leaf_kind k)) kind (subst (λ b. (f.allows at r ≡ true) ↔ MayHave i.kind b r) body (has.tree.allows r))
+may_have : (f : Forest) (holds : ℕ → Option Fields) (at : ℕ) (i : Inode) (s : RefSet) → HasInode f holds at i → i.kind ≡ File → i.body ≡ Refs s → (r : Ref) → (f.allows at r ≡ true) ↔ ((r.kind ≡ Content) × IsHeld r)
+may_have f holds at i s has kind body r = subst (λ k. (f.allows at r ≡ true) ↔ ((r.kind ≡ leaf_kind k) × IsHeld r)) kind (subst (λ b. (f.allows at r ≡ true) ↔ MayHave i.kind b r) body (has.tree.allows r))
 
 pub file_contents : (f : Forest) (holds : ℕ → Option Fields) (at : ℕ) → IsFileOfRefs f holds at → HasContents f at
 file_contents f holds at file = record {
   kinds = λ r e. (may_have f holds at file.inode file.set file.has file.kind file.body r).0 (subst (λ m. f.allows m r ≡ true) file.has.root e);
-  kinds_all = λ r e. subst (λ m. f.allows m r ≡ true) (sym file.has.root) ((may_have f holds at file.inode file.set file.has file.kind file.body r).1 e);
+  kinds_all = λ r e held. subst (λ m. f.allows m r ≡ true) (sym file.has.root) ((may_have f holds at file.inode file.set file.has file.kind file.body r).1 (e, held));
   keybits = ap f.leaf_bits file.has.root ∙ (file.has.tree.leaf_bits ∙ ap leaf_keybits file.kind);
 }
 
@@ -109,13 +110,19 @@ module _ (f : Forest) (holds : ℕ → Option Fields) (at size : ℕ) (sound : I
         let stay : (m : ℕ) → Q m → Stays f g m = λ m p. Same-Stays f g m (others m p.0 (λ e. let same = ap f.bits e in omega (arith, same, p.1))) in
         leaves_stay f g Q closed stay (st, fewer) hl (refs g d) (stay d (st, fewer)).alike
 
+    stands_on : (m : ℕ) → f.stands m ≡ true → g.stands m ≡ true
+    stands_on m st = elim (same_or_not m at) as (λ _. g.stands m ≡ true) [
+      | inl e ↦ subst (λ z. g.stands z ≡ true) (sym e) changes.place.stands
+      | inr ne ↦ (others m st ne).place.stands
+    ]
+
     allows_same : (m : ℕ) (r : Ref) → f.stands m ≡ true → g.allows m r ≡ f.allows m r
     allows_same m r st = elim (same_or_not m at) as (λ _. g.allows m r ≡ f.allows m r) [
       | inl e ↦
           let was = may_have f holds at file.inode file.set file.has file.kind file.body r in
           let now = may_have g holds' at new set has_new (is.kind ∙ (old_kind ∙ file.kind)) is.body r in
           subst (λ z. g.allows z r ≡ f.allows z r) (sym e) (both_ways (f.allows at r) (g.allows at r) (λ t. now.1 (was.0 t)) (λ t. was.1 (now.0 t)))
-      | inr ne ↦ changes.allows m r st ne
+      | inr ne ↦ changes.allows m r st (others m st ne).place.stands ne
     ]
 
     same_leaves : KeepsLeaves f g at
@@ -145,7 +152,7 @@ module _ (f : Forest) (holds : ℕ → Option Fields) (at size : ℕ) (sound : I
     pub sizes : Sizes f g at
     sizes = record {
       sound = changes.sound;
-      leaf_bits = changes.leaf_bits;
+      leaf_bits = λ m st. changes.leaf_bits m st (stands_on m st);
       allows = allows_same;
       held = changes.held;
       name = changes.name;
@@ -196,8 +203,8 @@ cuts_file f k g at size last sound stands top cuts nodes sizes = record {
       Renews-trans f k g m first (Keeps-Renews k g m (Same-Keeps k g m (sizes.others m first.place.stands (λ e. root (subst (λ z. f.root z ≡ at) (sym e) top)))));
   still = λ m st st'. let was = sizes.none_new m st' in InPlace-trans f k g m (cuts.still m st was) (place_on m was);
   touched = Touched-on f k g size size (λ m was st. place_on m was) cuts.touched (record { only = λ m st. inl (sizes.none_new m st) });
-  leaf_bits = λ m st. sizes.leaf_bits m (sizes.none_new m st) ∙ cuts.fixed.leaf_bits m;
-  allows = λ m r st. sizes.allows m r (sizes.none_new m st) ∙ cuts.fixed.allows m r;
+  leaf_bits = λ m st st'. let was = sizes.none_new m st' in sizes.leaf_bits m was ∙ cuts.fixed.leaf_bits m st was;
+  allows = λ m r st st'. let was = sizes.none_new m st' in sizes.allows m r was ∙ cuts.fixed.allows m r st was;
   held = λ m. sizes.held m ∙ cuts.fixed.held m;
   name = λ r. sizes.name r ∙ cuts.fixed.name r;
   epoch = sizes.epoch ∙ cuts.fixed.epoch;
@@ -215,35 +222,35 @@ cuts_file f k g at size last sound stands top cuts nodes sizes = record {
       | inr ne ↦ (sizes.others m st ne).place
     ]
 
--- The file between: its root has the inode with the references that are left
+-- The file between: its root has the inode with the references that it has then
 
-module _ {B : Type 0} (fields : B → Option Fields) (f k : Forest) (a b : ℕ → B) (at size : ℕ) (last : Option Ref) (cuts : Cuts f k at size last) (beside : KeepsBeside f k a b) where
+module _ {B : Type 0} (fields : B → Option Fields) (f k : Forest) (a b : ℕ → B) (at size : ℕ) (place : InPlace f k at) (fixed : Fixed f k) (beside : KeepsBeside f k a b) where
   abbrev pub between : Inode → Inode
   between i = record i { body = Refs (k.set at) }
 
   between_fields : (i : Inode) (s : RefSet) → i.body ≡ Refs s → fields_of (between i) ≡ fields_of i
   between_fields i s e = let bytes : bytes_of i.body ≡ None = ap bytes_of e in rw bytes refl
 
-  pub cut_inode : (file : IsFileOfRefs f (λ m. fields (a m)) at) → HasInode k (λ m. fields (b m)) at (between file.inode)
-  cut_inode file = record {
-    stands = cuts.place.stands;
-    root = cuts.place.root ∙ file.has.root;
+  pub kept_inode : (file : IsFileOfRefs f (λ m. fields (a m)) at) → HasInode k (λ m. fields (b m)) at (between file.inode)
+  kept_inode file = record {
+    stands = place.stands;
+    root = place.root ∙ file.has.root;
     tree = record {
-      low = cuts.place.low ∙ file.has.tree.low;
-      bits = cuts.place.bits ∙ file.has.tree.bits;
-      leaf_bits = cuts.fixed.leaf_bits at ∙ file.has.tree.leaf_bits;
-      allows = λ r. subst (λ x. (x ≡ true) ↔ (r.kind ≡ leaf_kind file.inode.kind)) (sym (cuts.fixed.allows at r)) (subst (λ y. (f.allows at r ≡ true) ↔ MayHave file.inode.kind y r) file.body (file.has.tree.allows r));
+      low = place.low ∙ file.has.tree.low;
+      bits = place.bits ∙ file.has.tree.bits;
+      leaf_bits = fixed.leaf_bits at file.has.stands place.stands ∙ file.has.tree.leaf_bits;
+      allows = λ r. subst (λ x. (x ≡ true) ↔ ((r.kind ≡ leaf_kind file.inode.kind) × IsHeld r)) (sym (fixed.allows at r file.has.stands place.stands)) (subst (λ y. (f.allows at r ≡ true) ↔ MayHave file.inode.kind y r) file.body (file.has.tree.allows r));
     };
-    fields = ap fields (beside.same at file.has.stands cuts.place.stands) ∙ (file.has.fields ∙ ap Some (sym (between_fields file.inode file.set file.body)));
+    fields = ap fields (beside.same at file.has.stands place.stands) ∙ (file.has.fields ∙ ap Some (sym (between_fields file.inode file.set file.body)));
     set = refl;
   }
 
-  abbrev pub cut_file : IsFileOfRefs f (λ m. fields (a m)) at → IsFileOfRefs k (λ m. fields (b m)) at
-  cut_file file = record { inode = between file.inode; has = cut_inode file; kind = file.kind; set = k.set at; body = refl }
+  abbrev pub kept_file : IsFileOfRefs f (λ m. fields (a m)) at → IsFileOfRefs k (λ m. fields (b m)) at
+  kept_file file = record { inode = between file.inode; has = kept_inode file; kind = file.kind; set = k.set at; body = refl }
 
   -- resized, it is the first one resized
-  pub cut_resized : (g : Forest) (holds : ℕ → Option Fields) (file : IsFileOfRefs f (λ m. fields (a m)) at) → HasResized g holds at (between file.inode) size → HasResized g holds at file.inode size
-  cut_resized g holds file h = record { inode = h.inode; has = h.has; is = record { kind = h.is.kind; number = h.is.number; size_is = h.is.size_is; links = h.is.links; next = h.is.next; name = h.is.name; body = h.is.body } }
+  pub kept_resized : (g : Forest) (holds : ℕ → Option Fields) (file : IsFileOfRefs f (λ m. fields (a m)) at) → HasResized g holds at (between file.inode) size → HasResized g holds at file.inode size
+  kept_resized g holds file h = record { inode = h.inode; has = h.has; is = record { kind = h.is.kind; number = h.is.number; size_is = h.is.size_is; links = h.is.links; next = h.is.next; name = h.is.name; body = h.is.body } }
 
 pub others_beside : {B : Type 0} (f k g : Forest) (at : ℕ) (a b c : ℕ → B) → ((m : ℕ) → g.stands m ≡ true → k.stands m ≡ true) → KeepsBeside f k a b → KeepsOthersBeside k g at b c → KeepsOthersBeside f g at a c
 others_beside f k g at a b c none_new first second = record { same = λ m ne st st'. let was = none_new m st' in second.same m ne was st' ∙ first.same m st was }

@@ -10,6 +10,12 @@ use Rattle.h2_inode.specs.declared.inode.Body.TheVariants.{Refs}
 use Rattle.h2_inode.specs.declared.inode.Inode.{Inode}
 use Rattle.h2_inode.specs.Nodes.{Fields, HasInode}
 
+-- node at is the root of a file
+pub record IsFile (f : Forest) (holds : ℕ → Option Fields) (at : ℕ) : Type 0 where
+  pub inode : Inode
+  pub has : HasInode f holds at inode
+  pub kind : inode.kind ≡ File
+
 -- node at is the root of a file whose body is references
 pub record IsFileOfRefs (f : Forest) (holds : ℕ → Option Fields) (at : ℕ) : Type 0 where
   pub inode : Inode

@@ -176,8 +176,8 @@ pub record CutsFile (f g : Forest) (at size : ℕ) (last : Option Ref) : Type 0 
   pub still : (m : ℕ) → f.stands m ≡ true → g.stands m ≡ true → InPlace f g m
   -- no node off the path of the size was loaded
   pub touched : LoadsTouched f g size size
-  pub leaf_bits : (m : ℕ) → g.stands m ≡ true → g.leaf_bits m ≡ f.leaf_bits m
-  pub allows : (m : ℕ) (r : Ref) → g.stands m ≡ true → g.allows m r ≡ f.allows m r
+  pub leaf_bits : (m : ℕ) → f.stands m ≡ true → g.stands m ≡ true → g.leaf_bits m ≡ f.leaf_bits m
+  pub allows : (m : ℕ) (r : Ref) → f.stands m ≡ true → g.stands m ≡ true → g.allows m r ≡ f.allows m r
   pub held : (m : ℕ) → g.held m ≡ f.held m
   pub name : (r : Ref) → g.name r ≡ f.name r
   pub epoch : g.epoch ≡ f.epoch

@@ -1,8 +1,8 @@
 -- The bytes that a file's tree stands for, as its loaded nodes and what is told of others say.
-use Rattle.std.specs.Prelude.{◌≡◌, ◌<◌, ◌≤◌, ◌+◌, ℕ, true, List, Option, Some, None, slice_index}
+use Rattle.std.specs.Prelude.{◌≡◌, ◌<◌, ◌≤◌, ◌+◌, ℕ, true, List, Option, Some, None, length, slice_get, slice_index}
 use Rattle.h2_num.specs.Places.{Places}
 use Rattle.h2_ref.specs.declared.reference.Ref.{Ref}
-use Rattle.h2_set.specs.Ranges.{holds}
+use Rattle.h2_set.specs.Ranges.{holds, NoneHolds}
 use Rattle.h2_set.specs.Forest.{Forest}
 use Rattle.h2_inode.specs.Nodes.{Fields, Told}
 use Rattle.h2_inode.specs.Access.{Access}
@@ -29,3 +29,12 @@ IsBlockOf f inodes tells blocks at size bytes start (Some r) = IsPart (file_read
 pub record EndsIn (blocks : Ref → Option Places) (size : ℕ) (bytes : List ℕ) (last : Option Ref) : Type 0 where
   pub put : (q : Ref) → last ≡ Some q → (block : Places) × (blocks q ≡ Some block) × ((k : ℕ) → k < 16384 → block k ≡ slice_index (bytes_to bytes size) (q.key + k))
   pub zeros : last ≡ None → (k : ℕ) → cut_block size < size → size ≤ k → k < cut_block size + 16384 → slice_index bytes k ≡ 0
+
+-- What blocks that are put into a file have to do with its bytes before and after. Each of them has the new bytes from
+-- its key on; in all other places the bytes stay. The file doesn't shrink.
+pub record LinksBytes (blocks : Ref → Option Places) (rs : List Ref) (size : ℕ) (bytes new : List ℕ) : Type 0 where
+  pub sized : length new ≡ size
+  pub grows : length bytes ≤ size
+  pub below : (i : ℕ) (r : Ref) → slice_get rs i ≡ Some r → r.key < size
+  pub put : (i : ℕ) (r : Ref) → slice_get rs i ≡ Some r → (block : Places) × (blocks r ≡ Some block) × ((k : ℕ) → k < 16384 → block k ≡ slice_index new (r.key + k))
+  pub same : (k : ℕ) → NoneHolds k rs → slice_index new k ≡ slice_index bytes k

@@ -3,3 +3,4 @@ pub mod Blocks
 pub mod Cutting
 pub mod Sizing
 pub mod FileContents
+pub mod Linking

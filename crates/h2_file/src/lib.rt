@@ -9,11 +9,15 @@
 //! references, where it is known, is `find` and `cut_to` (`specs/Cutting`), of its bytes `FileHas`
 //! (`specs/FileContents`), and of loaded paths, whatever is known of others, `Reaches`. A cut copies the lowest
 //! node of which something goes, and those above it (`CutsNodes`).
+//!
+//! `link_blocks` puts the references of new blocks in (`specs/Linking`): of the list it makes `put_each`, and of the bytes
+//! those of the blocks in their places (`LinksBytes`). It is the chain of insertions that it says it is (`LinksNodes`).
 #![tactic(auto)]
 
 mod blocks;
 mod cutting;
 mod fault;
+mod linking;
 mod merging;
 mod reading;
 mod sizing;
@@ -22,6 +26,7 @@ mod touching;
 pub use blocks::Touched;
 pub use cutting::cut_blocks;
 pub use fault::{FILE_BYTES, FileFault, check_end};
+pub use linking::link_blocks;
 pub use merging::merge;
 pub use reading::read_block;
 pub use touching::{BLOCK_BYTES, EMBEDDED_BYTES, touched};

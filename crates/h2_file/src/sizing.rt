@@ -18,7 +18,7 @@ fn copy_of(name: &PfsName) -> PfsName
 }
 
 // The inode with this size and these references.
-fn resized(inode: &Inode, set: Set, size: u64) -> Inode
+pub(crate) fn resized(inode: &Inode, set: Set, size: u64) -> Inode
     ensures { IsResized inode.now result size set }
 {
     Inode {

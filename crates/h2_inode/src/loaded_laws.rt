@@ -15,7 +15,8 @@ ghost use Rattle.h2_inode.specs.Nodes.{Fields, Told, HasInode, IsInodeLeaf, IsNa
 ghost use Rattle.h2_inode.specs.Contents.{IsContents};
 ghost use Rattle.h2_inode.specs.Directory.{Entries, IsDirectory};
 ghost use Rattle.h2_inode.specs.PfsList.{ListedPfs, IsPfsList};
-ghost use Rattle.h2_inode.specs.Loaded.{Tree, at_root, NamesInode, View, reading, no_content, IsSameTree, HoldsOn, HoldsBut, TellsOn, Rereads, StandsAlike, NamesOne};
+ghost use Rattle.h2_inode.specs.Loaded.{Tree, at_root, NamesInode, View, reading, no_content, IsSameTree, HoldsOn, HoldsBut, TellsOn, Rereads, StandsAlike, over_loads, NamesOne};
+ghost use Rattle.h2_inode.specs.Following.{Follows};
 ghost use Rattle.h2_inode.specs.Single.{IsSingle};
 ghost use Rattle.h2_inode.specs.LoadedExample.{listed};
 
@@ -31,7 +32,8 @@ pub fn rereading_law()
 
 /// A law of loads one after the other: the tree of each root that stood stands for what it stood for, be it a file's
 /// bytes, a directory's entries, or a list of PFSs. Which numbers entries may name, and which bytes the blocks of
-/// contents have, is as it may be.
+/// contents have, is as it may be. The reading after one load follows that before it, so that tables and forests stand
+/// for the same too.
 pub fn loads_law()
     ensures chained { (u v w : View) → StandsAlike u v → StandsAlike v w → StandsAlike u w }
     ensures contents { (u v : View) (block : Ref → Option Places) (at size : ℕ) (bytes : List ℕ) → StandsAlike u v → u.forest.stands at ≡ true
@@ -42,6 +44,7 @@ pub fn loads_law()
         → IsDirectory (reading v no_content) (λ target number. may target number ≡ true) (at_root at) size entries }
     ensures pfs_lists { (u v : View) (at next : ℕ) (pfss : List ListedPfs) → StandsAlike u v → u.forest.stands at ≡ true
         → IsPfsList (reading u no_content) (at_root at) next pfss → IsPfsList (reading v no_content) (at_root at) next pfss }
+    ensures follows { (u v : View) (block : Ref → Option Places) → Rereads u v → Follows (over_loads u v (λ r b. block r ≡ Some b)) }
 {}
 
 /// A law with worked values: an inode without references stands for a directory without entries, and one leaf that

@@ -1,5 +1,7 @@
-ghost use Rattle.std.specs.Prelude.{◌≡◌, ◌≤◌, ℕ, true, false, Option, Some, IfOk, IfErr, OnErr};
+ghost use Rattle.std.specs.Prelude.{◌≡◌, ◌≤◌, ℕ, true, false, Option, Some, IfOk, IfErr, OnErr, OnOk};
 ghost use Rattle.h2_ref.specs.declared.reference.Ref.{Ref};
+ghost use Rattle.h2_ref.specs.declared.faults.Trouble.{Trouble};
+ghost use Rattle.h2_ref.specs.declared.faults.Why.{Why};
 ghost use Rattle.h2_set.specs.Forest.{IsBad, IsSound, Unchanged, HasCause, KeepsBeside};
 ghost use Rattle.h2_inode.specs.declared.inode.Inode.{Inode};
 ghost use Rattle.h2_inode.specs.Inode.{IsInode};
@@ -25,9 +27,9 @@ pub trait Nodes: Sets {
     ghost told: { Self → Ref → Option Told };
 
     /// The root of the inode that an Inode leaf names, in the tree of the root `root`, loaded where it wasn't. The
-    /// leaf's path is loaded. Trouble only where the inode wasn't loaded: Failed where the disk failed, Bad where the
-    /// block isn't that of the inode whose number is the key, which is never so of one that is told. After it nothing
-    /// but the two counts has changed.
+    /// leaf's path is loaded. Trouble only where the inode wasn't loaded: Failed where the disk failed, Bad with the
+    /// leaf's place where the block isn't that of the inode whose number is the key, which is never so of one that is
+    /// told. After it nothing but the two counts and the last bad block that was met has changed.
     fn seek(&mut self, alloc: Global, root: NodeId, leaf: &Ref) -> Result<NodeId, Trouble>
         requires sound { IsSound (Self.forest self.old) }
         requires leaf { IsInodeLeaf (Self.forest self.old) root.0 leaf.now }
@@ -38,6 +40,8 @@ pub trait Nodes: Sets {
         ensures same { OnErr result (Unchanged (Self.forest self.old) (Self.forest self.new)) }
         ensures err { IfErr result (HasCause (Self.forest self.old) (Self.forest self.new)) }
         ensures unloaded { OnErr result (let r : Ref = leaf.now in IsUnloaded (Self.forest self.old) root.0 r.key) }
+        ensures place { let r : Ref = leaf.now in IfErr result (λ e. (place : ℕ) (why : Why) → e ≡ Trouble.Bad place why → place ≡ r.place) }
+        ensures met { let f = Self.forest self.old in let g = Self.forest self.new in OnOk result (g.met ≡ f.met) }
         ensures good { IfErr result (λ e. (x : Told) → told self.old leaf.now ≡ Some x → IsBad e → ⊥) }
         ensures beside { KeepsBeside (Self.forest self.old) (Self.forest self.new) (Self.beside self.old) (Self.beside self.new) }
         ensures later { Self.later self.old self.new };

@@ -41,3 +41,4 @@ pub mod Stored
 pub mod Parted
 pub mod Unsought
 pub mod Replacing
+pub mod Brought

@@ -91,7 +91,7 @@ absent_named p (q ∷ qs) absent = decide (pointwise nat_eq q.name p.name) refl 
         (cc)) (rest it)
 
 -- a root that was renewed on the way
-steps_renew : (f g : Forest) (new : ℕ → Option Fields) (top : ℕ) (leaf : Ref) (inode : Inode) (c : ℕ) → Founds f g new top leaf inode → f.stands c ≡ true → (f.root c ≡ f.root top → ⊥) → f.stands top ≡ true → Renews f g c
+pub steps_renew : (f g : Forest) (new : ℕ → Option Fields) (top : ℕ) (leaf : Ref) (inode : Inode) (c : ℕ) → Founds f g new top leaf inode → f.stands c ≡ true → (f.root c ≡ f.root top → ⊥) → f.stands top ≡ true → Renews f g c
 steps_renew f g new top leaf inode c it stands other stands_top =
     let first = it.readies.same c stands in
     let above = (it.readies.same top stands_top).place in
@@ -106,7 +106,7 @@ steps_place f g new top leaf inode it stands =
     let third = (it.plants.brings.same top second.stands).place in
     InPlace-trans f it.put g top (InPlace-trans f it.ready it.put top first second) third
 
-steps_rules : (f g : Forest) (new : ℕ → Option Fields) (top : ℕ) (leaf : Ref) (inode : Inode) (c : ℕ) → Founds f g new top leaf inode → f.stands c ≡ true → SameRules f g c
+pub steps_rules : (f g : Forest) (new : ℕ → Option Fields) (top : ℕ) (leaf : Ref) (inode : Inode) (c : ℕ) → Founds f g new top leaf inode → f.stands c ≡ true → SameRules f g c
 steps_rules f g new top leaf inode c it stands =
     let first = (it.readies.same c stands).place.stands in
     let second = (it.inserts.still c first).stands in

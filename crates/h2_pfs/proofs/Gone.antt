@@ -1,5 +1,5 @@
 -- What the removal of a PFS's leaf leaves.
-use Rattle.std.proofs.Common.{◌≡◌, ℕ, ◌<◌, ◌≤◌, ◌+◌, ◌-◌, ◌^◌, true, arith, sym, ◌∙◌, ap, subst, List, [], ◌∷◌, Option, Some, None}
+use Rattle.std.proofs.Common.{◌≡◌, ℕ, ◌<◌, ◌≤◌, ◌+◌, ◌-◌, ◌^◌, true, false, arith, sym, ◌∙◌, ap, subst, List, [], ◌∷◌, Option, Some, None}
 use Rattle.std.specs.Prelude.{IfSome, IfNone}
 use Rattle.h2_ref.specs.declared.reference.Ref.{Ref}
 use Rattle.h2_set.specs.Ranges.{Rising, without}
@@ -12,10 +12,11 @@ use Rattle.h2_tree.specs.TreeLaws.{lists_agree}
 use Rattle.h2_dirkey.specs.PfsName.{IsPfsName}
 use Rattle.h2_inode.specs.Nodes.{Fields, Told, held_by, Visits}
 use Rattle.h2_inode.specs.Access.{OneByOne}
-use Rattle.h2_inode.specs.Loaded.{loaded_nodes, at_root, no_content}
+use Rattle.h2_inode.specs.Loaded.{loaded_nodes, at_root, no_content, StandsAlike, view_of}
 use Rattle.h2_inode.specs.PfsList.{ListedPfs, IsPfs}
 use Rattle.h2_pfs.specs.Listing.{HasPfss, without_id}
-use Rattle.h2_pfs.specs.Meets.{IsMet, Meets, HasId}
+use Rattle.h2_pfs.specs.Meets.{IsMet, Meets, HasId, LoadsPfss}
+use Rattle.h2_pfs.specs.Others.{KeepsOtherTrees}
 use Rattle.h2_pfs.specs.Removal.{RemovesPfs}
 use Rattle.h2_pfs.proofs.Scanned.{whole_range}
 use Rattle.h2_pfs.proofs.Renewed.{IsLoadedPfs, all_loaded, listed_pfs, renewed_pfs, fixed_rules, other_tree, other_leaf}
@@ -28,6 +29,10 @@ pub record Gone (f g : Forest) (top key : ℕ) : Type 0 where
   pub removes : Removes f g top leaf
   pub paths : KeepsPaths f g top leaf
   pub path : Reaches g leaf.key top None
+
+-- the key of the leaf that went out
+abbrev pub key_of : {f g : Forest} {top key : ℕ} → Gone f g top key → ℕ
+key_of it = let leaf = it.leaf in leaf.key
 
 -- a leaf that a loaded path leads to is removed
 pub gone : (f g : Forest) (top key : ℕ) (r : Ref) (o : Option Ref) → IsSound f → f.stands top ≡ true → Reaches f key top (Some r) → r.key ≡ key → IfSome o (Removes f g top) → IfSome o (λ leaf. leaf.key ≡ key) → IfSome o (KeepsPaths f g top) → IfSome o (λ leaf. Reaches g leaf.key top None) → IfNone o (Walks f g) → IfNone o (LacksLeaf g top key) → Gone f g top key
@@ -85,11 +90,14 @@ pub held_beside : {B : Type 0} (fields : B → Option Fields) (f g : Forest) (ol
 held_beside fields f g old new beside = record { same = λ m st st'. ap fields (beside.same m st st') }
 
 -- the PFS with the name went
-pub removes_pfs : {B : Type 0} (fields : B → Option Fields) (f h g : Forest) (old mid new : ℕ → B) (top id : ℕ) (name : List ℕ) → Visits f h → KeepsBeside f h old mid → KeepsBeside h g mid new → HasId h (held_by fields mid) top name (Some id) → Gone h g top id → RemovesPfs f g (held_by fields old) (held_by fields new) top name
-removes_pfs fields f h g old mid new top id name visits before after found it = record {
+pub removes_pfs : {B : Type 0} (fields : B → Option Fields) (f h g : Forest) (old mid new : ℕ → B) (was tells : Ref → Option Told) (top id : ℕ) (name : List ℕ) → Visits f h → StandsAlike (view_of fields f old was) (view_of fields h mid tells) → LoadsPfss f h top → KeepsBeside f h old mid → KeepsBeside h g mid new → HasId h (held_by fields mid) top name (Some id) → (it : Gone h g top id) → ((m : ℕ) → h.stands m ≡ true → h.belongs m top (key_of it) ≡ true → g.stands m ≡ false) → KeepsOtherTrees h g (held_by fields mid) (held_by fields new) top (λ c. h.belongs c top (key_of it) ≡ true) → RemovesPfs f g (held_by fields old) (held_by fields new) was top name
+removes_pfs fields f h g old mid new was tells top id name visits alike loads before after found it all_gone others = record {
   then = h;
   holds = held_by fields mid;
+  tells = tells;
   visits = visits;
+  alike = alike;
+  loads = loads;
   before = held_beside fields f h old mid before;
   after = held_beside fields h g mid new after;
   leaf = it.leaf;
@@ -97,4 +105,6 @@ removes_pfs fields f h g old mid new top id name visits before after found it = 
   removes = it.removes;
   paths = it.paths;
   path = it.path;
+  gone = all_gone;
+  others = others;
 }

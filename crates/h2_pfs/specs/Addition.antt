@@ -7,8 +7,10 @@ use Rattle.h2_tree.specs.Changes.{Inserts, KeepsPaths}
 use Rattle.h2_inode.specs.declared.inode.Inode.{Inode}
 use Rattle.h2_inode.specs.Nodes.{Fields, Told, HasInode, Visits, Plants}
 use Rattle.h2_inode.specs.PfsList.{ListedPfs}
+use Rattle.h2_inode.specs.Loaded.{StandsAlike}
 use Rattle.h2_pfs.specs.Listing.{id_of, put_pfs, HasPfss}
-use Rattle.h2_pfs.specs.Meets.{Meets}
+use Rattle.h2_pfs.specs.Meets.{Meets, LoadsPfss}
+use Rattle.h2_pfs.specs.Others.{KeepsOtherTrees}
 
 -- No leaf has the id as its key: the path of the key is loaded and leads to none, or the leaves are known.
 abbrev pub IsFreeId : Forest → ℕ → ℕ → Type 0
@@ -37,15 +39,20 @@ pub record Founds (f g : Forest) (new : ℕ → Option Fields) (top : ℕ) (leaf
   pub has : HasInode g new node inode
   pub path : Reaches g leaf.key top (Some leaf)
 
--- Once all leaves and the inodes that they name were loaded, the PFS was added.
-pub record AddsPfs (f g : Forest) (old new : ℕ → Option Fields) (top : ℕ) (leaf : Ref) (inode : Inode) : Type 0 where
+-- Once all leaves and the inodes that they name were loaded, while all trees stand for what they stood for, the PFS was
+-- added. Other trees stay.
+pub record AddsPfs (f g : Forest) (old new : ℕ → Option Fields) (was : Ref → Option Told) (top : ℕ) (leaf : Ref) (inode : Inode) : Type 0 where
   pub then : Forest
   pub holds : ℕ → Option Fields
+  pub tells : Ref → Option Told
   pub visits : Visits f then
+  pub alike : StandsAlike (record { forest = f; holds = old; tells = was }) (record { forest = then; holds = holds; tells = tells })
+  pub loads : LoadsPfss f then top
   pub before : KeepsBeside f then old holds
   pub after : KeepsBeside then g holds new
   pub space : HasSpace then holds top inode.name
   pub founds : Founds then g new top leaf inode
+  pub others : KeepsOtherTrees then g holds new top (λ c. ⊥)
 
 -- where the tree stood for a list of PFSs, it stands for it with one more now; the next PFS id may have risen
 abbrev pub PutsPfs : (f g : Forest) (old new : ℕ → Option Fields) (was now : Ref → Option Told) → ℕ → ListedPfs → Type 0

@@ -3,5 +3,6 @@ pub mod Listing
 pub mod Mets
 pub mod Meets
 pub mod Faults
+pub mod Others
 pub mod Removal
 pub mod Addition

@@ -1,5 +1,5 @@
 -- What a scan of the super-root's tree meets: all of its leaves, and the inodes that they name.
-use Rattle.std.specs.Prelude.{◌≡◌, ℕ, ◌-◌, ◌^◌, List, Option, Some, slice_get}
+use Rattle.std.specs.Prelude.{◌≡◌, ◌⊎◌, ℕ, ◌-◌, ◌^◌, true, false, List, Option, Some, slice_get}
 use Rattle.h2_ref.specs.declared.reference.Ref.{Ref}
 use Rattle.h2_set.specs.Ranges.{Rising}
 use Rattle.h2_set.specs.Forest.{Forest}
@@ -55,3 +55,11 @@ TellsFields f holds tells top r x = (i : Inode) (t : Tree) → NamesInode f hold
 -- the leaf names an inode that is loaded now, and is the one that was known before
 abbrev pub MetBy : (f g : Forest) → (ℕ → Option Fields) → (ℕ → Option Fields) → (Ref → Option Told) → ℕ → Ref → ListedPfs → Type 0
 MetBy f g old new tells top r p = (met : IsMet g new top r p) × TellsFields f old tells top r (fields_of met.inode)
+
+-- root m is that of an inode that a leaf of the tree names
+abbrev pub IsNamedRoot : Forest → ℕ → ℕ → Type 0
+IsNamedRoot f top m = (leaf : Ref) × IsInodeLeaf f top leaf × IsNamed f top leaf.key m
+
+-- each node that was loaded is of the super-root's tree, or the root of an inode that a leaf of it names
+pub record LoadsPfss (f g : Forest) (top : ℕ) : Type 0 where
+  pub only : (m : ℕ) → f.stands m ≡ false → g.stands m ≡ true → (g.root m ≡ top) ⊎ IsNamedRoot g top m

@@ -1,13 +1,15 @@
 -- How a PFS is removed.
-use Rattle.std.specs.Prelude.{◌≡◌, ℕ, true, List, Option, Some, None}
+use Rattle.std.specs.Prelude.{◌≡◌, ℕ, true, false, List, Option, Some, None}
 use Rattle.h2_ref.specs.declared.reference.Ref.{Ref}
 use Rattle.h2_set.specs.Forest.{Forest, Reaches, KeepsBeside}
 use Rattle.h2_tree.specs.Changes.{Removes, KeepsPaths}
 use Rattle.h2_inode.specs.declared.inode.Inode.{Inode}
 use Rattle.h2_inode.specs.Nodes.{Fields, Told, HasInode, IsNamed, Visits}
 use Rattle.h2_inode.specs.PfsList.{ListedPfs}
+use Rattle.h2_inode.specs.Loaded.{StandsAlike}
 use Rattle.h2_pfs.specs.Listing.{id_of, without_id, HasPfss}
-use Rattle.h2_pfs.specs.Meets.{HasId}
+use Rattle.h2_pfs.specs.Meets.{HasId, LoadsPfss}
+use Rattle.h2_pfs.specs.Others.{KeepsOtherTrees}
 
 -- the leaf with this key names a PFS that is loaded and has another name
 pub record HasOtherName (f : Forest) (holds : ℕ → Option Fields) (top key : ℕ) (name : List ℕ) : Type 0 where
@@ -21,12 +23,15 @@ pub record HasOtherName (f : Forest) (holds : ℕ → Option Fields) (top key : 
 abbrev pub NoneHeld : Forest → (ℕ → Option Fields) → ℕ → List ℕ → Type 0
 NoneHeld f holds top name = (m key : ℕ) → f.held m ≡ true → f.belongs m top key ≡ true → HasOtherName f holds top key name
 
--- Once all leaves and the inodes that they name were loaded, the leaf of the PFS with the name went out, and with it
--- all that belongs to it.
-pub record RemovesPfs (f g : Forest) (old new : ℕ → Option Fields) (top : ℕ) (name : List ℕ) : Type 0 where
+-- Once all leaves and the inodes that they name were loaded, while all trees stand for what they stood for, the
+-- leaf of the PFS with the name went out, and with it all that belongs to it. Other trees stay.
+pub record RemovesPfs (f g : Forest) (old new : ℕ → Option Fields) (was : Ref → Option Told) (top : ℕ) (name : List ℕ) : Type 0 where
   pub then : Forest
   pub holds : ℕ → Option Fields
+  pub tells : Ref → Option Told
   pub visits : Visits f then
+  pub alike : StandsAlike (record { forest = f; holds = old; tells = was }) (record { forest = then; holds = holds; tells = tells })
+  pub loads : LoadsPfss f then top
   pub before : KeepsBeside f then old holds
   pub after : KeepsBeside then g holds new
   pub leaf : Ref
@@ -34,6 +39,8 @@ pub record RemovesPfs (f g : Forest) (old new : ℕ → Option Fields) (top : �
   pub removes : Removes then g top leaf
   pub paths : KeepsPaths then g top leaf
   pub path : Reaches g leaf.key top None
+  pub gone : (m : ℕ) → then.stands m ≡ true → then.belongs m top leaf.key ≡ true → g.stands m ≡ false
+  pub others : KeepsOtherTrees then g holds new top (λ c. then.belongs c top leaf.key ≡ true)
 
 -- where the tree stood for a list of PFSs, one of them has the name, and the tree stands for the others now
 abbrev pub DropsPfs : (f g : Forest) (old new : ℕ → Option Fields) (was now : Ref → Option Told) → ℕ → List ℕ → Type 0

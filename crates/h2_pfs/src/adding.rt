@@ -5,9 +5,11 @@ ghost use Rattle.h2_tree.specs.Changes.{Takes};
 ghost use Rattle.h2_inode.specs.declared.inode.Inode.{Inode};
 ghost use Rattle.h2_inode.specs.declared.kind.InodeKind.{InodeKind};
 ghost use Rattle.h2_inode.specs.Nodes.{held_by, IsPlantable, Visits};
+ghost use Rattle.h2_inode.specs.Loaded.{StandsAlike, view_of};
 ghost use Rattle.h2_inode.specs.PfsList.{ListedPfs};
 ghost use Rattle.h2_pfs.specs.SuperRoot.{IsSuperRoot};
 ghost use Rattle.h2_pfs.specs.Listing.{HasPfss, KeepsPfss};
+ghost use Rattle.h2_pfs.specs.Meets.{LoadsPfss};
 ghost use Rattle.h2_pfs.specs.Addition.{IsFreeId, pfs_of, HasSpace, Founds, AddsPfs, PutsPfs};
 ghost use Rattle.h2_pfs.specs.Faults.{IsSpaceFault, IsAddFault, IsFaultIn};
 
@@ -32,6 +34,8 @@ fn make_space<N: Nodes>(alloc: Global, n: &mut N, root: NodeId, name: &[u8]) -> 
     ensures fault { IfErr result (IsSpaceFault (N.forest n.old) (N.forest n.new) (held_by N.fields (N.beside n.new)) root.0 name.now) }
     ensures refused { IfErr result (λ e. (next : ℕ) (pfss : List ListedPfs) → HasPfss (N.forest n.old) (held_by N.fields (N.beside n.old)) (N.told n.old) root.0 next pfss → IsFaultIn name.now pfss e) }
     ensures visits { Visits (N.forest n.old) (N.forest n.new) }
+    ensures loads { LoadsPfss (N.forest n.old) (N.forest n.new) root.0 }
+    ensures alike { StandsAlike (view_of N.fields (N.forest n.old) (N.beside n.old) (N.told n.old)) (view_of N.fields (N.forest n.new) (N.beside n.new) (N.told n.new)) }
     ensures beside { KeepsBeside (N.forest n.old) (N.forest n.new) (N.beside n.old) (N.beside n.new) }
     ensures later { N.later n.old n.new }
 {
@@ -62,6 +66,8 @@ fn found<N: Nodes>(
     requires path { Reaches (N.forest n.old) leaf.key root.0 None }
     ensures founds { OnOk result (Founds (N.forest n.old) (N.forest n.new) (held_by N.fields (N.beside n.new)) root.0 leaf inode) }
     ensures visits { OnErr result (Visits (N.forest n.old) (N.forest n.new)) }
+    ensures loads { OnErr result (LoadsPfss (N.forest n.old) (N.forest n.new) root.0) }
+    ensures alike { OnErr result (StandsAlike (view_of N.fields (N.forest n.old) (N.beside n.old) (N.told n.old)) (view_of N.fields (N.forest n.new) (N.beside n.new) (N.told n.new))) }
     ensures beside { KeepsBeside (N.forest n.old) (N.forest n.new) (N.beside n.old) (N.beside n.new) }
     ensures later { N.later n.old n.new }
 {
@@ -78,7 +84,8 @@ fn found<N: Nodes>(
 /// Full exactly where there are 64 PFSs or more. No leaf of the super-root's tree has the key, and the room is at least
 /// 63. The room is lowered by at most 63, and the spare nodes by at most 2. Trouble only where a leaf of that tree
 /// wasn't loaded, or an inode that one names, or the path of the key, or for want of memory. After a refusal nothing but
-/// loads took place.
+/// such loads took place, and all trees stand for what they stood for; so it is before the addition too, and after it the
+/// trees of other roots stay.
 pub fn pfs_add<N: Nodes>(
     alloc: Global,
     n: &mut N,
@@ -94,13 +101,15 @@ pub fn pfs_add<N: Nodes>(
     requires plantable { IsPlantable inode }
     requires room { let f = N.forest n.old in 63 ≤ f.room }
     requires free { IsFreeId (N.forest n.old) root.0 leaf.key }
-    ensures adds { OnOk result (AddsPfs (N.forest n.old) (N.forest n.new) (held_by N.fields (N.beside n.old)) (held_by N.fields (N.beside n.new)) root.0 leaf inode) }
+    ensures adds { OnOk result (AddsPfs (N.forest n.old) (N.forest n.new) (held_by N.fields (N.beside n.old)) (held_by N.fields (N.beside n.new)) (N.told n.old) root.0 leaf inode) }
     ensures listed { OnOk result (PutsPfs (N.forest n.old) (N.forest n.new) (held_by N.fields (N.beside n.old)) (held_by N.fields (N.beside n.new)) (N.told n.old) (N.told n.new) root.0 (pfs_of inode)) }
     ensures room { OnOk result (let f = N.forest n.old in let g = N.forest n.new in f.room ≤ g.room + 63) }
     ensures spare { OnOk result (let f = N.forest n.old in let g = N.forest n.new in f.spare ≤ g.spare + 2) }
     ensures fault { IfErr result (IsAddFault (N.forest n.old) (N.forest n.new) (held_by N.fields (N.beside n.new)) root.0 inode.name leaf.key) }
     ensures refused { IfErr result (λ e. (next : ℕ) (pfss : List ListedPfs) → HasPfss (N.forest n.old) (held_by N.fields (N.beside n.old)) (N.told n.old) root.0 next pfss → IsFaultIn inode.name pfss e) }
     ensures visits { OnErr result (Visits (N.forest n.old) (N.forest n.new)) }
+    ensures loads { OnErr result (LoadsPfss (N.forest n.old) (N.forest n.new) root.0) }
+    ensures alike { OnErr result (StandsAlike (view_of N.fields (N.forest n.old) (N.beside n.old) (N.told n.old)) (view_of N.fields (N.forest n.new) (N.beside n.new) (N.told n.new))) }
     ensures beside { KeepsBeside (N.forest n.old) (N.forest n.new) (N.beside n.old) (N.beside n.new) }
     ensures later { N.later n.old n.new }
 {

@@ -3,11 +3,12 @@ ghost use Rattle.h2_ref.specs.declared.reference.Ref.{Ref};
 ghost use Rattle.h2_set.specs.Forest.{IsSound, HasCause, KeepsBeside};
 ghost use Rattle.h2_inode.specs.Nodes.{held_by, IsInodeLeaf, IsUnloaded, Seeks, Visits};
 ghost use Rattle.h2_inode.specs.Access.{OneByOne};
+ghost use Rattle.h2_inode.specs.Loaded.{StandsAlike, view_of};
 ghost use Rattle.h2_inode.specs.PfsList.{ListedPfs};
 ghost use Rattle.h2_pfs.specs.SuperRoot.{IsSuperRoot};
 ghost use Rattle.h2_pfs.specs.Listing.{KeepsPfss};
 ghost use Rattle.h2_pfs.specs.Mets.{met_of};
-ghost use Rattle.h2_pfs.specs.Meets.{Meets, MetBy, AreLeaves, InodeMissing};
+ghost use Rattle.h2_pfs.specs.Meets.{Meets, MetBy, AreLeaves, InodeMissing, LoadsPfss};
 ghost use Rattle.h2_pfs.specs.Faults.{IsTrouble};
 
 use crate::met::Met;
@@ -25,6 +26,8 @@ fn meet<N: Nodes>(alloc: Global, n: &mut N, root: NodeId, leaf: &Ref) -> Result<
     ensures met { IfOk result (λ m. (p : ListedPfs) × MetBy (N.forest n.old) (N.forest n.new) (held_by N.fields (N.beside n.old)) (held_by N.fields (N.beside n.new)) (N.told n.old) root.0 leaf.now p × (m ≡ met_of p)) }
     ensures seeks { IfOk result (λ m. let r : Ref = leaf.now in (c : ℕ) × Seeks (N.forest n.old) (N.forest n.new) root.0 r.key c) }
     ensures visits { Visits (N.forest n.old) (N.forest n.new) }
+    ensures loads { LoadsPfss (N.forest n.old) (N.forest n.new) root.0 }
+    ensures alike { StandsAlike (view_of N.fields (N.forest n.old) (N.beside n.old) (N.told n.old)) (view_of N.fields (N.forest n.new) (N.beside n.new) (N.told n.new)) }
     ensures err { IfErr result (HasCause (N.forest n.old) (N.forest n.new)) }
     ensures unloaded { IfErr result (λ e. (e ≡ Trouble.NoMemory) ⊎ (let r : Ref = leaf.now in IsUnloaded (N.forest n.old) root.0 r.key)) }
     ensures beside { KeepsBeside (N.forest n.old) (N.forest n.new) (N.beside n.old) (N.beside n.new) }
@@ -48,6 +51,8 @@ fn meet_all<N: Nodes>(
     requires leaves { AreLeaves (N.forest n.old) root.0 leaves.now }
     ensures met { IfOk result (λ v. (pfss : List ListedPfs) × OneByOne (MetBy (N.forest n.old) (N.forest n.new) (held_by N.fields (N.beside n.old)) (held_by N.fields (N.beside n.new)) (N.told n.old) root.0) leaves.now pfss × (v.items ≡ map met_of pfss)) }
     ensures visits { Visits (N.forest n.old) (N.forest n.new) }
+    ensures loads { LoadsPfss (N.forest n.old) (N.forest n.new) root.0 }
+    ensures alike { StandsAlike (view_of N.fields (N.forest n.old) (N.beside n.old) (N.told n.old)) (view_of N.fields (N.forest n.new) (N.beside n.new) (N.told n.new)) }
     ensures err { IfErr result (HasCause (N.forest n.old) (N.forest n.new)) }
     ensures unloaded { IfErr result (λ e. (e ≡ Trouble.NoMemory) ⊎ InodeMissing (N.forest n.old) (N.forest n.old) root.0) }
     ensures beside { KeepsBeside (N.forest n.old) (N.forest n.new) (N.beside n.old) (N.beside n.new) }
@@ -71,6 +76,8 @@ pub(crate) fn scan<N: Nodes>(alloc: Global, n: &mut N, root: NodeId) -> Result<V
     requires super_root { IsSuperRoot (N.forest n.old) root.0 }
     ensures met { IfOk result (λ v. (pfss : List ListedPfs) × Meets (N.forest n.new) (held_by N.fields (N.beside n.new)) root.0 pfss × (v.items ≡ map met_of pfss) × KeepsPfss (N.forest n.old) (N.forest n.new) (held_by N.fields (N.beside n.old)) (held_by N.fields (N.beside n.new)) (N.told n.old) (N.told n.new) root.0 pfss) }
     ensures visits { Visits (N.forest n.old) (N.forest n.new) }
+    ensures loads { LoadsPfss (N.forest n.old) (N.forest n.new) root.0 }
+    ensures alike { StandsAlike (view_of N.fields (N.forest n.old) (N.beside n.old) (N.told n.old)) (view_of N.fields (N.forest n.new) (N.beside n.new) (N.told n.new)) }
     ensures err { IfErr result (IsTrouble (N.forest n.old) (N.forest n.new) root.0) }
     ensures beside { KeepsBeside (N.forest n.old) (N.forest n.new) (N.beside n.old) (N.beside n.new) }
     ensures later { N.later n.old n.new }

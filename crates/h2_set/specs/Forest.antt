@@ -159,6 +159,8 @@ pub record IsSound (f : Forest) : Type 0 where
   pub top : (m : ℕ) → f.stands m ≡ true → (f.stands (f.root m) ≡ true) × (f.root (f.root m) ≡ f.root m)
   pub parent : (m : ℕ) → f.stands m ≡ true → (f.root m ≡ m → ⊥) → HasParent f m
   pub owner : (m top key : ℕ) → f.stands m ≡ true → f.belongs m top key ≡ true → HasOwner f m top key
+  -- and to all that the leaf's own tree belongs to
+  pub chain : (m t k u j : ℕ) → f.stands m ≡ true → f.belongs m t k ≡ true → f.belongs t u j ≡ true → f.belongs m u j ≡ true
   -- the epoch is the number of a checkpoint, so that what is new can be written
   pub epoch : (1 ≤ f.epoch) × (f.epoch ≤ 2 ^ 62)
 
@@ -323,6 +325,7 @@ pub record Alters (f g : Forest) (at : ℕ) : Type 0 where
   pub spare : g.spare ≡ f.spare
   pub failed : g.failed ≡ f.failed
   pub bad : g.bad ≡ f.bad
+  pub met : g.met ≡ f.met
 
 -- a reference of node at whose range holds the key isn't in s; a leaf in place of an indirect one isn't that one
 pub record Loses (f : Forest) (at : ℕ) (s : RefSet) (key : ℕ) : Type 0 where
@@ -376,6 +379,7 @@ pub record Stores (f g : Forest) (at : ℕ) (s : RefSet) : Type 0 where
   pub room : g.room ≡ f.room
   pub failed : g.failed ≡ f.failed
   pub bad : g.bad ≡ f.bad
+  pub met : g.met ≡ f.met
 
 -- why a call was in trouble: for a bad block, the last one that was met is the one that is told
 abbrev pub HasCause : Forest → Forest → Trouble → Type 0
@@ -404,6 +408,7 @@ pub record ReadiesOnly (f g : Forest) : Type 0 where
   pub room : g.room ≡ f.room
   pub failed : g.failed ≡ f.failed
   pub bad : g.bad ≡ f.bad
+  pub met : g.met ≡ f.met
 
 -- set and s are what the full set of node at, with leaf r added, was split into
 pub record MadeFrom (f : Forest) (at : ℕ) (r : Ref) (set : RefSet) (s : Split) : Type 0 where
@@ -443,6 +448,7 @@ pub record Makes (f g : Forest) (at c : ℕ) (set : RefSet) (s : Split) : Type 0
   pub room : g.room + 1 ≡ f.room
   pub failed : g.failed ≡ f.failed
   pub bad : g.bad ≡ f.bad
+  pub met : g.met ≡ f.met
 
 -- what a root keeps beside its set stays, where the root stands before and after
 pub record KeepsBeside {B : Type 0} (f g : Forest) (old new : ℕ → B) : Type 0 where

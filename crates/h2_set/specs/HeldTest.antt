@@ -1,5 +1,5 @@
 -- Whether a set may hold a reference as a test, for models that need a Bool, and that it is the same as the fact.
-use Rattle.std.specs.Prelude.{◌≡◌, ◌↔◌, Bool, true, false, ◌&&◌, not, ◌==◌, refl}
+use Rattle.std.specs.Prelude.{◌≡◌, ◌↔◌, Bool, true, ◌&&◌, not, ◌==◌}
 use Rattle.std.proofs.Common.{ap, sym, ◌∙◌, inl, inr}
 use Rattle.std.proofs.lemmas.Bool.{cases_Bool, and_parts, and_from, eqb-true, false≢true}
 use Rattle.h2_ref.specs.declared.reference.Kind.{Kind}

@@ -3,7 +3,7 @@ ghost use Rattle.h2_num.specs.Places.{Places, AreBytes, SameBelow};
 ghost use Rattle.h2_ref.specs.declared.reference.Ref.{Ref};
 ghost use Rattle.h2_set.specs.Ranges.{find, holds, lies, NoneHolds, AllAligned, Rising, Sides};
 ghost use Rattle.h2_set.specs.declared.set.Split.{Split};
-ghost use Rattle.h2_set.specs.Forest.{Forest, refs, loaded, Alters, IsSound, LeavesOf, MadeFrom, Makes, Reaches, Same, Stores, Walks};
+ghost use Rattle.h2_set.specs.Forest.{Forest, refs, loaded, Alters, IsSound, KeepsLeaves, LeavesOf, MadeFrom, Makes, Reaches, Same, Stores, Walks};
 ghost use Rattle.h2_set.specs.PathLaws.{PathRenewed};
 ghost use Rattle.h2_set.specs.RefSet.{RefSet, HoldsAll, IsSplitOf};
 ghost use Rattle.h2_set.specs.SetBytes.{IsFaultOf, IsSetAt, SetBytes};
@@ -44,16 +44,17 @@ pub fn set_bytes_law()
 {}
 
 /// A law of loaded paths in a sound forest: the path of a key leads to one leaf or to none, which is what the list of
-/// leaves has where it is known. While nodes are loaded it stays, and where a node is altered it leads to what it led
-/// to, but for where the block of an inode lies in another tree. It leads through each node of the tree that has a
-/// reference whose range holds the key. Making a node keeps the path of each key that had a
-/// leaf, or that isn't in the range of the new one. Storing a set keeps that of each key whose reference stays, or that
-/// had none and has none, where no other node on it changes.
+/// leaves has where it is known. While nodes are loaded it stays, as the lists of leaves do, and where a node is
+/// altered it leads to what it led to, but for where the block of an inode lies in another tree. It leads through each
+/// node of the tree that has a reference whose range holds the key. Making a node keeps the path of each key that had
+/// a leaf, or that isn't in the range of the new one. Storing a set keeps that of each key whose reference stays, or
+/// that had none and has none, where no other node on it changes.
 pub fn path_law()
     ensures one { (f : Forest) (key at : ℕ) (o p : Option Ref) → IsSound f → f.stands at ≡ true → Reaches f key at o
         → Reaches f key at p → o ≡ p }
     ensures found { (f : Forest) (key at : ℕ) (o : Option Ref) (l : List Ref) → IsSound f → f.stands at ≡ true
         → Reaches f key at o → LeavesOf f at l → o ≡ find key l }
+    ensures kept { (f g : Forest) (at : ℕ) → IsSound f → Walks f g → f.stands at ≡ true → KeepsLeaves f g at }
     ensures walked { (f g : Forest) (key at : ℕ) (o : Option Ref) → IsSound f → Walks f g → f.stands at ≡ true
         → Reaches f key at o → Reaches g key at o }
     ensures altered { (f g : Forest) (key at m : ℕ) (o : Option Ref) → IsSound f → Alters f g at → f.stands m ≡ true

@@ -2,6 +2,7 @@ ghost use Rattle.std.specs.Prelude.{◌≡◌, ◌^◌, ◌<◌, ◌≤◌, ℕ,
 ghost use Rattle.h2_ref.specs.declared.reference.Ref.{Ref};
 ghost use Rattle.h2_ref.specs.declared.reference.Dirent.{Dirent};
 ghost use Rattle.h2_ref.specs.declared.faults.Trouble.{Trouble};
+ghost use Rattle.h2_ref.specs.declared.faults.Why.{Why};
 ghost use Rattle.h2_ref.specs.Ref.{IsValid};
 ghost use Rattle.h2_set.specs.Forest.{Forest, refs, loaded, told, IsBad, IsSound, IsIndirectAt, Walks, HasCause, Alters, Storable, Stores, Loads, Unchanged, MadeFrom, Makes, ReadiesOnly, KeepsBeside};
 
@@ -45,9 +46,9 @@ pub trait Sets {
         ensures { let f = forest self.now in result ≡ f.epoch };
 
     /// The node that the indirect reference at place `i` of the set leads to, loaded where it wasn't. No other node
-    /// is loaded, and it isn't writable. Trouble only where it wasn't loaded: Failed where the disk failed, Bad where the
-    /// block isn't one of this tree, which is never so of a block whose leaves are told. After it nothing but the two
-    /// counts has changed.
+    /// is loaded, and it isn't writable. Trouble only where it wasn't loaded: Failed where the disk failed, Bad with the
+    /// reference's place where the block isn't one of this tree, which is never so of a block whose leaves are told. After
+    /// it nothing but the two counts and the last bad block that was met has changed.
     fn child(&mut self, alloc: Global, at: NodeId, i: usize) -> Result<NodeId, Trouble>
         requires sound { IsSound (forest self.old) }
         requires stands { let f = forest self.old in f.stands at.0 ≡ true }
@@ -58,6 +59,8 @@ pub trait Sets {
         ensures same { OnErr result (Unchanged (forest self.old) (forest self.new)) }
         ensures err { IfErr result (HasCause (forest self.old) (forest self.new)) }
         ensures unloaded { let f = forest self.old in OnErr result ((r : Ref) (c : ℕ) → slice_get (refs f at.0) i ≡ Some r → f.link at.0 r.key ≡ loaded c → ⊥) }
+        ensures place { let f = forest self.old in IfErr result (λ e. (r : Ref) (place : ℕ) (why : Why) → slice_get (refs f at.0) i ≡ Some r → e ≡ Trouble.Bad place why → place ≡ r.place) }
+        ensures met { let f = forest self.old in let g = forest self.new in OnOk result (g.met ≡ f.met) }
         ensures good { let f = forest self.old in IfErr result (λ e. (r : Ref) (l : List Ref) → slice_get (refs f at.0) i ≡ Some r → f.link at.0 r.key ≡ told l → IsBad e → ⊥) }
         ensures beside { KeepsBeside (forest self.old) (forest self.new) (beside self.old) (beside self.new) }
         ensures later { later self.old self.new };
@@ -120,6 +123,8 @@ pub trait Sets {
         ensures inline { IfOk result (λ b. (d : Dirent) → r.now.dirent ≡ Some d → d.len ≤ 64 → b ≡ take d.len d.name) }
         ensures long { IfOk result (λ b. (d : Dirent) → r.now.dirent ≡ Some d → length b ≡ d.len) }
         ensures err { IfErr result (HasCause (forest self.old) (forest self.new)) }
+        ensures place { IfErr result (λ e. (place : ℕ) (why : Why) → e ≡ Trouble.Bad place why → place ≡ r.now.place) }
+        ensures met { let f = forest self.old in let g = forest self.new in OnOk result (g.met ≡ f.met) }
         ensures good { let f = forest self.old in IfErr result (λ e. (name : List ℕ) → f.name r.now ≡ Some name → IsBad e → ⊥) }
         ensures unread { IfErr result (λ e. (d : Dirent) → r.now.dirent ≡ Some d → d.len ≤ 64 → e ≡ Trouble.NoMemory) }
         ensures beside { KeepsBeside (forest self.old) (forest self.new) (beside self.old) (beside self.new) }

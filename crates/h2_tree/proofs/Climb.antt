@@ -34,6 +34,12 @@ next_node f g at c i r sound walk stands read ind link =
     let falls : r.keybits < f.bits at = ((sound.node at stands).fits i r read).falls ind in
     ((node.child r.key c link).stands, omega arith)
 
+-- and it belongs to the same tree
+pub next_root : (f g : Forest) (at c k : ℕ) → Walks f g → f.stands at ≡ true → g.link at k ≡ loaded c → g.root c ≡ f.root at
+next_root f g at c k walk stands link =
+    let there = (walk.stays at stands).place in
+    ((walk.sound.node at there.stands).child k c link).root ∙ there.root
+
 -- what a walk reached is what the list had
 pub found_in : (f g : Forest) (key root : ℕ) (o : Option Ref) → IsSound f → Walks f g → f.stands root ≡ true → Reaches g key root o → (l : List Ref) → LeavesOf f root l → o ≡ find key l
 found_in f g key root o sound walk stands reached l h = reaches_find walk.sound reached (walk.stays root stands).place.stands l (Walks-leaves f g sound walk root stands l h)

@@ -11,10 +11,10 @@ use Rattle.h2_set.specs.StayLaws.{leaves_stay, Walks-leaves, Walks-trans, Fixed-
 use Rattle.h2_set.specs.RenewLaws.{Keeps-Renews, Renews-trans}
 use Rattle.h2_set.specs.LeafLaws.{leaves_rising, holds_inside, find_below}
 use Rattle.h2_set.specs.ChangeLaws.{Keeps-Stays, Keeps-trans, leaves_replace, put-append_left, put-append_right, limit_inside, apart_places}
-use Rattle.h2_tree.specs.Changes.{Under, Takes, Inserts, LoadsTouched, PathUnloaded}
+use Rattle.h2_tree.specs.Changes.{Under, Takes, Inserts, LoadsIn, PathUnloaded}
 use Rattle.h2_tree.proofs.Going.{Prepares-trans, Walks-prepares, way_down}
 use Rattle.h2_tree.proofs.Climb.{reaches_child}
-use Rattle.h2_tree.proofs.Touching.{Touched-trans, Touched-prepared, touched_load}
+use Rattle.h2_tree.proofs.Touching.{In-trans, In-prepared, in_path}
 
 module _ (f h : Forest) (at i c : ℕ) (leaf q : Ref) (sound : IsSound f) (stands : f.stands at ≡ true) (takes : Takes f at leaf) (read : slice_get (refs f at) i ≡ Some q) (ind : is_indirect q ≡ true) (in_q : holds leaf.key q ≡ true) (walks : Walks f h) (loads : Loads f h at q.key) (link : h.link at q.key ≡ loaded c) where
   there : Stays f h at
@@ -70,8 +70,11 @@ module _ (f h : Forest) (at i c : ℕ) (leaf q : Ref) (sound : IsSound f) (stand
       below it.kids it.leaves ∙ sym it.same
 
   -- the child is on the path of the leaf's key
-  touched_child : LoadsTouched f h leaf.key leaf.key
-  touched_child = touched_load f h at i q leaf.key leaf.key stands read ind in_q walks loads
+  touched_child : LoadsIn f h at leaf.key leaf.key
+  touched_child = in_path f h at i q leaf.key stands read ind in_q walks loads
+
+  root_c : h.root c ≡ f.root at
+  root_c = (node.child q.key c link).root ∙ there.place.root
 
   -- a node is not in the range of one below it
   not_under : (m : ℕ) → h.bits c < h.bits m → h.low c ≡ q.key → (Under h m c → ⊥)
@@ -125,7 +128,7 @@ module _ (f h : Forest) (at i c : ℕ) (leaf q : Ref) (sound : IsSound f) (stand
         goes = (let it = ins.goes in record {
           then = it.then;
           prepares = Prepares-trans f h it.then (Walks-prepares f h walks) it.prepares;
-          touched = Touched-prepared f h it.then leaf.key leaf.key it.prepares touched_child it.touched;
+          touched = In-prepared f h it.then at c leaf.key leaf.key root_c it.prepares touched_child it.touched;
           node = it.node;
           stands = it.stands;
           way = way_down h it.then leaf.key at i c it.node q it.prepares there.place.stands read_h in_q ind link it.way;
@@ -154,9 +157,9 @@ module _ (f h : Forest) (at i c : ℕ) (leaf q : Ref) (sound : IsSound f) (stand
   walks_below g (Ok o) w = tt
   walks_below g (Err e) w = Walks-trans f h g walks w
 
-  pub touched_below : (g : Forest) (r : Result (Option Ref) Trouble) → OnErr r (Walks h g) → OnErr r (LoadsTouched h g leaf.key leaf.key) → OnErr r (LoadsTouched f g leaf.key leaf.key)
+  pub touched_below : (g : Forest) (r : Result (Option Ref) Trouble) → OnErr r (Walks h g) → OnErr r (LoadsIn h g c leaf.key leaf.key) → OnErr r (LoadsIn f g at leaf.key leaf.key)
   touched_below g (Ok o) w t = tt
-  touched_below g (Err e) w t = Touched-trans f h g leaf.key leaf.key w touched_child t
+  touched_below g (Err e) w t = In-trans f h g at c leaf.key leaf.key root_c w touched_child t
 
   pub child_room : 63 ≤ f.room → 63 ≤ h.room
   child_room room = omega (arith, room, walks.room)

@@ -16,7 +16,7 @@ use Rattle.h2_tree.specs.Changes.{Under, Takes, TakesIn, arrived, Inserts}
 use Rattle.h2_tree.specs.Changes.{parted as parted_by}
 use Rattle.h2_tree.proofs.Going.{own_set, altered_place, changes_only, Prepares-refl, none_empty}
 use Rattle.h2_tree.proofs.Store.{all_still, leaf_fits, alters_still}
-use Rattle.h2_tree.proofs.Touching.{Touched-refl}
+use Rattle.h2_tree.proofs.Touching.{In-refl}
 use Rattle.h2_tree.proofs.Edit.{apart_altered, apart_node}
 
 module _ (f h g : Forest) (at c : ℕ) (leaf : Ref) (set : RefSet) (s : Split) (sound : IsSound f) (stands : f.stands at ≡ true) (takes : Takes f at leaf) (alters : Alters f h at) (made : MadeFrom h at leaf set s) (makes : Makes h g at c set s) where
@@ -113,7 +113,7 @@ module _ (f h g : Forest) (at c : ℕ) (leaf : Ref) (set : RefSet) (s : Split) (
         goes = record {
           then = f;
           prepares = Prepares-refl f sound;
-          touched = Touched-refl f leaf.key leaf.key;
+          touched = In-refl f at leaf.key leaf.key;
           node = at;
           stands = stands;
           way = arrived;

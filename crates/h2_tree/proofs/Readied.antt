@@ -10,7 +10,7 @@ use Rattle.h2_set.specs.ChangeLaws.{Same-Keeps, Keeps-trans}
 use Rattle.h2_set.specs.RenewLaws.{Keeps-Renews, Renews-trans}
 use Rattle.h2_tree.specs.Changes.{Takes, Inserts}
 use Rattle.h2_tree.proofs.Going.{Prepares-trans, Readies-prepares}
-use Rattle.h2_tree.proofs.Touching.{Touched-prepared, none_touched}
+use Rattle.h2_tree.proofs.Touching.{In-prepared, none_in}
 
 module _ (f h : Forest) (at : ℕ) (leaf : Ref) (stands : f.stands at ≡ true) (ready : ReadiesOnly f h) where
   pub takes_after : IsSound f → Takes f at leaf → Takes h at leaf
@@ -50,7 +50,7 @@ module _ (f h : Forest) (at : ℕ) (leaf : Ref) (stands : f.stands at ≡ true) 
         goes = (let it = ins.goes in record {
           then = it.then;
           prepares = Prepares-trans f h it.then (Readies-prepares f h ready) it.prepares;
-          touched = Touched-prepared f h it.then leaf.key leaf.key it.prepares (none_touched f h leaf.key leaf.key ready.none_new) it.touched;
+          touched = In-prepared f h it.then at at leaf.key leaf.key place.root it.prepares (none_in f h at leaf.key leaf.key ready.none_new) it.touched;
           node = it.node;
           stands = it.stands;
           way = it.way;

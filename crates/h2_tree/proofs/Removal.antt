@@ -18,7 +18,7 @@ use Rattle.h2_tree.specs.Changes.{Under, LeadsOnly, itself, down, IsFree, arrive
 use Rattle.h2_tree.proofs.Going.{own_set, altered_place, changes_only, none_empty}
 use Rattle.h2_tree.specs.PathLaws.{only_holds, only_path}
 use Rattle.h2_tree.proofs.Only.{sole_leaves, only_reaches, only_altered}
-use Rattle.h2_tree.proofs.Touching.{Touched-refl}
+use Rattle.h2_tree.proofs.Touching.{In-refl}
 use Rattle.h2_set.specs.PathLaws.{same_holder}
 use Rattle.h2_set.specs.PathLaws.{in_holds}
 
@@ -220,7 +220,7 @@ module _ (f h : Forest) (at i : ℕ) (leaf : Ref) (sound : IsSound f) (stands : 
         goes = record {
           then = f;
           walks = Walks-refl f sound;
-          touched = Touched-refl f leaf.key leaf.key;
+          touched = In-refl f at leaf.key leaf.key;
           node = at;
           stands = stands;
           way = arrived;

@@ -11,7 +11,7 @@ use Rattle.h2_set.specs.LeafLaws.{leaves_rising}
 use Rattle.h2_set.specs.ChangeLaws.{Keeps-Stays, Keeps-trans, leaves_replace, apart_places}
 use Rattle.h2_tree.specs.Changes.{Under, Removes}
 use Rattle.h2_tree.proofs.Going.{way_down, Walks-prepares}
-use Rattle.h2_tree.proofs.Touching.{Touched-trans, touched_load}
+use Rattle.h2_tree.proofs.Touching.{In-trans, in_path}
 use Rattle.h2_set.specs.CutLaws.{without-append, without-append_left}
 
 -- the child that a load gave stands, and its bits are fewer
@@ -90,7 +90,7 @@ module _ (f h : Forest) (at i c : ℕ) (leaf q : Ref) (sound : IsSound f) (stand
         goes = (let it = ins.goes in record {
           then = it.then;
           walks = Walks-trans f h it.then walks it.walks;
-          touched = Touched-trans f h it.then leaf.key leaf.key it.walks (touched_load f h at i q leaf.key leaf.key stands read ind in_q walks loads) it.touched;
+          touched = In-trans f h it.then at c leaf.key leaf.key (child.root ∙ there.place.root) it.walks (in_path f h at i q leaf.key stands read ind in_q walks loads) it.touched;
           node = it.node;
           stands = it.stands;
           way = way_down h it.then leaf.key at i c it.node q (Walks-prepares h it.then it.walks) there.place.stands read_h in_q ind link it.way;

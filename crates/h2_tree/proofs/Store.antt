@@ -9,7 +9,7 @@ use Rattle.h2_set.specs.ChangeLaws.{Keeps-Stays, Keeps-trans, Same-Keeps, below_
 use Rattle.h2_set.specs.RenewLaws.{Keeps-Renews, Renews-trans}
 use Rattle.h2_tree.specs.Changes.{Under, Takes, TakesIn, arrived, Inserts}
 use Rattle.h2_tree.proofs.Going.{altered_place, changes_only, Prepares-refl, none_empty}
-use Rattle.h2_tree.proofs.Touching.{Touched-refl}
+use Rattle.h2_tree.proofs.Touching.{In-refl}
 
 -- the set s is that of node at with the leaf, and lacks no key
 pub record WithLeaf (f : Forest) (at : ℕ) (leaf : Ref) (s : RefSet) : Type 0 where
@@ -104,7 +104,7 @@ module _ (f h : Forest) (at : ℕ) (leaf : Ref) (s : RefSet) (sound : IsSound f)
         goes = record {
           then = f;
           prepares = Prepares-refl f sound;
-          touched = Touched-refl f leaf.key leaf.key;
+          touched = In-refl f at leaf.key leaf.key;
           node = at;
           stands = stands;
           way = arrived;

@@ -7,13 +7,13 @@ use Rattle.h2_set.specs.Forest.{Forest, refs, loaded, LeavesOf, IsSoundNode, IsS
 use Rattle.h2_set.specs.StayLaws.{Walks-trans, Walks-leaves}
 use Rattle.h2_set.specs.LeafLaws.{leaves_rising, find_below}
 use Rattle.h2_set.specs.ChangeLaws.{Keeps-trans}
-use Rattle.h2_tree.specs.Changes.{WalksUnder, LeadsOnly, down, IsFree, LoadsTouched, LacksLeaf, Removes, TakesOut, PathUnloaded}
+use Rattle.h2_tree.specs.Changes.{WalksUnder, LeadsOnly, down, IsFree, LoadsIn, LacksLeaf, Removes, TakesOut, PathUnloaded}
 use Rattle.h2_tree.specs.declared.removing.Taken.{Taken}
 use Rattle.h2_tree.specs.declared.removing.Taken.TheVariants.{Nothing, Out, Sole}
 use Rattle.h2_tree.proofs.Climb.{reaches_child}
 use Rattle.h2_tree.proofs.Taking.{keyed, at_key_find, only_at_key, under_load, under_child, removes_after, free_after}
 use Rattle.h2_tree.proofs.RemoveBelow.{remove_below}
-use Rattle.h2_tree.proofs.Touching.{Touched-trans, touched_load}
+use Rattle.h2_tree.proofs.Touching.{In-trans, in_path}
 
 -- walks under a node, one after the other
 pub under_on : (f h g : Forest) (at : ℕ) → f.stands at ≡ true → WalksUnder f h at → WalksUnder h g at → WalksUnder f g at
@@ -30,10 +30,10 @@ under_on f h g at stands first second =
     }
 
 -- what was taken out after loads under the node
-pub takes_after : (f h g : Forest) (at key : ℕ) → IsSound f → f.stands at ≡ true → WalksUnder f h at → LoadsTouched f h key key → (t : Taken) → TakesOut h g at key t → TakesOut f g at key t
-takes_after f h g at key sound stands walk touched Nothing taken = (under_on f h g at stands walk taken.0, λ l hl. taken.1 l (Walks-leaves f h sound walk.walks at stands l hl), Touched-trans f h g key key taken.0.walks touched taken.2, taken.3)
-takes_after f h g at key sound stands walk touched (Out leaf) taken = (removes_after f h g at leaf sound stands walk (subst (λ z. LoadsTouched f h z z) (sym taken.1) touched) taken.0, taken.1, λ l hl. taken.2 l (Walks-leaves f h sound walk.walks at stands l hl))
-takes_after f h g at key sound stands walk touched (Sole leaf) taken = (under_on f h g at stands walk taken.0, taken.1, taken.2, taken.3, Touched-trans f h g key key taken.0.walks touched taken.4)
+pub takes_after : (f h g : Forest) (at key : ℕ) → IsSound f → f.stands at ≡ true → WalksUnder f h at → LoadsIn f h at key key → (t : Taken) → TakesOut h g at key t → TakesOut f g at key t
+takes_after f h g at key sound stands walk touched Nothing taken = (under_on f h g at stands walk taken.0, λ l hl. taken.1 l (Walks-leaves f h sound walk.walks at stands l hl), In-trans f h g at at key key (walk.walks.stays at stands).place.root taken.0.walks touched taken.2, taken.3)
+takes_after f h g at key sound stands walk touched (Out leaf) taken = (removes_after f h g at leaf sound stands walk (subst (λ z. LoadsIn f h at z z) (sym taken.1) touched) taken.0, taken.1, λ l hl. taken.2 l (Walks-leaves f h sound walk.walks at stands l hl))
+takes_after f h g at key sound stands walk touched (Sole leaf) taken = (under_on f h g at stands walk taken.0, taken.1, taken.2, taken.3, In-trans f h g at at key key (walk.walks.stays at stands).place.root taken.0.walks touched taken.4)
 
 -- the same by another name of the key
 pub takes_key : (f g : Forest) (at a b : ℕ) → a ≡ b → (t : Taken) → TakesOut f g at a t → TakesOut f g at b t
@@ -52,11 +52,11 @@ module _ (f h : Forest) (at i c key : ℕ) (q : Ref) (sound : IsSound f) (stands
   under : WalksUnder f h at
   under = under_load f h at q.key walks loads
 
-  pub touched_child : LoadsTouched f h key key
-  touched_child = touched_load f h at i q key key stands read ind in_q walks loads
+  pub touched_child : LoadsIn f h at key key
+  touched_child = in_path f h at i q key stands read ind in_q walks loads
 
-  pub touched_err : (g : Forest) → Walks h g → LoadsTouched h g key key → LoadsTouched f g key key
-  touched_err g walks' touched = Touched-trans f h g key key walks' touched_child touched
+  pub touched_err : (g : Forest) → Walks h g → LoadsIn h g c key key → LoadsIn f g at key key
+  touched_err g walks' touched = In-trans f h g at c key key ((node.child q.key c link).root ∙ there.place.root) walks' touched_child touched
 
   -- where the child's path leads to no leaf of the key, that of the node leads to none
   lacks_below : (g : Forest) → Walks h g → LacksLeaf g c key → LacksLeaf g at key
@@ -140,4 +140,4 @@ module _ (f g : Forest) (at key : ℕ) (leaf : Ref) (sound : IsSound f) (stands 
         rw (root, taken.3) (free_after f g at key sound taken.0.walks free)
 
 pub root_removes : (f h g : Forest) (at key : ℕ) (leaf : Ref) → IsSound f → f.stands at ≡ true → TakesOut f h at key (Sole leaf) → Removes h g at leaf → Removes f g at leaf
-root_removes f h g at key leaf sound stands taken rem = removes_after f h g at leaf sound stands taken.0 (subst (λ z. LoadsTouched f h z z) (sym taken.3) taken.4) rem
+root_removes f h g at key leaf sound stands taken rem = removes_after f h g at leaf sound stands taken.0 (subst (λ z. LoadsIn f h at z z) (sym taken.3) taken.4) rem

@@ -5,14 +5,14 @@ use Rattle.std.proofs.lemmas.Nat.{pow_pos}
 use Rattle.std.proofs.lemmas.Option.{slice_get_within}
 use Rattle.h2_ref.specs.declared.reference.Ref.{Ref}
 use Rattle.h2_set.specs.Ranges.{Rising, limit, holds, find, at_key}
-use Rattle.h2_set.specs.Forest.{Forest, refs, loaded, LeavesOf, IsSound, Walks, Loads, Reaches, here, below}
+use Rattle.h2_set.specs.Forest.{Forest, refs, loaded, LeavesOf, IsSound, Walks, Loads}
 use Rattle.h2_set.specs.StayLaws.{Walks-refl, Walks-trans, Walks-leaves, Fixed-trans, InPlace-trans}
 use Rattle.h2_set.specs.LeafLaws.{leaves_rising, holds_inside, reaches_find}
 use Rattle.h2_set.specs.ChangeLaws.{Keeps-refl, Keeps-trans}
 use Rattle.h2_set.specs.RenewLaws.{Keeps-Renews, Renews-trans}
-use Rattle.h2_tree.specs.Changes.{Under, WalksUnder, LeadsOnly, itself, down, IsFree, LoadsTouched, Removes}
+use Rattle.h2_tree.specs.Changes.{Under, WalksUnder, LeadsOnly, itself, down, IsFree, LoadsIn, Removes}
 use Rattle.h2_tree.specs.PathLaws.{only_path}
-use Rattle.h2_tree.proofs.Touching.{Touched-trans}
+use Rattle.h2_tree.proofs.Touching.{In-trans}
 use Rattle.h2_set.specs.PathLaws.{in_holds}
 
 -- the leaf that was found, where it has the very key
@@ -105,7 +105,7 @@ under_child f h g at k c stands first link second =
     }
 
 -- a removal after loads under the node
-pub removes_after : (f h g : Forest) (at : ℕ) (leaf : Ref) → IsSound f → f.stands at ≡ true → WalksUnder f h at → LoadsTouched f h leaf.key leaf.key → Removes h g at leaf → Removes f g at leaf
+pub removes_after : (f h g : Forest) (at : ℕ) (leaf : Ref) → IsSound f → f.stands at ≡ true → WalksUnder f h at → LoadsIn f h at leaf.key leaf.key → Removes h g at leaf → Removes f g at leaf
 removes_after f h g at leaf sound stands walk touched rem =
     let there = (walk.walks.stays at stands).place in
     record {
@@ -125,7 +125,7 @@ removes_after f h g at leaf sound stands walk touched rem =
       goes = (let it = rem.goes in record {
         then = it.then;
         walks = Walks-trans f h it.then walk.walks it.walks;
-        touched = Touched-trans f h it.then leaf.key leaf.key it.walks touched it.touched;
+        touched = In-trans f h it.then at at leaf.key leaf.key there.root it.walks touched it.touched;
         node = it.node;
         stands = it.stands;
         way = it.way;

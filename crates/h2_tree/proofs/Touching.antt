@@ -1,6 +1,6 @@
 -- Which nodes a range of keys touches.
 use Rattle.std.proofs.Common.{◌≡◌, ℕ, ◌+◌, ◌<◌, ◌≤◌, ◌^◌, ◌⊎◌, inl, inr, Bool, true, false, arith, refl, sym, ◌∙◌, ap, List, [], ◌∷◌, ◌++◌, Some, slice_get, Result, Ok, Err, IfErr}
-use Rattle.std.specs.Prelude.{filter}
+use Rattle.std.specs.Prelude.{filter, OnErr}
 use Rattle.std.specs.Result.{IsErrAnd}
 use Rattle.std.proofs.lemmas.Bool.Decides.{nat_tests}
 use Rattle.std.proofs.lemmas.Bool.{cases_lt}
@@ -11,28 +11,12 @@ use Rattle.h2_ref.specs.declared.faults.Trouble.{Trouble}
 use Rattle.h2_ref.specs.declared.faults.Trouble.TheVariants.{NoMemory}
 use Rattle.h2_set.specs.RefSet.{RefSet}
 use Rattle.h2_set.specs.Ranges.{Rising, limit, holds, is_indirect}
-use Rattle.h2_set.specs.LeafLaws.{Rising-le, holds_inside, holds_outside, leaves_rising}
+use Rattle.h2_set.specs.LeafLaws.{Rising-le, holds_inside, leaves_rising}
 use Rattle.h2_set.specs.Forest.{Link, loaded, told, untold, Forest, refs, HasLeaves, IsSound, InPlace, Walks, Loads}
-use Rattle.h2_tree.specs.Changes.{is_between, touches, RangeUnloaded, missing, deeper, LoadsTouched, Prepares}
-
-pub touches_not : (from to : ℕ) (r : Ref) → to < r.key → touches from to r ≡ false
-touches_not from to r lt = grind (arith, nat_tests)
-
-pub touches_before : (from to : ℕ) (r : Ref) → r.key ≤ to → from < r.key → touches from to r ≡ true
-touches_before from to r le lt = let pos = pow_pos r.keybits in grind (arith, nat_tests)
-
-pub touches_holds : (from to : ℕ) (r : Ref) (b : Bool) → r.key ≤ to → r.key ≤ from → holds from r ≡ b → touches from to r ≡ b
-touches_holds from to r true le ge e = let it = holds_inside from r e in let high = it.1 in grind (arith, nat_tests)
-touches_holds from to r false le ge e = elim (holds_outside from r e) as (λ _. touches from to r ≡ false) [
-  | inl low ↦ absurd (omega (arith, low, ge))
-  | inr high ↦ grind (arith, nat_tests)
-]
-
-pub Touched-refl : (f : Forest) (from to : ℕ) → LoadsTouched f f from to
-Touched-refl f from to = record { only = λ m st. inl st }
+use Rattle.h2_tree.specs.Changes.{is_between, touches, RangeUnloaded, missing, deeper, LoadsTouched, LoadsIn, Prepares}
 
 -- where no node was loaded
-pub none_touched : (f g : Forest) (from to : ℕ) → ((m : ℕ) → g.stands m ≡ true → f.stands m ≡ true) → LoadsTouched f g from to
+none_touched : (f g : Forest) (from to : ℕ) → ((m : ℕ) → g.stands m ≡ true → f.stands m ≡ true) → LoadsTouched f g from to
 none_touched f g from to none_new = record { only = λ m st. inl (none_new m st) }
 
 -- where each node that stood in between stands where it stood
@@ -49,17 +33,18 @@ Touched-placed f g h from to placed a b = record {
   ];
 }
 
-pub Touched-prepared : (f g h : Forest) (from to : ℕ) → Prepares g h → LoadsTouched f g from to → LoadsTouched g h from to → LoadsTouched f h from to
-Touched-prepared f g h from to p a b = Touched-placed f g h from to (λ m st. (p.stays m st).place) a b
+pub touches_inside : (from to : ℕ) (r : Ref) → touches from to r ≡ true → (r.key ≤ to) × (from < limit r) × (from ≤ to)
+touches_inside from to r e = (grind (arith, nat_tests), grind (arith, nat_tests), grind (arith, nat_tests))
 
-pub Touched-trans : (f g h : Forest) (from to : ℕ) → Walks g h → LoadsTouched f g from to → LoadsTouched g h from to → LoadsTouched f h from to
-Touched-trans f g h from to walks a b = Touched-placed f g h from to (λ m st. (walks.stays m st).place) a b
+all_touch : (from to : ℕ) (r : Ref) → from ≤ to → r.key ≤ to → from < limit r → touches from to r ≡ true
+all_touch from to r some low high = grind (arith, nat_tests)
 
-pub touches_inside : (from to : ℕ) (r : Ref) → touches from to r ≡ true → (r.key ≤ to) × (from < limit r)
-touches_inside from to r e = (grind (arith, nat_tests), grind (arith, nat_tests))
+-- one key
+touches_one : (key : ℕ) (r : Ref) → holds key r ≡ true → touches key key r ≡ true
+touches_one key r e = let it = holds_inside key r e in let low = it.0 in let high = it.1 in grind (arith, nat_tests)
 
 -- the load of a child whose reference is touched
-pub touched_load : (f g : Forest) (at i : ℕ) (r : Ref) (from to : ℕ) → f.stands at ≡ true → slice_get (refs f at) i ≡ Some r → is_indirect r ≡ true → touches from to r ≡ true → Walks f g → Loads f g at r.key → LoadsTouched f g from to
+touched_load : (f g : Forest) (at i : ℕ) (r : Ref) (from to : ℕ) → f.stands at ≡ true → slice_get (refs f at) i ≡ Some r → is_indirect r ≡ true → touches from to r ≡ true → Walks f g → Loads f g at r.key → LoadsTouched f g from to
 touched_load f g at i r from to stands read ind touch walks loads = record {
   only = λ m st. elim (loads.new m st) as (λ _. (f.stands m ≡ true) ⊎ ((g.low m ≤ to) × (from < g.low m + 2 ^ g.bits m))) [
     | inl was ↦ inl was
@@ -72,6 +57,64 @@ touched_load f g at i r from to stands read ind touch walks loads = record {
         inr (omega (arith, kid.low, it.0), omega (arith, kid.low, ap (λ z. 2 ^ z) bits, it.1))
   ];
 }
+
+-- The same, with the tree in which nodes are loaded
+
+-- nothing stands and doesn't
+not_both : {A : Type 0} (b : Bool) → b ≡ false → b ≡ true → A
+not_both b out there = let clash : false ≡ true = sym out ∙ there in cc
+
+pub none_in : (f g : Forest) (at from to : ℕ) → ((m : ℕ) → g.stands m ≡ true → f.stands m ≡ true) → LoadsIn f g at from to
+none_in f g at from to none_new = record {
+  touched = none_touched f g from to none_new;
+  tree = λ m out st. not_both (f.stands m) out (none_new m st);
+  some = λ m out st. not_both (f.stands m) out (none_new m st);
+}
+
+pub In-refl : (f : Forest) (at from to : ℕ) → LoadsIn f f at from to
+In-refl f at from to = none_in f f at from to (λ m st. st)
+
+-- and then below node c of this tree
+In-placed : (f g h : Forest) (at c from to : ℕ) → g.root c ≡ f.root at → ((m : ℕ) → g.stands m ≡ true → InPlace g h m) → LoadsIn f g at from to → LoadsIn g h c from to → LoadsIn f h at from to
+In-placed f g h at c from to root placed a b = record {
+  touched = Touched-placed f g h from to placed a.touched b.touched;
+  tree = λ m out st. tree_of m (g.stands m) refl out st;
+  some = λ m out st. some_of m (g.stands m) refl out st;
+}
+  where
+    tree_of : (m : ℕ) (there : Bool) → g.stands m ≡ there → f.stands m ≡ false → h.stands m ≡ true → h.root m ≡ f.root at
+    tree_of m true e out st = (placed m e).root ∙ a.tree m out e
+    tree_of m false e out st = b.tree m e st ∙ root
+
+    some_of : (m : ℕ) (there : Bool) → g.stands m ≡ there → f.stands m ≡ false → h.stands m ≡ true → from ≤ to
+    some_of m true e out st = a.some m out e
+    some_of m false e out st = b.some m e st
+
+pub In-prepared : (f g h : Forest) (at c from to : ℕ) → g.root c ≡ f.root at → Prepares g h → LoadsIn f g at from to → LoadsIn g h c from to → LoadsIn f h at from to
+In-prepared f g h at c from to root p a b = In-placed f g h at c from to root (λ m st. (p.stays m st).place) a b
+
+pub In-trans : (f g h : Forest) (at c from to : ℕ) → g.root c ≡ f.root at → Walks g h → LoadsIn f g at from to → LoadsIn g h c from to → LoadsIn f h at from to
+In-trans f g h at c from to root walks a b = In-placed f g h at c from to root (λ m st. (walks.stays m st).place) a b
+
+pub in_load : (f g : Forest) (at i : ℕ) (r : Ref) (from to : ℕ) → f.stands at ≡ true → slice_get (refs f at) i ≡ Some r → is_indirect r ≡ true → touches from to r ≡ true → Walks f g → Loads f g at r.key → LoadsIn f g at from to
+in_load f g at i r from to stands read ind touch walks loads = record {
+  touched = touched_load f g at i r from to stands read ind touch walks loads;
+  tree = λ m out st. elim (loads.new m st) as (λ _. g.root m ≡ f.root at) [
+    | inl was ↦ not_both (f.stands m) out was
+    | inr link ↦
+        let there = (walks.stays at stands).place in
+        ((walks.sound.node at there.stands).child r.key m link).root ∙ there.root
+  ];
+  some = λ m out st. (touches_inside from to r touch).2;
+}
+
+-- the load of a child on the key's path
+pub in_path : (f g : Forest) (at i : ℕ) (r : Ref) (key : ℕ) → f.stands at ≡ true → slice_get (refs f at) i ≡ Some r → is_indirect r ≡ true → holds key r ≡ true → Walks f g → Loads f g at r.key → LoadsIn f g at key key
+in_path f g at i r key stands read ind in_r walks loads = in_load f g at i r key key stands read ind (touches_one key r in_r) walks loads
+
+pub err_touched : {T E : Type 0} (f g : Forest) (at from to : ℕ) (r : Result T E) → OnErr r (LoadsIn f g at from to) → OnErr r (LoadsTouched f g from to)
+err_touched f g at from to (Ok v) it = tt
+err_touched f g at from to (Err e) it = it.touched
 
 -- what isn't loaded after a walk wasn't before it
 pub unloaded_back : {f h : Forest} {from to at : ℕ} → IsSound f → Walks f h → f.stands at ≡ true → RangeUnloaded h from to at → RangeUnloaded f from to at
@@ -106,18 +149,28 @@ none_between from to low high (r ∷ l) rising (inr behind) =
     let first : is_between from to r ≡ false = (let less : r.key < from = omega (arith, top, pos, behind) in grind (arith, nat_tests)) in
     rw first (none_between from to (limit r) high l rising.1 (inr behind))
 
+-- no leaf is between where `from` is above `to`
+none_crossed : (from to : ℕ) (l : List Ref) → to < from → filter (is_between from to) l ≡ []
+none_crossed from to [] crossed = refl
+none_crossed from to (r ∷ l) crossed =
+    let first : is_between from to r ≡ false = (grind (arith, nat_tests)) in
+    rw first (none_crossed from to l crossed)
+
 -- a reference that isn't touched has no leaf between
 pub skip_step : (f : Forest) (at from to : ℕ) (out : List Ref) (r : Ref) → touches from to r ≡ false → (last : List Ref) → HasLeaves f at (r ∷ []) last → out ≡ out ++ filter (is_between from to) last
-skip_step f at from to out r off last h =
-    let rising : Rising r.key (limit r) last = leaves_rising h r.key (limit r) (omega arith, omega arith) in
-    let outside : (to < r.key) ⊎ (limit r ≤ from) = elim (cases_lt to r.key) as (λ _. (to < r.key) ⊎ (limit r ≤ from)) [
-      | inl above ↦ inl above
-      | inr le ↦ elim (cases_lt from (limit r)) as (λ _. (to < r.key) ⊎ (limit r ≤ from)) [
-        | inl inside ↦ let on : touches from to r ≡ true = (grind (arith, nat_tests)) in let clash : true ≡ false = sym on ∙ off in cc
-        | inr behind ↦ inr behind
-      ]
-    ] in
-    sym (ap (λ (z : List Ref). out ++ z) (none_between from to r.key (limit r) last rising outside) ∙ append-nil out)
+skip_step f at from to out r off last h = elim (cases_lt to from) as (λ _. out ≡ out ++ filter (is_between from to) last) [
+  | inl crossed ↦ sym (ap (λ (z : List Ref). out ++ z) (none_crossed from to last crossed) ∙ append-nil out)
+  | inr some ↦
+      let rising : Rising r.key (limit r) last = leaves_rising h r.key (limit r) (omega arith, omega arith) in
+      let outside : (to < r.key) ⊎ (limit r ≤ from) = elim (cases_lt to r.key) as (λ _. (to < r.key) ⊎ (limit r ≤ from)) [
+        | inl above ↦ inl above
+        | inr le ↦ elim (cases_lt from (limit r)) as (λ _. (to < r.key) ⊎ (limit r ≤ from)) [
+          | inl inside ↦ let on : touches from to r ≡ true = all_touch from to r some le inside in let clash : true ≡ false = sym on ∙ off in cc
+          | inr behind ↦ inr behind
+        ]
+      ] in
+      sym (ap (λ (z : List Ref). out ++ z) (none_between from to r.key (limit r) last rising outside) ∙ append-nil out)
+]
 
 pub always_unloaded : {T : Type 0} {Q : Type 0} (r : Result T Trouble) → Q → IfErr r (λ e. (e ≡ NoMemory) ⊎ Q)
 always_unloaded (Ok v) q = tt

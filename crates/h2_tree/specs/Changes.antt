@@ -111,13 +111,20 @@ pub record Prepares (f g : Forest) : Type 0 where
 pub record LoadsTouched (f g : Forest) (from to : ℕ) : Type 0 where
   pub only : (m : ℕ) → g.stands m ≡ true → (f.stands m ≡ true) ⊎ ((g.low m ≤ to) × (from < g.low m + 2 ^ g.bits m))
 
+-- each node that was loaded has such a key, and stands in the tree of node at; where no key is from `from` to `to`, none
+-- was loaded
+pub record LoadsIn (f g : Forest) (at from to : ℕ) : Type 0 where
+  pub touched : LoadsTouched f g from to
+  pub tree : (m : ℕ) → f.stands m ≡ false → g.stands m ≡ true → g.root m ≡ f.root at
+  pub some : (m : ℕ) → f.stands m ≡ false → g.stands m ≡ true → from ≤ to
+
 -- Where the leaf went in: once the path of its key was loaded, into the set of one node on it. The room is lowered by
 -- the nodes that are copied for it and the new block, and spare by the new block alone.
 pub record GoesIn (f g : Forest) (at : ℕ) (leaf : Ref) (old : Option Ref) : Type 0 where
   pub then : Forest
   pub prepares : Prepares f then
   -- no node off the path of its key was loaded
-  pub touched : LoadsTouched f then leaf.key leaf.key
+  pub touched : LoadsIn f then at leaf.key leaf.key
   pub node : ℕ
   pub stands : then.stands node ≡ true
   pub way : Descends then leaf.key at node
@@ -173,7 +180,7 @@ pub data GoesAway (h : Forest) (n place : ℕ) (leaf : Ref) (m : ℕ) : Type 0 w
 pub record GoesOut (f g : Forest) (at : ℕ) (leaf : Ref) : Type 0 where
   pub then : Forest
   pub walks : Walks f then
-  pub touched : LoadsTouched f then leaf.key leaf.key
+  pub touched : LoadsIn f then at leaf.key leaf.key
   pub node : ℕ
   pub stands : then.stands node ≡ true
   pub way : Descends then leaf.key at node
@@ -211,9 +218,9 @@ pub record LacksLeaf (f : Forest) (at key : ℕ) : Type 0 where
 
 -- what taking out the leaf with the key did at node at: there is none, or it is out, or the node has no other
 abbrev pub TakesOut : Forest → Forest → ℕ → ℕ → Taken → Type 0
-TakesOut f g at key Nothing = WalksUnder f g at × ((l : List Ref) → LeavesOf f at l → at_key key l ≡ None) × LoadsTouched f g key key × LacksLeaf g at key
+TakesOut f g at key Nothing = WalksUnder f g at × ((l : List Ref) → LeavesOf f at l → at_key key l ≡ None) × LoadsIn f g at key key × LacksLeaf g at key
 TakesOut f g at key (Out leaf) = Removes f g at leaf × (leaf.key ≡ key) × ((l : List Ref) → LeavesOf f at l → at_key key l ≡ Some leaf)
-TakesOut f g at key (Sole leaf) = WalksUnder f g at × (length (refs g at) ≡ 1) × LeadsOnly g at 0 leaf × (leaf.key ≡ key) × LoadsTouched f g key key
+TakesOut f g at key (Sole leaf) = WalksUnder f g at × (length (refs g at) ≡ 1) × LeadsOnly g at 0 leaf × (leaf.key ≡ key) × LoadsIn f g at key key
 
 -- each loaded path to a key outside the leaf's range stays loaded, and leads to what it led to
 abbrev pub KeepsPaths : Forest → Forest → ℕ → Ref → Type 0
@@ -223,9 +230,9 @@ KeepsPaths f g at leaf = (key : ℕ) (o : Option Ref) → holds key leaf ≡ fal
 abbrev pub is_between : ℕ → ℕ → Ref → Bool
 is_between from to r = nat_le from r.key && nat_le r.key to
 
--- the range of a reference has a key from `from` to `to`
+-- the range of a reference has a key from `from` to `to`; none has where `from` is above `to`
 abbrev pub touches : ℕ → ℕ → Ref → Bool
-touches from to r = nat_le r.key to && nat_lt from (limit r)
+touches from to r = nat_le from to && (nat_le r.key to && nat_lt from (limit r))
 
 -- a node below node at whose range has a key from `from` to `to` isn't loaded
 pub data RangeUnloaded (f : Forest) (from to : ℕ) : ℕ → Type 0 where

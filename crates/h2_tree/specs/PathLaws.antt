@@ -1,9 +1,9 @@
 -- What loaded paths lead to where a leaf goes in or out, and in other trees.
-use Rattle.std.proofs.Common.{◌≡◌, ℕ, ◌+◌, ◌<◌, ◌≤◌, ◌^◌, true, false, arith, refl, sym, ◌∙◌, ap, List, [], ◌∷◌, length, Option, Some, subst, slice_get}
+use Rattle.std.proofs.Common.{◌≡◌, ℕ, ◌^◌, true, arith, refl, sym, ◌∙◌, ap, List, [], ◌∷◌, length, Option, Some, subst, slice_get}
 use Rattle.std.proofs.lemmas.Nat.{pow_pos}
 use Rattle.std.proofs.lemmas.Option.{same_Some}
 use Rattle.h2_ref.specs.declared.reference.Ref.{Ref}
-use Rattle.h2_set.specs.Ranges.{limit, holds, is_indirect}
+use Rattle.h2_set.specs.Ranges.{holds}
 use Rattle.h2_set.specs.Forest.{Forest, refs, loaded, IsSound, Reaches, nowhere, here, below}
 use Rattle.h2_set.specs.LeafLaws.{holds_inside, place_above}
 use Rattle.h2_set.specs.SplitLaws.{below_high}
@@ -38,7 +38,7 @@ only_holds {f} sound stands (down {at = at} {c = c} {r = r} {leaf = leaf} i read
     first_of [] e = absurd (omega (arith, e))
     first_of (x ∷ xs) e = (x, refl)
 
--- it is on the way to it
+-- and such a reference is on the way to the leaf
 pub only_path : {f : Forest} {at i : ℕ} {leaf : Ref} → IsSound f → f.stands at ≡ true → LeadsOnly f at i leaf → Reaches f leaf.key at (Some leaf)
 only_path sound stands (itself {r = r} i read is_leaf) = here {r = r} i read (only_holds sound stands (itself {r = r} i read is_leaf) r read) is_leaf
 only_path sound stands (down {c = c} {r = r} i read ind link one rest) = below {r = r} i read (only_holds sound stands (down {r = r} i read ind link one rest) r read) ind link (only_path sound ((sound.node _ stands).child r.key c link).stands rest)

@@ -5,14 +5,14 @@ use Rattle.std.proofs.lemmas.Nat.{pow_pos}
 use Rattle.std.proofs.lemmas.Bool.Decides.{nat_tests}
 use Rattle.std.proofs.lemmas.Option.{none-some}
 use Rattle.h2_ref.specs.declared.reference.Ref.{Ref}
-use Rattle.h2_set.specs.Ranges.{Rising, limit, NoneHolds, is_indirect}
+use Rattle.h2_set.specs.Ranges.{Rising, limit, is_indirect}
 use Rattle.h2_set.specs.Forest.{Link, loaded, told, untold, Forest, refs, HasLeaves, done, one, near, far, LeavesOf, IsSound, Reaches, nowhere, here, below}
 use Rattle.h2_set.specs.LeafLaws.{leaves_rising, place_above, reaches_find}
 use Rattle.h2_set.specs.SplitLaws.{below_high}
 use Rattle.h2_set.specs.PutLaws.{Rising-filter}
 use Rattle.h2_set.specs.StayLaws.{stands_below}
 use Rattle.h2_set.specs.PathLaws.{in_holds, reaches_one}
-use Rattle.h2_tree.specs.Changes.{Descends, arrived, onward, TakesIn, replaced, placed, parted, ChangesOnly, Inserts, is_between, touches, RangeUnloaded, missing, deeper, Lists}
+use Rattle.h2_tree.specs.Changes.{Descends, TakesIn, replaced, placed, parted, ChangesOnly, Inserts, is_between, touches, RangeUnloaded, missing, deeper, Lists}
 use Rattle.h2_tree.specs.PathLaws.{way_leads}
 use Rattle.h2_tree.specs.ListLaws.{In, has_either, filter_whole, find_in, same_rising}
 use Rattle.h2_set.specs.EditPathLaws.{filter_from, filter_has}

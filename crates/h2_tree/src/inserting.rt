@@ -2,7 +2,7 @@ ghost use Rattle.std.specs.Prelude.{◌≡◌, ◌<◌, ◌≤◌, ◌⊎◌, tr
 ghost use Rattle.h2_ref.specs.declared.reference.Ref.{Ref};
 ghost use Rattle.h2_set.specs.Ranges.{find, is_indirect, NoneHolds};
 ghost use Rattle.h2_set.specs.Forest.{Forest, refs, IsSound, Walks, HasCause, LeavesOf, Reaches, KeepsBeside, ReadiesOnly};
-ghost use Rattle.h2_tree.specs.Changes.{Takes, Inserts, KeepsPaths, LoadsTouched, PathUnloaded};
+ghost use Rattle.h2_tree.specs.Changes.{Takes, Inserts, KeepsPaths, LoadsTouched, LoadsIn, PathUnloaded};
 
 use crate::loading::load_child;
 use h2_num::NoMemory;
@@ -78,7 +78,7 @@ fn add<N: Sets>(alloc: Global, n: &mut N, at: NodeId, leaf: Ref) -> Result<(), N
     requires none { NoneHolds leaf.key (refs (N.forest n.old) at.0) }
     ensures ok { OnOk result (Inserts (N.forest n.old) (N.forest n.new) at.0 leaf None) }
     ensures walks { OnErr result (Walks (N.forest n.old) (N.forest n.new)) }
-    ensures touched { OnErr result (LoadsTouched (N.forest n.old) (N.forest n.new) leaf.key leaf.key) }
+    ensures touched { OnErr result (LoadsIn (N.forest n.old) (N.forest n.new) at.0 leaf.key leaf.key) }
     ensures spare { let f = N.forest n.old in OnErr result (f.spare ≡ 0) }
     ensures beside { KeepsBeside (N.forest n.old) (N.forest n.new) (N.beside n.old) (N.beside n.new) }
     ensures later { N.later n.old n.new }
@@ -114,6 +114,7 @@ pub fn insert<N: Sets>(
     ensures walks { OnErr result (Walks (N.forest n.old) (N.forest n.new)) }
     ensures err { IfErr result (HasCause (N.forest n.old) (N.forest n.new)) }
     ensures touched { OnErr result (LoadsTouched (N.forest n.old) (N.forest n.new) leaf.key leaf.key) }
+    ensures tree { OnErr result (LoadsIn (N.forest n.old) (N.forest n.new) root.0 leaf.key leaf.key) }
     ensures unloaded { let f = N.forest n.old in OnErr result (PathUnloaded f root.0 leaf.key ⊎ (f.spare ≡ 0)) }
     ensures beside { KeepsBeside (N.forest n.old) (N.forest n.new) (N.beside n.old) (N.beside n.new) }
     ensures later { N.later n.old n.new }

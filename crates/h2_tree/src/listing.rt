@@ -1,7 +1,7 @@
 ghost use Rattle.std.specs.Prelude.{◌≡◌, ◌⊎◌, ℕ, [], ◌∷◌, ◌++◌, true, List, IfOk, IfErr, OnOk, filter};
 ghost use Rattle.h2_ref.specs.declared.reference.Ref.{Ref};
 ghost use Rattle.h2_set.specs.Forest.{Forest, refs, IsSound, Walks, HasCause, LeavesOf, KeepsBeside};
-ghost use Rattle.h2_tree.specs.Changes.{is_between, touches, RangeUnloaded, LoadsTouched, Lists};
+ghost use Rattle.h2_tree.specs.Changes.{is_between, touches, RangeUnloaded, LoadsTouched, LoadsIn, Lists};
 ghost use Rattle.h2_tree.specs.Listing.{Adds};
 
 use h2_ref::{Ref, Trouble};
@@ -29,6 +29,9 @@ fn take_leaf(r: Ref, from: u64, to: u64, out: &mut Vec<Ref>) -> Result<(), Troub
 fn touches(r: &Ref, from: u64, to: u64) -> bool
     ensures { result ≡ touches from to r.now }
 {
+    if from > to {
+        return false;
+    }
     if r.key > to {
         return false;
     }
@@ -50,7 +53,7 @@ fn collect<N: Sets>(
     ensures gathers { OnOk result (Adds (N.forest n.new) from to at.0 (refs (N.forest n.new) at.0) out.old.items out.new.items) }
     ensures walks { Walks (N.forest n.old) (N.forest n.new) }
     ensures err { IfErr result (HasCause (N.forest n.old) (N.forest n.new)) }
-    ensures touched { LoadsTouched (N.forest n.old) (N.forest n.new) from to }
+    ensures touched { LoadsIn (N.forest n.old) (N.forest n.new) at.0 from to }
     ensures unloaded { IfErr result (λ e. (e ≡ Trouble.NoMemory) ⊎ RangeUnloaded (N.forest n.old) from to at.0) }
     ensures beside { KeepsBeside (N.forest n.old) (N.forest n.new) (N.beside n.old) (N.beside n.new) }
     ensures later { N.later n.old n.new }
@@ -71,8 +74,8 @@ fn collect<N: Sets>(
 }
 
 /// The leaves with keys from `from` to `to`, in order: exactly those that loaded nodes lead to, and every node whose
-/// range has such a key is loaded then. No other node is loaded. Trouble only where one of them wasn't loaded, or for
-/// want of memory.
+/// range has such a key is loaded then. No other node is loaded, in no tree; so none is where `from` is above `to`, and
+/// there are no such leaves. Trouble only where one of them wasn't loaded, or for want of memory.
 pub fn range<N: Sets>(
     alloc: Global,
     n: &mut N,
@@ -87,6 +90,7 @@ pub fn range<N: Sets>(
     ensures walks { Walks (N.forest n.old) (N.forest n.new) }
     ensures err { IfErr result (HasCause (N.forest n.old) (N.forest n.new)) }
     ensures touched { LoadsTouched (N.forest n.old) (N.forest n.new) from to }
+    ensures tree { LoadsIn (N.forest n.old) (N.forest n.new) root.0 from to }
     ensures unloaded { IfErr result (λ e. (e ≡ Trouble.NoMemory) ⊎ RangeUnloaded (N.forest n.old) from to root.0) }
     ensures beside { KeepsBeside (N.forest n.old) (N.forest n.new) (N.beside n.old) (N.beside n.new) }
     ensures later { N.later n.old n.new }

@@ -2,7 +2,7 @@ ghost use Rattle.std.specs.Prelude.{◌≡◌, ◌<◌, ◌≤◌, ◌⊎◌, tr
 ghost use Rattle.h2_ref.specs.declared.reference.Ref.{Ref};
 ghost use Rattle.h2_set.specs.Ranges.{at_key, is_indirect};
 ghost use Rattle.h2_set.specs.Forest.{Forest, refs, IsSound, Walks, HasCause, LeavesOf, Reaches, KeepsBeside};
-ghost use Rattle.h2_tree.specs.Changes.{IsFree, LeadsOnly, Removes, KeepsPaths, TakesOut, LacksLeaf, LoadsTouched, PathUnloaded};
+ghost use Rattle.h2_tree.specs.Changes.{IsFree, LeadsOnly, Removes, KeepsPaths, TakesOut, LacksLeaf, LoadsTouched, LoadsIn, PathUnloaded};
 
 use crate::loading::load_child;
 use h2_ref::{Ref, Trouble};
@@ -64,7 +64,7 @@ fn take<N: Sets>(alloc: Global, n: &mut N, at: NodeId, key: u64) -> Result<Taken
     ensures taken { IfOk result (TakesOut (N.forest n.old) (N.forest n.new) at.0 key) }
     ensures walks { OnErr result (Walks (N.forest n.old) (N.forest n.new)) }
     ensures err { IfErr result (HasCause (N.forest n.old) (N.forest n.new)) }
-    ensures touched { OnErr result (LoadsTouched (N.forest n.old) (N.forest n.new) key key) }
+    ensures touched { OnErr result (LoadsIn (N.forest n.old) (N.forest n.new) at.0 key key) }
     ensures unloaded { OnErr result (PathUnloaded (N.forest n.old) at.0 key) }
     ensures beside { KeepsBeside (N.forest n.old) (N.forest n.new) (N.beside n.old) (N.beside n.new) }
     ensures later { N.later n.old n.new }
@@ -115,7 +115,9 @@ pub fn remove<N: Sets>(
     ensures err { IfErr result (HasCause (N.forest n.old) (N.forest n.new)) }
     ensures none { IfOk result (λ o. IfNone o (LacksLeaf (N.forest n.new) root.0 key)) }
     ensures touched { OnErr result (LoadsTouched (N.forest n.old) (N.forest n.new) key key) }
+    ensures tree { OnErr result (LoadsIn (N.forest n.old) (N.forest n.new) root.0 key key) }
     ensures off { IfOk result (λ o. IfNone o (LoadsTouched (N.forest n.old) (N.forest n.new) key key)) }
+    ensures off_tree { IfOk result (λ o. IfNone o (LoadsIn (N.forest n.old) (N.forest n.new) root.0 key key)) }
     ensures unloaded { OnErr result (PathUnloaded (N.forest n.old) root.0 key) }
     ensures beside { KeepsBeside (N.forest n.old) (N.forest n.new) (N.beside n.old) (N.beside n.new) }
     ensures later { N.later n.old n.new }

@@ -24,7 +24,7 @@ const SHAPES: [Shape; 4] = [
     Shape {
         keys: KeyClass::Low,
         leaf_bits: 0,
-        first: 1,
+        first: 0,
         step: 1,
     },
     Shape {

@@ -6,7 +6,7 @@ use std::test::Fail;
 fn five_leaves_in_a_root_of_four(rt: HostRuntime) -> Result<(), Fail> {
     let alloc = rt.alloc();
     let mut tree = Tree::new(alloc, KeyClass::Low, 0)?;
-    for key in 1..6u64 {
+    for key in 0..5u64 {
         let Some(leaf) = tree.leaf(key, key + 1) else {
             return Err(Fail::new("no leaf of the tree"));
         };

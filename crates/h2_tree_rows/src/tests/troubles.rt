@@ -66,9 +66,9 @@ fn call_both(
     Ok(Ok(()))
 }
 
-// The key of a leaf; none is 0, which is the number of no inode.
+// The key of a leaf.
 fn key_at(i: u64) -> u64 {
-    i.saturating_add(1).saturating_mul(STEP)
+    i.saturating_mul(STEP)
 }
 
 // A tree and its list, with leaves at every step.
@@ -215,16 +215,16 @@ fn a_split_needs_a_spare_node(rt: HostRuntime) -> Result<(), Fail> {
     let alloc = rt.alloc();
     let mut tree = Tree::new(alloc, KeyClass::Low, 0)?;
     let mut list = PlainList::new(alloc);
-    for key in 1..5u64 {
+    for key in 0..4u64 {
         tree.refuse_spare(1);
         let done = call_both(&rt, &mut tree, &mut list, Call::Insert(key))?;
         assert_eq!(rt; done, Ok(()), "key {key}");
     }
     tree.refuse_spare(1);
-    let done = call_both(&rt, &mut tree, &mut list, Call::Insert(5))?;
+    let done = call_both(&rt, &mut tree, &mut list, Call::Insert(4))?;
     assert_eq!(rt; done, Err(Trouble::NoMemory));
     assert_eq!(rt; list.leaves.len(), 4);
-    for call in [Call::Range, Call::Insert(5), Call::Range] {
+    for call in [Call::Range, Call::Insert(4), Call::Range] {
         let done = call_both(&rt, &mut tree, &mut list, call)?;
         assert_eq!(rt; done, Ok(()));
     }

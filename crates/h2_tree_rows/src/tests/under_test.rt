@@ -1,5 +1,4 @@
 ghost use Rattle.std.specs.Prelude.{◌≡◌, ◌<◌, ◌≤◌, ◌+◌, ◌^◌, false, IfOk, IfSome, IsTrue};
-ghost use Rattle.h2_ref.specs.declared.reference.Kind.TheVariants.{Empty};
 ghost use Rattle.h2_set.specs.Ranges.{is_indirect};
 ghost use Rattle.h2_memory_sets.specs.Seen.{forest_of};
 ghost use Rattle.h2_tree.specs.Changes.{Takes};
@@ -48,7 +47,8 @@ impl Tree {
         })
     }
 
-    /// The leaf with a key, in one of its versions. None where it can't be one of the tree.
+    /// The leaf with a key, in one of its versions. None where it can't be one of the tree. It need not be valid: an
+    /// inode's number is at least 1, and yet the tree may have a leaf with key 0.
     pub fn leaf(&self, key: u64, version: u64) -> Option<Ref>
         requires { IsTree self.now.sets self.now.root.0 self.now.keys self.now.leaf_bits }
         ensures { IfSome result (Takes (forest_of self.now.sets) self.now.root.0) }
@@ -56,14 +56,10 @@ impl Tree {
         if !is_leaf_key(self.keys, key, self.leaf_bits) {
             return None;
         }
-        let leaf = match self.keys {
+        Some(match self.keys {
             KeyClass::High => entry_leaf(key, self.leaf_bits, version),
             KeyClass::Low => block_leaf(key, self.leaf_bits, version),
-        };
-        if !leaf.valid() {
-            return None;
-        }
-        Some(leaf)
+        })
     }
 
     pub fn insert(&mut self, alloc: Global, leaf: Ref) -> Result<Option<Ref>, Trouble>
@@ -134,7 +130,6 @@ impl Tree {
 // A leaf that names the block of an inode, or of contents where its range has more keys than one.
 fn block_leaf(key: u64, keybits: u8, version: u64) -> Ref
     ensures leaf { is_indirect result ≡ false }
-    ensures something { result.kind ≡ Empty → ⊥ }
     ensures key { result.key ≡ key }
     ensures keybits { result.keybits ≡ keybits }
 {
@@ -158,7 +153,6 @@ fn block_leaf(key: u64, keybits: u8, version: u64) -> Ref
 // A leaf that is the entry of a name, which stands in it.
 fn entry_leaf(key: u64, keybits: u8, version: u64) -> Ref
     ensures leaf { is_indirect result ≡ false }
-    ensures something { result.kind ≡ Empty → ⊥ }
     ensures key { result.key ≡ key }
     ensures keybits { result.keybits ≡ keybits }
 {

@@ -1,18 +1,23 @@
-use Rattle.std.proofs.Common.{◌≡◌, ◌+◌, None, Some, sym, subst, ap, ◌∙◌, false, refl}
+use Rattle.std.proofs.Common.{◌≡◌, ◌+◌, ℕ, None, Some, sym, subst, ap, ◌∙◌, false, refl}
 use Rattle.std.specs.Prelude.{Option}
 use Rattle.h2_num.specs.declared.block.Block.{Block}
 use Rattle.h2_ref.specs.declared.reference.Check.{Check}
 use Rattle.h2_ref.specs.declared.reference.Ref.{Ref}
 use Rattle.h2_ref.specs.Ref.{IsValid}
-use Rattle.h2_set.specs.Ranges.{put, holds}
+use Rattle.h2_set.specs.Ranges.{put, holds, find}
 use Rattle.h2_set.specs.Forest.{Reaches, LeavesOf}
+use Rattle.h2_set.specs.LeafLaws.{reaches_find}
 use Rattle.h2_tree.specs.Changes.{Takes}
 use Rattle.h2_inode.specs.declared.inode.Inode.{Inode}
+use Rattle.h2_inode.specs.declared.kind.InodeKind.TheVariants.{Directory, Pfs}
 use Rattle.h2_inode.specs.Nodes.{Fields, held_by, HasInode}
 use Rattle.h2_dir.specs.Changing.{entry_ref, with_entries, Adds}
 use Rattle.h2_dir.proofs.Leaf.{takes_entry, ref_kind, short_name}
 use Rattle.h2_dir.proofs.Growing.{same_but_set, writable_in, beside_on}
 use Rattle.h2_dir.proofs.Resized.{root_leaves, root_path, same_fields, regrown}
+use Rattle.h2_dir.proofs.Renewed.{keeps_tree, renews_tree}
+use Rattle.h2_dir.proofs.Others.{inserted_renews, inserted_exact}
+use Rattle.h2_dir.proofs.Entries.{tree_rising, tells_later, new_entry, entries_same, entries_more}
 use Rattle.h2_dir.proofs.adding.add_at.Goals as goal
 
 pub inode-requires : goal.inode-requires
@@ -104,3 +109,53 @@ returns-clause-paths g c k o apart path =
 
 pub returns-clause-beside : goal.returns-clause-beside
 returns-clause-beside g c = beside_on _ _ _ _ _ _ _ (λ m old new. c.resize.ensures.replaces.none_new m new) c.put_in.ensures.beside c.resize.ensures.beside
+
+pub returns-clause-others : goal.returns-clause-others
+returns-clause-others g c m i has not ne =
+    let f = g.N.Sets.forest c.args.n.now in
+    let h = g.N.Sets.forest c.put_in.new.n in
+    let d = c.requires.directory in
+    let ins = c.put_in.ensures.inserts in
+    let dir = c.args.dir.0 in
+    let leaf = c.entry_ref-leaf.result in
+    let kept = beside_on _ _ _ _ _ _ _ (λ m old new. c.resize.ensures.replaces.none_new m new) c.put_in.ensures.beside c.resize.ensures.beside in
+    keeps_tree f h (g.N.Sets.forest c.resize.new.n) dir c.requires.sound ins.sound ins.place d.has.root (inserted_renews f h dir leaf c.requires.sound d.has.stands d.has.root ins) (inserted_exact f h dir leaf c.requires.sound d.has.stands d.has.root ins) ins.fixed c.resize.ensures.replaces _ _ m i has not ne
+    (λ stands. ap g.N.Nodes.fields (kept.same m ne has.stands stands))
+
+pub returns-clause-above : goal.returns-clause-above
+returns-clause-above g c m stands root ne =
+    let f = g.N.Sets.forest c.args.n.now in
+    let h = g.N.Sets.forest c.put_in.new.n in
+    let d = c.requires.directory in
+    let ins = c.put_in.ensures.inserts in
+    let dir = c.args.dir.0 in
+    let leaf = c.entry_ref-leaf.result in
+    let kept = beside_on _ _ _ _ _ _ _ (λ m old new. c.resize.ensures.replaces.none_new m new) c.put_in.ensures.beside c.resize.ensures.beside in
+    renews_tree f h (g.N.Sets.forest c.resize.new.n) dir c.requires.sound ins.sound ins.place d.has.root (inserted_renews f h dir leaf c.requires.sound d.has.stands d.has.root ins) (inserted_exact f h dir leaf c.requires.sound d.has.stands d.has.root ins) ins.fixed c.resize.ensures.replaces _ _ m stands root ne
+    (λ now. ap g.N.Nodes.fields (kept.same m ne stands now))
+
+pub returns-clause-later : goal.returns-clause-later
+returns-clause-later g c = g.met.N.Sets.later_later _ _ _ c.put_in.ensures.later c.resize.ensures.later
+
+pub returns-clause-entries : goal.returns-clause-entries
+returns-clause-entries g c may size entries h none fits tells =
+    let f = g.N.Sets.forest c.args.n.now in
+    let now = g.N.Sets.forest c.resize.new.n in
+    let dir = c.args.dir.0 in
+    let d = c.requires.directory in
+    let ins = c.put_in.ensures.inserts in
+    let r = entry_ref f.epoch c.args.key c.args.name.now c.args.block c.args.number c.args.target in
+    let names : (x : Ref) → now.name x ≡ f.name x = λ x. c.resize.ensures.replaces.name x ∙ ins.fixed.name x in
+    let own : r.key ≡ c.args.key = (ref_kind f.epoch c.args.key c.args.name.now c.args.block c.args.number c.args.target).1 in
+    let free : find r.key h.leaves ≡ None = ap (λ k. find k h.leaves) own ∙ sym (reaches_find c.requires.sound c.requires.free d.has.stands h.leaves h.has.read) in
+    let leaves : LeavesOf now dir (put r h.leaves) = returns-clause-leaves g c h.leaves h.has.read in
+    let rising = tree_rising now dir (put r h.leaves) c.resize.ensures.replaces.sound c.resize.ensures.replaces.place.stands leaves in
+    let one = new_entry now (held_by g.N.Nodes.fields (g.N.Sets.beside c.resize.new.n)) (g.N.Nodes.told c.resize.new.n) may dir f.epoch c.args.key c.args.name.now c.args.block c.args.number c.args.target c.requires.valid c.requires.under fits (tells_later f now r c.args.name.now c.args.block names tells) in
+    entries_more f now _ _ _ _ may dir size entries h names r c.args.name.now c.args.number one free none leaves rising
+
+pub returns-clause-other_entries : goal.returns-clause-other_entries
+returns-clause-other_entries g c m i may size entries has kind ne h =
+    let now = g.N.Sets.forest c.resize.new.n in
+    let names : (x : Ref) → now.name x ≡ (g.N.Sets.forest c.args.n.now).name x = λ x. c.resize.ensures.replaces.name x ∙ c.put_in.ensures.inserts.fixed.name x in
+    let tree = returns-clause-others g c m i has (λ e. let clash : Directory ≡ Pfs = sym kind ∙ e in cc) ne in
+    entries_same (g.N.Sets.forest c.args.n.now) now (held_by g.N.Nodes.fields (g.N.Sets.beside c.args.n.now)) (held_by g.N.Nodes.fields (g.N.Sets.beside c.resize.new.n)) _ (g.N.Nodes.told c.resize.new.n) may m size entries h names tree.leaves

@@ -5,7 +5,7 @@ use Rattle.h2_set.specs.StayLaws.{Walks-refl}
 use Rattle.h2_dirkey.specs.NameLaws.{no_fault}
 use Rattle.h2_dir.specs.Names.{Scanned, NoneNamed, IsPlaceOfName}
 use Rattle.h2_dir.proofs.Agreeing.{found_between, missing_between, missing_agrees}
-use Rattle.h2_dir.proofs.Searched.{found_there, missing_there, scanned_stays}
+use Rattle.h2_dir.proofs.Searched.{found_there, missing_there, scanned_stays, loads_none}
 use Rattle.h2_dir.proofs.finding.find.Goals as goal
 
 pub returns-then-not-is_directory-clause-walks : goal.returns-then-not-is_directory-clause-walks
@@ -47,3 +47,9 @@ returns-clause-agrees g c may size entries h =
     let scanned = scanned_stays _ f items items c.args.name.now c.in_ok-candidates.candidates.place (λ i. items) c.in_ok-candidates.ensures.walks.fixed.name c.in_ok-candidates.ensures.scanned in
     let none : NoneNamed f items c.args.name.now = subst (λ (o : Option ℕ). Scanned f items c.args.name.now o) c.in-None.is scanned in
     missing_between _ _ _ _ _ _ _ h c.args.name.now items c.in_ok-candidates.ensures.told none
+
+pub returns-then-not-is_directory-clause-touched : goal.returns-then-not-is_directory-clause-touched
+returns-then-not-is_directory-clause-touched g c = loads_none _ _ _ _
+
+pub returns-in_default-clause-touched : goal.returns-in_default-clause-touched
+returns-in_default-clause-touched g c = loads_none _ _ _ _

@@ -11,6 +11,7 @@ use Rattle.h2_set.specs.Forest.{HasCause}
 use Rattle.h2_dir.proofs.Walked.{cause_earlier}
 use Rattle.h2_dir.proofs.Listed.{entry_leaves, each_stays}
 use Rattle.h2_dir.proofs.Paths.{lists_same}
+use Rattle.h2_dir.proofs.Searched.{loads_same, loads_none}
 use Rattle.h2_dir.proofs.Told.{lists_entries, long_loads}
 use Rattle.h2_dir.proofs.listing.list.Goals as goal
 
@@ -71,3 +72,15 @@ returns-in_err-all-clause-err g c i h =
     let cause : HasCause f now c.in_err-all.field-0.0 = cause_earlier f middle now _ (walks_visit _ _ walks) c.in_err-all.ensures.err in
     let fails : ListFails f now i.kind c.args.dir.0 (fault.Trouble c.in_err-all.field-0.0) = (kind, cause, loads) in
     search (fails, rules)
+
+pub returns-in_err-all-clause-touched : goal.returns-in_err-all-clause-touched
+returns-in_err-all-clause-touched g c = loads_same _ _ _ _ _ _ c.in_ok-leaves.ensures.tree c.in_err-all.ensures.same
+
+pub returns-in-Ok-clause-touched : goal.returns-in-Ok-clause-touched
+returns-in-Ok-clause-touched g c = loads_same _ _ _ _ _ _ c.in_ok-leaves.ensures.tree c.in_ok-all.ensures.same
+
+pub returns-clause-touched : goal.returns-clause-touched
+returns-clause-touched g c = loads_same _ _ _ _ _ _ c.in_ok-leaves.ensures.tree c.in_ok-all.ensures.same
+
+pub returns-then-not-is_directory-clause-touched : goal.returns-then-not-is_directory-clause-touched
+returns-then-not-is_directory-clause-touched g c = loads_none _ _ _ _

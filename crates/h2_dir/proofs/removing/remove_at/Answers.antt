@@ -1,10 +1,12 @@
-use Rattle.std.proofs.Common.{◌≡◌, ◌-◌, None, sym, subst, ap, ◌∙◌, false, refl}
+use Rattle.std.proofs.Common.{◌≡◌, ◌-◌, None, Some, sym, subst, ap, ◌∙◌, false, refl}
 use Rattle.h2_ref.specs.declared.reference.Ref.{Ref}
-use Rattle.h2_set.specs.Ranges.{without, holds}
+use Rattle.h2_set.specs.Ranges.{without, holds, find}
 use Rattle.h2_set.specs.Forest.{Reaches, LeavesOf}
+use Rattle.h2_set.specs.LeafLaws.{reaches_find}
 use Rattle.h2_set.specs.PathLaws.{reaches_one}
 use Rattle.std.proofs.lemmas.Option.{same_Some}
 use Rattle.h2_inode.specs.declared.inode.Inode.{Inode}
+use Rattle.h2_inode.specs.declared.kind.InodeKind.TheVariants.{Directory, Pfs}
 use Rattle.h2_inode.specs.Nodes.{Fields, held_by, HasInode}
 use Rattle.h2_dir.specs.Changing.{with_entries, TakesAway}
 use Rattle.h2_dir.proofs.Paths.{leaf_valid}
@@ -12,6 +14,9 @@ use Rattle.h2_dir.proofs.Spotting.{own_key}
 use Rattle.h2_dir.proofs.Leaf.{entry_free, entry_kind, of_entry, leaf_refs}
 use Rattle.h2_dir.proofs.Growing.{same_but_set, writable_out, beside_on}
 use Rattle.h2_dir.proofs.Resized.{root_leaves, root_path, same_fields, regrown}
+use Rattle.h2_dir.proofs.Renewed.{keeps_tree, renews_tree}
+use Rattle.h2_dir.proofs.Others.{removed_renews, removed_exact}
+use Rattle.h2_dir.proofs.Entries.{tree_rising, entries_same, entries_less, entry_number}
 use Rattle.h2_dir.proofs.removing.remove_at.Goals as goal
 
 pub inode-requires : goal.inode-requires
@@ -46,7 +51,7 @@ pub says-requires : goal.says-requires
 says-requires g c =
     let d = c.requires.directory in
     let was = c.take_out-leaf.ensures.was in
-    let of = of_entry c.take_out-leaf.result (leaf_valid c.requires.sound d.has.stands was) (entry_kind _ _ _ d.inode c.args.key c.take_out-leaf.result c.requires.sound d.has d.kind was) in
+    let of = of_entry c.take_out-leaf.result (leaf_valid c.requires.sound d.has was) (entry_kind _ _ _ d.inode c.args.key c.take_out-leaf.result c.requires.sound d.has d.kind was) in
     (of.entry, of.entry_is)
 
 pub returns-clause-takes : goal.returns-clause-takes
@@ -106,3 +111,51 @@ returns-clause-beside g c = beside_on _ _ _ _ _ _ _ (λ m old new. c.resize.ensu
 
 pub returns-clause-later : goal.returns-clause-later
 returns-clause-later g c = g.met.N.Sets.later_later _ _ _ c.take_out-leaf.ensures.later c.resize.ensures.later
+
+pub returns-clause-others : goal.returns-clause-others
+returns-clause-others g c m i has not ne =
+    let f = g.N.Sets.forest c.args.n.now in
+    let h = g.N.Sets.forest c.take_out-leaf.new.n in
+    let d = c.requires.directory in
+    let out = c.take_out-leaf.ensures.removes in
+    let dir = c.args.dir.0 in
+    let leaf = c.take_out-leaf.result in
+    let kept = beside_on _ _ _ _ _ _ _ (λ m old new. c.resize.ensures.replaces.none_new m new) c.take_out-leaf.ensures.beside c.resize.ensures.beside in
+    keeps_tree f h (g.N.Sets.forest c.resize.new.n) dir c.requires.sound out.sound out.place d.has.root (removed_renews f h _ dir d.inode leaf c.requires.sound d.has d.kind out) (removed_exact f h _ dir d.inode leaf c.requires.sound d.has d.kind out) out.fixed c.resize.ensures.replaces _ _ m i has not ne
+    (λ stands. ap g.N.Nodes.fields (kept.same m ne has.stands stands))
+
+pub returns-clause-above : goal.returns-clause-above
+returns-clause-above g c m stands root ne =
+    let f = g.N.Sets.forest c.args.n.now in
+    let h = g.N.Sets.forest c.take_out-leaf.new.n in
+    let d = c.requires.directory in
+    let out = c.take_out-leaf.ensures.removes in
+    let dir = c.args.dir.0 in
+    let leaf = c.take_out-leaf.result in
+    let kept = beside_on _ _ _ _ _ _ _ (λ m old new. c.resize.ensures.replaces.none_new m new) c.take_out-leaf.ensures.beside c.resize.ensures.beside in
+    renews_tree f h (g.N.Sets.forest c.resize.new.n) dir c.requires.sound out.sound out.place d.has.root (removed_renews f h _ dir d.inode leaf c.requires.sound d.has d.kind out) (removed_exact f h _ dir d.inode leaf c.requires.sound d.has d.kind out) out.fixed c.resize.ensures.replaces _ _ m stands root ne
+    (λ now. ap g.N.Nodes.fields (kept.same m ne stands now))
+
+pub returns-clause-entries : goal.returns-clause-entries
+returns-clause-entries g c may size entries name entry h found =
+    let f = g.N.Sets.forest c.args.n.now in
+    let now = g.N.Sets.forest c.resize.new.n in
+    let dir = c.args.dir.0 in
+    let d = c.requires.directory in
+    let leaf = found.leaf in
+    let names : (x : Ref) → now.name x ≡ f.name x = λ x. c.resize.ensures.replaces.name x ∙ c.take_out-leaf.ensures.removes.fixed.name x in
+    let is : find leaf.key h.leaves ≡ Some leaf = ap (λ k. find k h.leaves) found.key_is ∙ sym (reaches_find c.requires.sound found.path d.has.stands h.leaves h.has.read) in
+    let leaves : LeavesOf now dir (without leaf.key h.leaves) = subst (λ k. LeavesOf now dir (without k h.leaves)) (sym found.key_is) (returns-clause-leaves g c h.leaves h.has.read) in
+    let rising = tree_rising now dir (without leaf.key h.leaves) c.resize.ensures.replaces.sound c.resize.ensures.replaces.place.stands leaves in
+    let old = held_by g.N.Nodes.fields (g.N.Sets.beside c.args.n.now) in
+    let new = held_by g.N.Nodes.fields (g.N.Sets.beside c.resize.new.n) in
+    let told = g.N.Nodes.told c.resize.new.n in
+    (entry_number f now old new _ told may dir size entries h names leaf name c.says.result is found.named (returns-clause-says g c leaf found.path),
+    entries_less f now old new _ told may dir size entries h names leaf name is found.named leaves rising)
+
+pub returns-clause-other_entries : goal.returns-clause-other_entries
+returns-clause-other_entries g c m i may size entries has kind ne h =
+    let now = g.N.Sets.forest c.resize.new.n in
+    let names : (x : Ref) → now.name x ≡ (g.N.Sets.forest c.args.n.now).name x = λ x. c.resize.ensures.replaces.name x ∙ c.take_out-leaf.ensures.removes.fixed.name x in
+    let tree = returns-clause-others g c m i has (λ e. let clash : Directory ≡ Pfs = sym kind ∙ e in cc) ne in
+    entries_same (g.N.Sets.forest c.args.n.now) now (held_by g.N.Nodes.fields (g.N.Sets.beside c.args.n.now)) (held_by g.N.Nodes.fields (g.N.Sets.beside c.resize.new.n)) _ (g.N.Nodes.told c.resize.new.n) may m size entries h names tree.leaves

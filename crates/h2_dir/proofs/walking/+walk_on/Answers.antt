@@ -35,7 +35,7 @@ returns-in-Ok-clause-ends g t c =
     let rest = c.walk_on.ensures in
     let at : drop c.args.i c.args.names.now ≡ name ∷ drop (c.args.i + 1) c.args.names.now = names_at c.args.names.now c.args.i name c.if-i-names.false (subst (λ (x : List ℕ). get_or c.args.names.now c.args.i x ≡ x) (sym c.as_slice.ensures) (sym c.index-names-i.is)) in
     subst (λ (xs : List (List ℕ)). WalkEnds (g.N.Sets.forest c.args.n.now) (g.N.Sets.forest c.walk_on.new.n) (held_by g.N.Nodes.fields (g.N.Sets.beside c.walk_on.new.n)) c.args.pfs.0 c.args.number xs c.walk_on.result) (sym at)
-    (ends_on g.N.Nodes.fields (g.N.Sets.forest c.args.n.now) (g.N.Sets.forest c.step.new.n) (g.N.Sets.forest c.walk_on.new.n) _ _ c.args.pfs.0 c.args.number c.in-Ok.next name (drop (c.args.i + 1) c.args.names.now) c.walk_on.result step.visits.sound step.visits rest.visits rest.beside step.ends rest.ends)
+    (ends_on g.N.Nodes.fields (g.N.Sets.forest c.args.n.now) (g.N.Sets.forest c.step.new.n) (g.N.Sets.forest c.walk_on.new.n) _ _ c.args.pfs.0 c.args.number c.in-Ok.next name (drop (c.args.i + 1) c.args.names.now) c.walk_on.result c.requires.sound c.requires.pfs.has.stands step.visits.sound step.visits rest.visits rest.beside step.ends rest.ends)
 
 pub returns-in-Ok-clause-visits : goal.returns-in-Ok-clause-visits
 returns-in-Ok-clause-visits g t c = visits_trans _ _ _ c.in-Ok.ensures.visits c.walk_on.ensures.visits

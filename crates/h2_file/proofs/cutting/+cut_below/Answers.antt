@@ -7,9 +7,10 @@ use Rattle.h2_set.specs.Forest.{refs}
 use Rattle.h2_set.specs.StayLaws.{Walks-trans}
 use Rattle.h2_file.specs.Cutting.{Cuts, CutsNodes, Remains}
 use Rattle.h2_file.specs.declared.cutting.Left.TheVariants.{Nothing, All, Something}
+use Rattle.h2_file.proofs.Answering.{always_err, beside_over, Touched-refl, Touched-on}
 use Rattle.h2_file.proofs.Fronts.{contents_keep}
 use Rattle.h2_file.proofs.Parts.{all_past}
-use Rattle.h2_file.proofs.CutLevels.{always_err, beside_over, Touched-refl, Touched-on, readied_here, under_refl, cuts_front, ends_here, past_here, ends_in, past_in, last_fits, before_here, before_in, clear_here}
+use Rattle.h2_file.proofs.CutLevels.{readied_here, under_refl, cuts_front, ends_here, past_here, ends_in, past_in, last_fits, before_here, before_in, clear_here}
 use Rattle.h2_file.proofs.CutChild.{kept, none_to_copy, load_touched, unloaded_child, child_stands, child_fewer, child_room, child_contents, unloaded_below, ready_cut, stands_cut, copies_cut, length_cut, ready_none, under_none, touched_none, leaves_cut, past_cut, leaves_front, past_front, leaves_none, before_cut, before_front, clear_none}
 use Rattle.h2_file.proofs.CutNodes.{ends_before, ends_below, cut_short, nodes_here, nodes_over, none_given, short_none_new}
 use Rattle.h2_file.proofs.cutting.+cut_below.Goals as goal
@@ -166,7 +167,7 @@ keep_front-requires-clause-contents g t c =
     let child = c.in_ok-child.ensures in
     let left : Remains (g.N.Sets.forest c.child.new.self) (g.N.Sets.forest c.cut_below.new.n) c.in_ok-child.child.0 c.args.size c.args.last Something = subst (λ t. Remains (g.N.Sets.forest c.child.new.self) (g.N.Sets.forest c.cut_below.new.n) c.in_ok-child.child.0 c.args.size c.args.last t) c.in-Something.is c.in_ok-cut_below.ensures.left in
     let ready = ready_cut _ _ c.args.at.0 (count - 1) c.args.size c.at.result.now c.requires.sound c.requires.stands read ind in_r child.walks (child.loads _ read) c.in_ok-child.child.0 (child.ok _ read) _ _ left.0 left.1.copies in
-    contents_keep _ _ _ (sym ready.place.root) ready.fixed.leaf_bits ready.fixed.allows c.requires.contents
+    contents_keep _ _ _ c.requires.sound ready.sound c.requires.stands ready.place ready.fixed c.requires.contents
 
 pub keep_front-requires-clause-some : goal.keep_front-requires-clause-some
 keep_front-requires-clause-some g t c =
@@ -209,7 +210,7 @@ keep_front-requires-in-Nothing-clause-contents g t c =
     let child = c.in_ok-child.ensures in
     let left : Remains (g.N.Sets.forest c.child.new.self) (g.N.Sets.forest c.cut_below.new.n) c.in_ok-child.child.0 c.args.size c.args.last Nothing = subst (λ t. Remains (g.N.Sets.forest c.child.new.self) (g.N.Sets.forest c.cut_below.new.n) c.in_ok-child.child.0 c.args.size c.args.last t) c.in-Nothing.is c.in_ok-cut_below.ensures.left in
     let ready = ready_none _ _ c.args.at.0 (count - 1) c.args.size c.at.result.now c.requires.sound c.requires.stands read ind in_r child.walks (child.loads _ read) c.in_ok-child.child.0 (child.ok _ read) _ c.args.last left.0 left.1 c.requires.room.0 in
-    contents_keep _ _ _ (sym ready.place.root) ready.fixed.leaf_bits ready.fixed.allows c.requires.contents
+    contents_keep _ _ _ c.requires.sound ready.sound c.requires.stands ready.place ready.fixed c.requires.contents
 
 pub shorten-requires-in-All-clause-contents : goal.shorten-requires-in-All-clause-contents
 shorten-requires-in-All-clause-contents g t c =
@@ -224,7 +225,7 @@ shorten-requires-in-All-clause-contents g t c =
     let child = c.in_ok-child.ensures in
     let left : Remains (g.N.Sets.forest c.child.new.self) (g.N.Sets.forest c.cut_below.new.n) c.in_ok-child.child.0 c.args.size c.args.last All = subst (λ t. Remains (g.N.Sets.forest c.child.new.self) (g.N.Sets.forest c.cut_below.new.n) c.in_ok-child.child.0 c.args.size c.args.last t) c.in-All.is c.in_ok-cut_below.ensures.left in
     let ready = ready_none _ _ c.args.at.0 (count - 1) c.args.size c.at.result.now c.requires.sound c.requires.stands read ind in_r child.walks (child.loads _ read) c.in_ok-child.child.0 (child.ok _ read) _ c.args.last left.1 left.0.touched c.requires.room.0 in
-    contents_keep _ _ _ (sym ready.place.root) ready.fixed.leaf_bits ready.fixed.allows c.requires.contents
+    contents_keep _ _ _ c.requires.sound ready.sound c.requires.stands ready.place ready.fixed c.requires.contents
 
 pub returns-in-All-clause-left : goal.returns-in-All-clause-left
 returns-in-All-clause-left g t c =
@@ -300,3 +301,83 @@ returns-else-count-eq1-clause-beside g t c =
 pub returns-else-count-eq1-clause-later : goal.returns-else-count-eq1-clause-later
 returns-else-count-eq1-clause-later g t c =
     g.met.N.Sets.later_later _ _ _ c.in_ok-child.ensures.later (g.met.N.Sets.later_later _ _ _ c.in_ok-cut_below.ensures.later c.keep_front-in-Nothing.ensures.later)
+
+pub shorten-requires-in-All-clause-stands : goal.shorten-requires-in-All-clause-stands
+shorten-requires-in-All-clause-stands g t c =
+    let f = g.N.Sets.forest c.args.n.now in
+    let count = c.count_below-count.result in
+    let pos : 0 < count = (let e = c.if-count-eq0.false in omega (arith, e)) in
+    let read : slice_get (refs f c.args.at.0) (count - 1) ≡ Some c.at.result.now = rw c.get-set.ensures at c.at.ensures in
+    let in_r : holds c.args.size c.at.result.now ≡ true = sym c.holds.ensures ∙ c.if-not-holds.false in
+    let ind : is_indirect c.at.result.now ≡ true = sym c.is_indirect.ensures ∙ c.if-not-is_indirect.false in
+    let child = c.in_ok-child.ensures in
+    let left : Remains (g.N.Sets.forest c.child.new.self) (g.N.Sets.forest c.cut_below.new.n) c.in_ok-child.child.0 c.args.size c.args.last All = subst (λ t. Remains (g.N.Sets.forest c.child.new.self) (g.N.Sets.forest c.cut_below.new.n) c.in_ok-child.child.0 c.args.size c.args.last t) c.in-All.is c.in_ok-cut_below.ensures.left in
+    (ready_none _ _ c.args.at.0 (count - 1) c.args.size c.at.result.now c.requires.sound c.requires.stands read ind in_r child.walks (child.loads _ read) c.in_ok-child.child.0 (child.ok _ read) _ c.args.last left.1 left.0.touched c.requires.room.0).place.stands
+
+pub shorten-requires-in-All-clause-room : goal.shorten-requires-in-All-clause-room
+shorten-requires-in-All-clause-room g t c =
+    let f = g.N.Sets.forest c.args.n.now in
+    let count = c.count_below-count.result in
+    let pos : 0 < count = (let e = c.if-count-eq0.false in omega (arith, e)) in
+    let read : slice_get (refs f c.args.at.0) (count - 1) ≡ Some c.at.result.now = rw c.get-set.ensures at c.at.ensures in
+    let in_r : holds c.args.size c.at.result.now ≡ true = sym c.holds.ensures ∙ c.if-not-holds.false in
+    let ind : is_indirect c.at.result.now ≡ true = sym c.is_indirect.ensures ∙ c.if-not-is_indirect.false in
+    let child = c.in_ok-child.ensures in
+    let left : Remains (g.N.Sets.forest c.child.new.self) (g.N.Sets.forest c.cut_below.new.n) c.in_ok-child.child.0 c.args.size c.args.last All = subst (λ t. Remains (g.N.Sets.forest c.child.new.self) (g.N.Sets.forest c.cut_below.new.n) c.in_ok-child.child.0 c.args.size c.args.last t) c.in-All.is c.in_ok-cut_below.ensures.left in
+    let ready = ready_none _ _ c.args.at.0 (count - 1) c.args.size c.at.result.now c.requires.sound c.requires.stands read ind in_r child.walks (child.loads _ read) c.in_ok-child.child.0 (child.ok _ read) _ c.args.last left.1 left.0.touched c.requires.room.0 in
+    omega (arith, ready.room, c.requires.room.1)
+
+pub shorten-requires-in-All-clause-within : goal.shorten-requires-in-All-clause-within
+shorten-requires-in-All-clause-within g t c =
+    let f = g.N.Sets.forest c.args.n.now in
+    let count = c.count_below-count.result in
+    let pos : 0 < count = (let e = c.if-count-eq0.false in omega (arith, e)) in
+    let read : slice_get (refs f c.args.at.0) (count - 1) ≡ Some c.at.result.now = rw c.get-set.ensures at c.at.ensures in
+    let in_r : holds c.args.size c.at.result.now ≡ true = sym c.holds.ensures ∙ c.if-not-holds.false in
+    let ind : is_indirect c.at.result.now ≡ true = sym c.is_indirect.ensures ∙ c.if-not-is_indirect.false in
+    let child = c.in_ok-child.ensures in
+    let left : Remains (g.N.Sets.forest c.child.new.self) (g.N.Sets.forest c.cut_below.new.n) c.in_ok-child.child.0 c.args.size c.args.last All = subst (λ t. Remains (g.N.Sets.forest c.child.new.self) (g.N.Sets.forest c.cut_below.new.n) c.in_ok-child.child.0 c.args.size c.args.last t) c.in-All.is c.in_ok-cut_below.ensures.left in
+    let under = under_none _ _ c.args.at.0 (count - 1) c.args.size c.at.result.now c.requires.sound c.requires.stands read ind in_r child.walks (child.loads _ read) c.in_ok-child.child.0 (child.ok _ read) _ c.args.last left.1 left.0.touched in
+    let within : count ≤ length (refs f c.args.at.0) = rw c.get-set.ensures at c.count_below-count.ensures.within in
+    let same : length (refs (g.N.Sets.forest c.cut_below.new.n) c.args.at.0) ≡ length (refs f c.args.at.0) = ap (λ (s : RefSet). length s.refs) (under.walks.sets c.args.at.0 c.requires.stands) in
+    (pos, omega (arith, within, same))
+
+pub keep_front-requires-in-Nothing-clause-stands : goal.keep_front-requires-in-Nothing-clause-stands
+keep_front-requires-in-Nothing-clause-stands g t c =
+    let f = g.N.Sets.forest c.args.n.now in
+    let count = c.count_below-count.result in
+    let pos : 0 < count = (let e = c.if-count-eq0.false in omega (arith, e)) in
+    let read : slice_get (refs f c.args.at.0) (count - 1) ≡ Some c.at.result.now = rw c.get-set.ensures at c.at.ensures in
+    let in_r : holds c.args.size c.at.result.now ≡ true = sym c.holds.ensures ∙ c.if-not-holds.false in
+    let ind : is_indirect c.at.result.now ≡ true = sym c.is_indirect.ensures ∙ c.if-not-is_indirect.false in
+    let child = c.in_ok-child.ensures in
+    let left : Remains (g.N.Sets.forest c.child.new.self) (g.N.Sets.forest c.cut_below.new.n) c.in_ok-child.child.0 c.args.size c.args.last Nothing = subst (λ t. Remains (g.N.Sets.forest c.child.new.self) (g.N.Sets.forest c.cut_below.new.n) c.in_ok-child.child.0 c.args.size c.args.last t) c.in-Nothing.is c.in_ok-cut_below.ensures.left in
+    (ready_none _ _ c.args.at.0 (count - 1) c.args.size c.at.result.now c.requires.sound c.requires.stands read ind in_r child.walks (child.loads _ read) c.in_ok-child.child.0 (child.ok _ read) _ c.args.last left.0 left.1 c.requires.room.0).place.stands
+
+pub keep_front-requires-in-Nothing-clause-room : goal.keep_front-requires-in-Nothing-clause-room
+keep_front-requires-in-Nothing-clause-room g t c =
+    let f = g.N.Sets.forest c.args.n.now in
+    let count = c.count_below-count.result in
+    let pos : 0 < count = (let e = c.if-count-eq0.false in omega (arith, e)) in
+    let read : slice_get (refs f c.args.at.0) (count - 1) ≡ Some c.at.result.now = rw c.get-set.ensures at c.at.ensures in
+    let in_r : holds c.args.size c.at.result.now ≡ true = sym c.holds.ensures ∙ c.if-not-holds.false in
+    let ind : is_indirect c.at.result.now ≡ true = sym c.is_indirect.ensures ∙ c.if-not-is_indirect.false in
+    let child = c.in_ok-child.ensures in
+    let left : Remains (g.N.Sets.forest c.child.new.self) (g.N.Sets.forest c.cut_below.new.n) c.in_ok-child.child.0 c.args.size c.args.last Nothing = subst (λ t. Remains (g.N.Sets.forest c.child.new.self) (g.N.Sets.forest c.cut_below.new.n) c.in_ok-child.child.0 c.args.size c.args.last t) c.in-Nothing.is c.in_ok-cut_below.ensures.left in
+    let ready = ready_none _ _ c.args.at.0 (count - 1) c.args.size c.at.result.now c.requires.sound c.requires.stands read ind in_r child.walks (child.loads _ read) c.in_ok-child.child.0 (child.ok _ read) _ c.args.last left.0 left.1 c.requires.room.0 in
+    omega (arith, ready.room, c.requires.room.1)
+
+pub keep_front-requires-in-Nothing-clause-some : goal.keep_front-requires-in-Nothing-clause-some
+keep_front-requires-in-Nothing-clause-some g t c =
+    let f = g.N.Sets.forest c.args.n.now in
+    let count = c.count_below-count.result in
+    let pos : 0 < count = (let e = c.if-count-eq0.false in omega (arith, e)) in
+    let read : slice_get (refs f c.args.at.0) (count - 1) ≡ Some c.at.result.now = rw c.get-set.ensures at c.at.ensures in
+    let in_r : holds c.args.size c.at.result.now ≡ true = sym c.holds.ensures ∙ c.if-not-holds.false in
+    let ind : is_indirect c.at.result.now ≡ true = sym c.is_indirect.ensures ∙ c.if-not-is_indirect.false in
+    let child = c.in_ok-child.ensures in
+    let left : Remains (g.N.Sets.forest c.child.new.self) (g.N.Sets.forest c.cut_below.new.n) c.in_ok-child.child.0 c.args.size c.args.last Nothing = subst (λ t. Remains (g.N.Sets.forest c.child.new.self) (g.N.Sets.forest c.cut_below.new.n) c.in_ok-child.child.0 c.args.size c.args.last t) c.in-Nothing.is c.in_ok-cut_below.ensures.left in
+    let under = under_none _ _ c.args.at.0 (count - 1) c.args.size c.at.result.now c.requires.sound c.requires.stands read ind in_r child.walks (child.loads _ read) c.in_ok-child.child.0 (child.ok _ read) _ c.args.last left.0 left.1 in
+    let within : count ≤ length (refs f c.args.at.0) = rw c.get-set.ensures at c.count_below-count.ensures.within in
+    let same : length (refs (g.N.Sets.forest c.cut_below.new.n) c.args.at.0) ≡ length (refs f c.args.at.0) = ap (λ (s : RefSet). length s.refs) (under.walks.sets c.args.at.0 c.requires.stands) in
+    inr (let more = c.if-count-eq1.false in omega (arith, pos, more), omega (arith, pos, within, same))

@@ -1,15 +1,15 @@
 use Rattle.h2_file.proofs.Held.{cut_has}
-use Rattle.h2_file.proofs.Sized.{cuts_file, cut_file, cut_resized, others_beside}
+use Rattle.h2_file.proofs.Sized.{cuts_file, kept_file, kept_resized, others_beside}
 use Rattle.h2_file.proofs.cutting.cut_blocks.Goals as goal
 
 pub set_size-requires-clause-file : goal.set_size-requires-clause-file
-set_size-requires-clause-file g c = cut_file g.N.Nodes.fields _ _ _ _ _ c.args.size c.args.last c.in_ok-cut_tree.ensures.cuts c.in_ok-cut_tree.ensures.beside c.requires.file
+set_size-requires-clause-file g c = kept_file g.N.Nodes.fields _ _ _ _ _ c.args.size c.in_ok-cut_tree.ensures.cuts.place c.in_ok-cut_tree.ensures.cuts.fixed c.in_ok-cut_tree.ensures.beside c.requires.file
 
 pub returns-clause-cuts : goal.returns-clause-cuts
 returns-clause-cuts g c = cuts_file _ _ _ _ _ _ c.requires.sound c.requires.file.has.stands c.requires.file.has.root c.in_ok-cut_tree.ensures.cuts c.in_ok-cut_tree.ensures.nodes c.set_size.ensures.sizes
 
 pub returns-clause-inode : goal.returns-clause-inode
-returns-clause-inode g c = λ file. cut_resized g.N.Nodes.fields _ _ _ _ _ c.args.size c.args.last c.in_ok-cut_tree.ensures.cuts c.in_ok-cut_tree.ensures.beside _ _ file (c.set_size.ensures.inode (cut_file g.N.Nodes.fields _ _ _ _ _ c.args.size c.args.last c.in_ok-cut_tree.ensures.cuts c.in_ok-cut_tree.ensures.beside file))
+returns-clause-inode g c = λ file. kept_resized g.N.Nodes.fields _ _ _ _ _ c.args.size c.in_ok-cut_tree.ensures.cuts.place c.in_ok-cut_tree.ensures.cuts.fixed c.in_ok-cut_tree.ensures.beside _ _ file (c.set_size.ensures.inode (kept_file g.N.Nodes.fields _ _ _ _ _ c.args.size c.in_ok-cut_tree.ensures.cuts.place c.in_ok-cut_tree.ensures.cuts.fixed c.in_ok-cut_tree.ensures.beside file))
 
 pub returns-clause-contents : goal.returns-clause-contents
 returns-clause-contents g c = λ blocks old bytes has ends. cut_has _ _ _ _ _ _ blocks _ old c.args.size bytes c.args.last c.requires.last ends (returns-clause-cuts g c) has

@@ -1,6 +1,6 @@
 use Rattle.std.specs.Prelude.{◌≡◌, true, Some}
 use Rattle.h2_inode.specs.Loaded.{no_content}
-use Rattle.h2_inode.specs.LoadedLaws.{alike_trans, alike_contents, alike_directory, alike_pfs_list}
+use Rattle.h2_inode.specs.LoadedLaws.{rereads_follow, alike_trans, alike_contents, alike_directory, alike_pfs_list}
 use Rattle.h2_inode.proofs.loaded_laws.loads_law.Goals as goal
 
 pub returns-clause-chained : goal.returns-clause-chained
@@ -14,3 +14,6 @@ returns-clause-directories c = λ u v may at size entries alike stands. alike_di
 
 pub returns-clause-pfs_lists : goal.returns-clause-pfs_lists
 returns-clause-pfs_lists c = λ u v at next pfss alike stands. alike_pfs_list no_content alike at next pfss stands
+
+pub returns-clause-follows : goal.returns-clause-follows
+returns-clause-follows c = λ u v block h. rereads_follow u v h (λ r b. block r ≡ Some b)

@@ -3,12 +3,24 @@ use Rattle.h2_set.specs.StayLaws.{Readies-unchanged}
 use Rattle.h2_tree.specs.Changes.{Inserts}
 use Rattle.h2_inode.specs.Nodes.{Visits}
 use Rattle.h2_inode.specs.VisitLaws.{unchanged_visits}
+use Rattle.h2_inode.specs.Loaded.{StandsAlike, view_of}
+use Rattle.h2_pfs.proofs.Alike.{unchanged_alike}
+use Rattle.h2_pfs.specs.Meets.{LoadsPfss}
+use Rattle.h2_pfs.proofs.Loading.{none_loads}
 use Rattle.h2_pfs.proofs.Answering.{always_err, beside_on}
 use Rattle.h2_pfs.proofs.Planted.{ready_path, ready_takes, none_before, new_unloaded, founds}
 use Rattle.h2_pfs.proofs.adding.found.Goals as goal
 
 pub returns-in_err-ready-clause-visits : goal.returns-in_err-ready-clause-visits
 returns-in_err-ready-clause-visits g c = always_err c.from_residual.result (unchanged_visits _ _ (Readies-unchanged _ _ c.in_err-ready.ensures.same c.in_err-ready.ensures.err))
+
+pub returns-in_err-ready-clause-alike : goal.returns-in_err-ready-clause-alike
+returns-in_err-ready-clause-alike g c =
+    let ready = c.in_err-ready.ensures in
+    always_err c.from_residual.result (unchanged_alike g.N.Nodes.fields _ _ _ _ _ _ c.requires.sound (Readies-unchanged _ _ ready.same ready.err) ready.beside (g.met.N.Nodes.told_later _ _ ready.later))
+
+pub returns-in_err-ready-clause-loads : goal.returns-in_err-ready-clause-loads
+returns-in_err-ready-clause-loads g c = always_err c.from_residual.result (none_loads _ _ c.args.root.0 c.in_err-ready.ensures.same.none_new)
 
 pub insert-requires-clause-takes : goal.insert-requires-clause-takes
 insert-requires-clause-takes g c =
@@ -20,6 +32,25 @@ returns-in-Err-clause-visits g c =
     let ready = c.in_ok-ready.ensures in
     let path = ready_path _ _ c.args.leaf.key c.args.root.0 None c.requires.sound c.requires.super_root.stands ready.same c.requires.path in
     elim c.in-Err.ensures.unloaded as (λ _. Visits (g.N.Sets.forest c.args.n.now) (g.N.Sets.forest c.insert.new.n)) [
+      | inl none ↦ absurd (none None path)
+      | inr spent ↦ absurd (omega (arith, spent, ready.ok))
+    ]
+
+pub returns-in-Err-clause-alike : goal.returns-in-Err-clause-alike
+returns-in-Err-clause-alike g c =
+    let ready = c.in_ok-ready.ensures in
+    let path = ready_path _ _ c.args.leaf.key c.args.root.0 None c.requires.sound c.requires.super_root.stands ready.same c.requires.path in
+    let fields = g.N.Nodes.fields in
+    elim c.in-Err.ensures.unloaded as (λ _. StandsAlike (view_of fields (g.N.Sets.forest c.args.n.now) (g.N.Sets.beside c.args.n.now) (g.N.Nodes.told c.args.n.now)) (view_of fields (g.N.Sets.forest c.insert.new.n) (g.N.Sets.beside c.insert.new.n) (g.N.Nodes.told c.insert.new.n))) [
+      | inl none ↦ absurd (none None path)
+      | inr spent ↦ absurd (omega (arith, spent, ready.ok))
+    ]
+
+pub returns-in-Err-clause-loads : goal.returns-in-Err-clause-loads
+returns-in-Err-clause-loads g c =
+    let ready = c.in_ok-ready.ensures in
+    let path = ready_path _ _ c.args.leaf.key c.args.root.0 None c.requires.sound c.requires.super_root.stands ready.same c.requires.path in
+    elim c.in-Err.ensures.unloaded as (λ _. LoadsPfss (g.N.Sets.forest c.args.n.now) (g.N.Sets.forest c.insert.new.n) c.args.root.0) [
       | inl none ↦ absurd (none None path)
       | inr spent ↦ absurd (omega (arith, spent, ready.ok))
     ]

@@ -6,6 +6,10 @@ use Rattle.h2_pfs.specs.declared.fault.PfsFault.{PfsFault}
 use Rattle.h2_pfs.specs.Listing.{HasPfss, id_of}
 use Rattle.h2_pfs.specs.Faults.{IsAddFault, IsFaultIn}
 use Rattle.h2_pfs.specs.Addition.{HasSpace}
+use Rattle.h2_inode.specs.LoadedLaws.{alike_trans}
+use Rattle.h2_pfs.proofs.Alike.{walks_alike}
+use Rattle.h2_pfs.proofs.Loading.{tree_loads, loads_trans}
+use Rattle.h2_pfs.proofs.Apart.{founds_others}
 use Rattle.h2_pfs.proofs.Answering.{always_err, carried_err, beside_on}
 use Rattle.h2_pfs.proofs.Scanned.{super_stays}
 use Rattle.h2_pfs.proofs.Kept.{found_as}
@@ -41,6 +45,25 @@ returns-in_err-make_space-clause-refused g c =
 pub returns-in_err-make_space-clause-visits : goal.returns-in_err-make_space-clause-visits
 returns-in_err-make_space-clause-visits g c = always_err c.from_residual-in_err-make_space.result (visits_trans _ _ _ (walks_visit _ _ c.in_ok-lookup.ensures.walks) c.in_err-make_space.ensures.visits)
 
+pub returns-in_err-lookup-clause-alike : goal.returns-in_err-lookup-clause-alike
+returns-in_err-lookup-clause-alike g c =
+    let look = c.in_err-lookup.ensures in
+    always_err c.from_residual.result (walks_alike g.N.Nodes.fields _ _ _ _ _ _ c.requires.sound look.walks look.beside (g.met.N.Nodes.told_later _ _ look.later))
+
+pub returns-in_err-lookup-clause-loads : goal.returns-in_err-lookup-clause-loads
+returns-in_err-lookup-clause-loads g c = always_err c.from_residual.result (tree_loads _ _ c.args.root.0 _ _ c.requires.super_root.root c.in_err-lookup.ensures.tree)
+
+pub returns-in_err-make_space-clause-loads : goal.returns-in_err-make_space-clause-loads
+returns-in_err-make_space-clause-loads g c =
+    let look = c.in_ok-lookup.ensures in
+    let super = c.requires.super_root in
+    always_err c.from_residual-in_err-make_space.result (loads_trans _ _ _ c.args.root.0 look.walks.sound (look.walks.stays _ super.stands).place.stands c.in_err-make_space.ensures.visits (tree_loads _ _ c.args.root.0 _ _ super.root look.tree) c.in_err-make_space.ensures.loads)
+
+pub returns-in_err-make_space-clause-alike : goal.returns-in_err-make_space-clause-alike
+returns-in_err-make_space-clause-alike g c =
+    let look = c.in_ok-lookup.ensures in
+    always_err c.from_residual-in_err-make_space.result (alike_trans (walks_alike g.N.Nodes.fields _ _ _ _ _ _ c.requires.sound look.walks look.beside (g.met.N.Nodes.told_later _ _ look.later)) c.in_err-make_space.ensures.alike)
+
 pub found-requires-clause-super_root : goal.found-requires-clause-super_root
 found-requires-clause-super_root g c = super_stays _ _ c.args.root.0 c.requires.super_root (visits_trans _ _ _ (walks_visit _ _ c.in_ok-lookup.ensures.walks) c.in_ok-make_space.ensures.visits)
 
@@ -61,14 +84,21 @@ returns-in-Ok-clause-adds g c =
     let made = c.in_ok-make_space.ensures in
     let k = g.N.Sets.forest c.make_space.new.n in
     let mid = held_by g.N.Nodes.fields (g.N.Sets.beside c.make_space.new.n) in
+    let visits = visits_trans _ _ _ (walks_visit _ _ look.walks) made.visits in
+    let first = c.requires.super_root in
+    let super = super_stays _ _ c.args.root.0 first visits in
     record {
       then = k;
       holds = mid;
-      visits = visits_trans _ _ _ (walks_visit _ _ look.walks) made.visits;
+      tells = g.N.Nodes.told c.make_space.new.n;
+      visits = visits;
+      loads = loads_trans _ _ _ c.args.root.0 look.walks.sound (look.walks.stays _ first.stands).place.stands made.visits (tree_loads _ _ c.args.root.0 _ _ first.root look.tree) made.loads;
+      alike = alike_trans (walks_alike g.N.Nodes.fields _ _ _ _ _ _ c.requires.sound look.walks look.beside (g.met.N.Nodes.told_later _ _ look.later)) made.alike;
       before = held_beside g.N.Nodes.fields _ _ _ _ (beside_on _ _ _ _ _ _ (λ m st. (look.walks.stays m st).place.stands) look.beside made.beside);
       after = held_beside g.N.Nodes.fields _ _ _ _ c.in-Ok.ensures.beside;
       space = subst (λ (z : List ℕ). HasSpace k mid c.args.root.0 z) c.as_slice.ensures.bytes made.space.0;
       founds = c.in-Ok.ensures.founds;
+      others = founds_others g.N.Nodes.fields _ _ _ _ c.args.root.0 c.args.leaf c.args.inode made.visits.sound super.stands super.root c.in-Ok.ensures.beside c.in-Ok.ensures.founds;
     }
 
 pub returns-in-Ok-clause-listed : goal.returns-in-Ok-clause-listed
@@ -101,6 +131,19 @@ returns-in-Ok-clause-later g c = g.met.N.Sets.later_later _ _ _ (g.met.N.Sets.la
 
 pub returns-in-Err-clause-visits : goal.returns-in-Err-clause-visits
 returns-in-Err-clause-visits g c = visits_trans _ _ _ (visits_trans _ _ _ (walks_visit _ _ c.in_ok-lookup.ensures.walks) c.in_ok-make_space.ensures.visits) c.in-Err.ensures.visits
+
+pub returns-in-Err-clause-alike : goal.returns-in-Err-clause-alike
+returns-in-Err-clause-alike g c =
+    let look = c.in_ok-lookup.ensures in
+    alike_trans (alike_trans (walks_alike g.N.Nodes.fields _ _ _ _ _ _ c.requires.sound look.walks look.beside (g.met.N.Nodes.told_later _ _ look.later)) c.in_ok-make_space.ensures.alike) c.in-Err.ensures.alike
+
+pub returns-in-Err-clause-loads : goal.returns-in-Err-clause-loads
+returns-in-Err-clause-loads g c =
+    let look = c.in_ok-lookup.ensures in
+    let made = c.in_ok-make_space.ensures in
+    let super = c.requires.super_root in
+    let visits = visits_trans _ _ _ (walks_visit _ _ look.walks) made.visits in
+    loads_trans _ _ _ c.args.root.0 made.visits.sound (visits.stays _ super.stands).place.stands c.in-Err.ensures.visits (loads_trans _ _ _ c.args.root.0 look.walks.sound (look.walks.stays _ super.stands).place.stands made.visits (tree_loads _ _ c.args.root.0 _ _ super.root look.tree) made.loads) c.in-Err.ensures.loads
 
 pub returns-in-Err-clause-beside : goal.returns-in-Err-clause-beside
 returns-in-Err-clause-beside g c =

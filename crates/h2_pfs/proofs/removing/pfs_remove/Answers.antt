@@ -1,5 +1,6 @@
 use Rattle.std.proofs.Common.{◌∙◌, refl, sym, arith}
 use Rattle.h2_inode.specs.Nodes.{held_by}
+use Rattle.h2_pfs.proofs.Apart.{all_goes, removes_others}
 use Rattle.h2_pfs.proofs.Answering.{beside_on}
 use Rattle.h2_pfs.proofs.Kept.{kept_id, found_as}
 use Rattle.h2_pfs.proofs.Found.{found_met, found_path, found_free}
@@ -57,6 +58,24 @@ returns-in_err-remove-clause-visits g c =
     let it = found_met (g.N.Sets.forest c.scan.new.n) holds top c.in-Some.id c.args.name.now met.1.leaves met.0 met.1.each id_is in
     absurd (c.in_err-remove.ensures.unloaded _ (found_path (g.N.Sets.forest c.scan.new.n) holds top c.in-Some.id c.args.name.now it))
 
+pub returns-in_err-remove-clause-alike : goal.returns-in_err-remove-clause-alike
+returns-in_err-remove-clause-alike g c =
+    let met = c.in_ok-pfss.ensures.met in
+    let id_is = kept_id c.args.name.now _ _ met.0 _ (sym c.in-Some.is ∙ c.id_in.ensures) c.deref.ensures.value met.2 in
+    let top = c.args.root.0 in
+    let holds = held_by g.N.Nodes.fields (g.N.Sets.beside c.scan.new.n) in
+    let it = found_met (g.N.Sets.forest c.scan.new.n) holds top c.in-Some.id c.args.name.now met.1.leaves met.0 met.1.each id_is in
+    absurd (c.in_err-remove.ensures.unloaded _ (found_path (g.N.Sets.forest c.scan.new.n) holds top c.in-Some.id c.args.name.now it))
+
+pub returns-in_err-remove-clause-loads : goal.returns-in_err-remove-clause-loads
+returns-in_err-remove-clause-loads g c =
+    let met = c.in_ok-pfss.ensures.met in
+    let id_is = kept_id c.args.name.now _ _ met.0 _ (sym c.in-Some.is ∙ c.id_in.ensures) c.deref.ensures.value met.2 in
+    let top = c.args.root.0 in
+    let holds = held_by g.N.Nodes.fields (g.N.Sets.beside c.scan.new.n) in
+    let it = found_met (g.N.Sets.forest c.scan.new.n) holds top c.in-Some.id c.args.name.now met.1.leaves met.0 met.1.each id_is in
+    absurd (c.in_err-remove.ensures.unloaded _ (found_path (g.N.Sets.forest c.scan.new.n) holds top c.in-Some.id c.args.name.now it))
+
 pub returns-in_err-remove-clause-beside : goal.returns-in_err-remove-clause-beside
 returns-in_err-remove-clause-beside g c = beside_on _ _ _ _ _ _ (λ m st. (c.in_ok-pfss.ensures.visits.stays m st).place.stands) c.in_ok-pfss.ensures.beside c.in_err-remove.ensures.beside
 
@@ -76,7 +95,14 @@ pub returns-clause-removes : goal.returns-clause-removes
 returns-clause-removes g c =
     let met = c.in_ok-pfss.ensures.met in
     let id_is = kept_id c.args.name.now _ _ met.0 _ (sym c.in-Some.is ∙ c.id_in.ensures) c.deref.ensures.value met.2 in
-    removes_pfs g.N.Nodes.fields _ _ _ _ _ _ c.args.root.0 c.in-Some.id c.args.name.now c.in_ok-pfss.ensures.visits c.in_ok-pfss.ensures.beside c.in_ok-remove.ensures.beside (record { pfss = met.0; meets = met.1; id_is = id_is }) (out g c)
+    let scan = c.in_ok-pfss.ensures in
+    let top = c.args.root.0 in
+    let place = (scan.visits.stays top c.requires.super_root.stands).place in
+    let beside = c.in_ok-remove.ensures.beside in
+    let gone = out g c in
+    let others = removes_others g.N.Nodes.fields _ _ _ _ top gone.leaf scan.visits.sound place.stands (place.root ∙ c.requires.super_root.root) beside gone.removes in
+    let all_gone = all_goes _ _ top gone.leaf scan.visits.sound place.stands (place.root ∙ c.requires.super_root.root) gone.removes in
+    removes_pfs g.N.Nodes.fields _ _ _ _ _ _ (g.N.Nodes.told c.args.n.now) (g.N.Nodes.told c.scan.new.n) top c.in-Some.id c.args.name.now scan.visits scan.alike scan.loads scan.beside beside (record { pfss = met.0; meets = met.1; id_is = id_is }) gone all_gone others
 
 pub returns-clause-listed : goal.returns-clause-listed
 returns-clause-listed g c next known has =

@@ -2,11 +2,18 @@ use Rattle.std.proofs.Common.{◌≡◌, ◌∙◌, ap, List, ℕ}
 use Rattle.h2_ref.specs.declared.reference.Ref.{Ref}
 use Rattle.h2_inode.specs.VisitLaws.{unchanged_visits, seeks_visit}
 use Rattle.h2_pfs.specs.declared.met.Met.{Met}
+use Rattle.h2_pfs.proofs.Alike.{unchanged_alike, seeks_alike}
+use Rattle.h2_pfs.proofs.Loading.{none_loads, seek_loads}
 use Rattle.h2_pfs.proofs.Visiting.{seeks_meets, seeks_tells}
 use Rattle.h2_pfs.proofs.scanning.meet.Goals as goal
 
 pub returns-in_err-at-clause-visits : goal.returns-in_err-at-clause-visits
 returns-in_err-at-clause-visits g c = unchanged_visits _ _ c.in_err-at.ensures.same
+
+pub returns-in_err-at-clause-alike : goal.returns-in_err-at-clause-alike
+returns-in_err-at-clause-alike g c =
+    let seek = c.in_err-at.ensures in
+    unchanged_alike g.N.Nodes.fields _ _ _ _ _ _ c.requires.sound seek.same seek.beside (g.met.N.Nodes.told_later _ _ seek.later)
 
 pub returns-in-Ok-clause-met : goal.returns-in-Ok-clause-met
 returns-in-Ok-clause-met g c =
@@ -25,3 +32,22 @@ returns-in-Ok-clause-visits g c = seeks_visit _ _ _ _ _ c.in_ok-at.ensures.ok
 
 pub returns-in-Err-clause-visits : goal.returns-in-Err-clause-visits
 returns-in-Err-clause-visits g c = seeks_visit _ _ _ _ _ c.in_ok-at.ensures.ok
+
+pub returns-in-Ok-clause-alike : goal.returns-in-Ok-clause-alike
+returns-in-Ok-clause-alike g c =
+    let seek = c.in_ok-at.ensures in
+    seeks_alike g.N.Nodes.fields _ _ _ _ _ _ c.args.root.0 c.in_ok-at.at.0 c.args.leaf.now c.requires.sound c.requires.leaf seek.ok seek.beside (g.met.N.Nodes.told_later _ _ seek.later) seek.told
+
+pub returns-in-Err-clause-alike : goal.returns-in-Err-clause-alike
+returns-in-Err-clause-alike g c =
+    let seek = c.in_ok-at.ensures in
+    seeks_alike g.N.Nodes.fields _ _ _ _ _ _ c.args.root.0 c.in_ok-at.at.0 c.args.leaf.now c.requires.sound c.requires.leaf seek.ok seek.beside (g.met.N.Nodes.told_later _ _ seek.later) seek.told
+
+pub returns-in_err-at-clause-loads : goal.returns-in_err-at-clause-loads
+returns-in_err-at-clause-loads g c = none_loads _ _ c.args.root.0 c.in_err-at.ensures.same.none_new
+
+pub returns-in-Ok-clause-loads : goal.returns-in-Ok-clause-loads
+returns-in-Ok-clause-loads g c = seek_loads _ _ c.args.root.0 c.in_ok-at.at.0 c.args.leaf.now c.requires.sound c.requires.leaf c.in_ok-at.ensures.ok
+
+pub returns-in-Err-clause-loads : goal.returns-in-Err-clause-loads
+returns-in-Err-clause-loads g c = seek_loads _ _ c.args.root.0 c.in_ok-at.at.0 c.args.leaf.now c.requires.sound c.requires.leaf c.in_ok-at.ensures.ok

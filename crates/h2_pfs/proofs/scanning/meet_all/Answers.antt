@@ -5,18 +5,23 @@ use Rattle.h2_ref.specs.declared.faults.Trouble.TheVariants.{NoMemory}
 use Rattle.h2_inode.specs.Nodes.{held_by}
 use Rattle.h2_inode.specs.VisitLaws.{visits_trans, visits_leaf}
 use Rattle.h2_inode.specs.Access.{OneByOne}
+use Rattle.h2_inode.specs.Loaded.{as_before}
+use Rattle.h2_inode.specs.LoadedLaws.{alike_trans}
 use Rattle.h2_pfs.specs.declared.met.Met.{Met}
 use Rattle.h2_pfs.specs.Mets.{met_of}
 use Rattle.h2_pfs.specs.Meets.{MetBy, InodeMissing}
 use Rattle.h2_pfs.proofs.Answering.{carried_err, beside_same, beside_on}
 use Rattle.h2_pfs.proofs.Members.{whole_front, at_place, map_more}
 use Rattle.h2_pfs.proofs.Growing.{front_met, named_no_more}
+use Rattle.h2_pfs.proofs.Loading.{none_loads, leaves_stand, loads_trans}
 use Rattle.h2_pfs.proofs.Visiting.{visits_same, visits_unloaded}
 use Rattle.h2_pfs.proofs.scanning.meet_all.Goals as goal
 
 pub loop-i-init : goal.loop-i-init
 loop-i-init g c = record {
   visits = visits_same _ c.requires.sound;
+  loads = none_loads _ _ c.args.root.0 (λ m st. st);
+  alike = as_before;
   beside = beside_same _ _;
   later = g.met.N.Sets.same_later _;
   met = ([], tt, c.new-out.ensures.items);
@@ -30,6 +35,15 @@ meet-requires-clause-leaf g c =
 
 pub returns-in_err-met-clause-visits : goal.returns-in_err-met-clause-visits
 returns-in_err-met-clause-visits g c = visits_trans _ _ _ c.loop-i.invariant.visits c.in_err-met.ensures.visits
+
+pub returns-in_err-met-clause-alike : goal.returns-in_err-met-clause-alike
+returns-in_err-met-clause-alike g c = alike_trans c.loop-i.invariant.alike c.in_err-met.ensures.alike
+
+pub returns-in_err-met-clause-loads : goal.returns-in_err-met-clause-loads
+returns-in_err-met-clause-loads g c =
+    let inv = c.loop-i.invariant in
+    let stands = leaves_stand _ c.args.root.0 c.loop-i.i c.args.leaves.now c.requires.leaves c.loop-i-test.true in
+    loads_trans _ _ _ c.args.root.0 inv.visits.sound (inv.visits.stays c.args.root.0 stands).place.stands c.in_err-met.ensures.visits inv.loads c.in_err-met.ensures.loads
 
 pub returns-in_err-met-clause-unloaded : goal.returns-in_err-met-clause-unloaded
 returns-in_err-met-clause-unloaded g c =
@@ -47,6 +61,15 @@ returns-in_err-met-clause-beside g c = beside_on _ _ _ _ _ _ (λ m st. (c.loop-i
 pub returns-in-Err-clause-visits : goal.returns-in-Err-clause-visits
 returns-in-Err-clause-visits g c = visits_trans _ _ _ c.loop-i.invariant.visits c.in_ok-met.ensures.visits
 
+pub returns-in-Err-clause-alike : goal.returns-in-Err-clause-alike
+returns-in-Err-clause-alike g c = alike_trans c.loop-i.invariant.alike c.in_ok-met.ensures.alike
+
+pub returns-in-Err-clause-loads : goal.returns-in-Err-clause-loads
+returns-in-Err-clause-loads g c =
+    let inv = c.loop-i.invariant in
+    let stands = leaves_stand _ c.args.root.0 c.loop-i.i c.args.leaves.now c.requires.leaves c.loop-i-test.true in
+    loads_trans _ _ _ c.args.root.0 inv.visits.sound (inv.visits.stays c.args.root.0 stands).place.stands c.in_ok-met.ensures.visits inv.loads c.in_ok-met.ensures.loads
+
 pub loop-i-preserved : goal.loop-i-preserved
 loop-i-preserved g c =
     let inv = c.loop-i.invariant in
@@ -60,6 +83,8 @@ loop-i-preserved g c =
     let items : c.push.new.self.items ≡ map met_of (pfss ++ p ∷ []) = c.in-Ok.ensures.items ∙ ap (λ (z : List Met). z ++ c.in_ok-met.met ∷ []) inv.met.2 ∙ ap (λ (z : Met). map met_of pfss ++ z ∷ []) met.met.2 ∙ sym (map_more met_of pfss p) in
     record {
       visits = visits_trans _ _ _ inv.visits met.visits;
+      loads = loads_trans _ _ _ c.args.root.0 inv.visits.sound (inv.visits.stays c.args.root.0 leaf.stands).place.stands met.visits inv.loads met.loads;
+      alike = alike_trans inv.alike met.alike;
       beside = beside_on _ _ _ _ _ _ (λ m st. (inv.visits.stays m st).place.stands) inv.beside met.beside;
       later = g.met.N.Sets.later_later _ _ _ inv.later met.later;
       met = (pfss ++ p ∷ [], all, items);

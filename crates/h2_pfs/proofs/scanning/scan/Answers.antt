@@ -5,12 +5,15 @@ use Rattle.h2_set.specs.Forest.{HasCause}
 use Rattle.h2_inode.specs.Nodes.{held_by}
 use Rattle.h2_inode.specs.VisitLaws.{walks_visit, visits_trans}
 use Rattle.h2_inode.specs.Access.{OneByOne}
+use Rattle.h2_inode.specs.LoadedLaws.{alike_trans}
 use Rattle.h2_inode.specs.PfsList.{ListedPfs}
 use Rattle.h2_pfs.specs.Listing.{HasPfss, KeepsPfss}
 use Rattle.h2_pfs.specs.Mets.{met_of}
 use Rattle.h2_pfs.specs.Meets.{Meets, MetBy, AreLeaves, InodeMissing}
 use Rattle.h2_pfs.specs.Faults.{IsTrouble}
+use Rattle.h2_pfs.proofs.Alike.{walks_alike}
 use Rattle.h2_pfs.proofs.Answering.{on_ok, on_err}
+use Rattle.h2_pfs.proofs.Loading.{tree_loads, loads_trans}
 use Rattle.h2_pfs.proofs.Scanned.{listed_leaves, super_stays}
 use Rattle.h2_pfs.proofs.Listed.{meets_after, listed_after, trouble_after}
 use Rattle.h2_pfs.proofs.scanning.scan.Goals as goal
@@ -22,6 +25,14 @@ meet_all-requires-clause-leaves g c =
 
 pub returns-in_err-leaves-clause-visits : goal.returns-in_err-leaves-clause-visits
 returns-in_err-leaves-clause-visits g c = walks_visit _ _ c.in_err-leaves.ensures.walks
+
+pub returns-in_err-leaves-clause-alike : goal.returns-in_err-leaves-clause-alike
+returns-in_err-leaves-clause-alike g c =
+    let range = c.in_err-leaves.ensures in
+    walks_alike g.N.Nodes.fields _ _ _ _ _ _ c.requires.sound range.walks range.beside (g.met.N.Nodes.told_later _ _ range.later)
+
+pub returns-in_err-leaves-clause-loads : goal.returns-in_err-leaves-clause-loads
+returns-in_err-leaves-clause-loads g c = tree_loads _ _ c.args.root.0 _ _ c.requires.super_root.root c.in_err-leaves.ensures.tree
 
 pub returns-clause-met : goal.returns-clause-met
 returns-clause-met g c =
@@ -45,6 +56,17 @@ returns-clause-met g c =
 
 pub returns-clause-visits : goal.returns-clause-visits
 returns-clause-visits g c = visits_trans _ _ _ (walks_visit _ _ c.in_ok-leaves.ensures.walks) c.meet_all.ensures.visits
+
+pub returns-clause-alike : goal.returns-clause-alike
+returns-clause-alike g c =
+    let range = c.in_ok-leaves.ensures in
+    alike_trans (walks_alike g.N.Nodes.fields _ _ _ _ _ _ c.requires.sound range.walks range.beside (g.met.N.Nodes.told_later _ _ range.later)) c.meet_all.ensures.alike
+
+pub returns-clause-loads : goal.returns-clause-loads
+returns-clause-loads g c =
+    let range = c.in_ok-leaves.ensures in
+    let super = c.requires.super_root in
+    loads_trans _ _ _ c.args.root.0 range.walks.sound (range.walks.stays _ super.stands).place.stands c.meet_all.ensures.visits (tree_loads _ _ c.args.root.0 _ _ super.root range.tree) c.meet_all.ensures.loads
 
 pub returns-clause-err : goal.returns-clause-err
 returns-clause-err g c =

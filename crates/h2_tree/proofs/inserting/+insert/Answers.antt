@@ -5,7 +5,7 @@ use Rattle.h2_set.specs.Forest.{refs}
 use Rattle.h2_set.specs.LeafLaws.{find_none, find_here}
 use Rattle.h2_tree.proofs.Edit.{same_leaf}
 use Rattle.h2_tree.proofs.Climb.{reaches_loaded}
-use Rattle.h2_tree.proofs.Touching.{touched_load}
+use Rattle.h2_tree.proofs.Touching.{in_path, err_touched}
 use Rattle.h2_tree.proofs.Descend.{child_stands, child_fewer, child_takes, child_room, ok_below, old_below, walks_below, touched_below, unloaded_below}
 use Rattle.h2_tree.proofs.Answering.{always_err, beside_on}
 use Rattle.h2_tree.proofs.Paths.{inserts_paths, inserts_path, ok_paths, ok_path}
@@ -54,16 +54,22 @@ returns-in_err-child-clause-unloaded g t c =
     always_err c.from_residual.result (inl (λ o reached. reaches_loaded f c.args.leaf.key c.args.root.0 c.in-Some.i c.at.result.now o c.requires.sound c.requires.stands read in_r ind c.in_err-child.ensures.unloaded reached))
 
 pub returns-in-Err-clause-touched : goal.returns-in-Err-clause-touched
-returns-in-Err-clause-touched g t c = c.in-Err.ensures.touched
+returns-in-Err-clause-touched g t c = c.in-Err.ensures.touched.touched
 
-pub returns-in_err-child-clause-touched : goal.returns-in_err-child-clause-touched
-returns-in_err-child-clause-touched g t c =
+pub returns-in-Err-clause-tree : goal.returns-in-Err-clause-tree
+returns-in-Err-clause-tree g t c = c.in-Err.ensures.touched
+
+pub returns-in_err-child-clause-tree : goal.returns-in_err-child-clause-tree
+returns-in_err-child-clause-tree g t c =
     let f = g.N.Sets.forest c.args.n.now in
     let read : slice_get (refs f c.args.root.0) c.in-Some.i ≡ Some c.at.result.now = rw c.get-set.ensures at c.at.ensures in
     let ind : is_indirect c.at.result.now ≡ true = sym c.is_indirect.ensures ∙ c.if-not-is_indirect.false in
     let in_r = c.in-Some.ensures.found.holds _ c.at.ensures in
     let child = c.in_err-child.ensures in
-    always_err c.from_residual.result (touched_load _ _ c.args.root.0 c.in-Some.i c.at.result.now _ _ c.requires.stands read ind in_r child.walks (child.loads _ read))
+    always_err c.from_residual.result (in_path _ _ c.args.root.0 c.in-Some.i c.at.result.now _ c.requires.stands read ind in_r child.walks (child.loads _ read))
+
+pub returns-in_err-child-clause-touched : goal.returns-in_err-child-clause-touched
+returns-in_err-child-clause-touched g t c = err_touched _ _ _ _ _ c.from_residual.result (returns-in_err-child-clause-tree g t c)
 
 pub insert-requires : goal.insert-requires
 insert-requires g t c κs within =
@@ -102,14 +108,17 @@ returns-clause-walks g t c =
     let child = c.in_ok-child.ensures in
     walks_below _ _ _ _ _ c.args.leaf c.at.result.now c.requires.sound c.requires.stands c.requires.takes read ind in_r child.walks (child.loads _ read) (child.ok _ read) _ c.insert.result c.insert.ensures.walks
 
-pub returns-clause-touched : goal.returns-clause-touched
-returns-clause-touched g t c =
+pub returns-clause-tree : goal.returns-clause-tree
+returns-clause-tree g t c =
     let f = g.N.Sets.forest c.args.n.now in
     let read : slice_get (refs f c.args.root.0) c.in-Some.i ≡ Some c.at.result.now = rw c.get-set.ensures at c.at.ensures in
     let ind : is_indirect c.at.result.now ≡ true = sym c.is_indirect.ensures ∙ c.if-not-is_indirect.false in
     let in_r = c.in-Some.ensures.found.holds _ c.at.ensures in
     let child = c.in_ok-child.ensures in
-    touched_below _ _ _ _ _ c.args.leaf c.at.result.now c.requires.sound c.requires.stands c.requires.takes read ind in_r child.walks (child.loads _ read) (child.ok _ read) _ c.insert.result c.insert.ensures.walks c.insert.ensures.touched
+    touched_below _ _ _ _ _ c.args.leaf c.at.result.now c.requires.sound c.requires.stands c.requires.takes read ind in_r child.walks (child.loads _ read) (child.ok _ read) _ c.insert.result c.insert.ensures.walks c.insert.ensures.tree
+
+pub returns-clause-touched : goal.returns-clause-touched
+returns-clause-touched g t c = err_touched _ _ _ _ _ c.insert.result (returns-clause-tree g t c)
 
 pub returns-clause-unloaded : goal.returns-clause-unloaded
 returns-clause-unloaded g t c =

@@ -2,7 +2,7 @@ use Rattle.std.proofs.Common.{◌≡◌, true, false, sym, ◌∙◌}
 use Rattle.h2_set.specs.StayLaws.{Readies-unchanged, Unchanged-walks}
 use Rattle.h2_tree.proofs.Readied.{takes_after, inserts_after, none_after, full_after, not_full}
 use Rattle.h2_tree.proofs.Answering.{always_err}
-use Rattle.h2_tree.proofs.Touching.{none_touched}
+use Rattle.h2_tree.proofs.Touching.{none_in}
 use Rattle.h2_tree.proofs.inserting.add.Goals as goal
 
 pub part-requires-clause-takes : goal.part-requires-clause-takes
@@ -26,7 +26,7 @@ pub returns-in_err-ready-clause-walks : goal.returns-in_err-ready-clause-walks
 returns-in_err-ready-clause-walks g c = always_err c.from_residual.result (Unchanged-walks _ _ (Readies-unchanged _ _ c.in_err-ready.ensures.same c.in_err-ready.ensures.err))
 
 pub returns-in_err-ready-clause-touched : goal.returns-in_err-ready-clause-touched
-returns-in_err-ready-clause-touched g c = always_err c.from_residual.result (none_touched _ _ _ _ c.in_err-ready.ensures.same.none_new)
+returns-in_err-ready-clause-touched g c = always_err c.from_residual.result (none_in _ _ _ _ _ c.in_err-ready.ensures.same.none_new)
 
 pub returns-then-is_full-clause-ok : goal.returns-then-is_full-clause-ok
 returns-then-is_full-clause-ok g c = inserts_after _ _ _ _ c.requires.stands c.in_ok-ready.ensures.same _ _ c.requires.sound c.part.ensures.inserts

@@ -7,10 +7,10 @@ use Rattle.h2_set.specs.RefSet.{RefSet}
 use Rattle.h2_set.specs.Forest.{refs, HasLeaves}
 use Rattle.h2_set.specs.StayLaws.{Walks-refl, Walks-trans}
 use Rattle.h2_tree.specs.Changes.{is_between, touches, RangeUnloaded, missing, deeper}
-use Rattle.h2_tree.proofs.Touching.{Touched-refl, Touched-trans, touched_load, unloaded_back, skip_step, always_unloaded, carried_err}
+use Rattle.h2_tree.proofs.Touching.{In-refl, In-trans, in_load, unloaded_back, skip_step, always_unloaded, carried_err}
 use Rattle.h2_ref.specs.declared.faults.Trouble.TheVariants.{NoMemory}
 use Rattle.h2_tree.specs.Listing.{Adds}
-use Rattle.h2_tree.proofs.Climb.{next_node}
+use Rattle.h2_tree.proofs.Climb.{next_node, next_root}
 use Rattle.h2_tree.proofs.Gathering.{adds_none, adds_more, adds_skipped, adds_taken, adds_entered}
 use Rattle.h2_tree.proofs.Answering.{beside_same, beside_on}
 use Rattle.h2_tree.proofs.Collect.{no_leaves, collected_more, leaf_step, child_step}
@@ -20,7 +20,7 @@ use Rattle.h2_tree.proofs.listing.+collect.Goals.{then-touches+then-is_indirect+
 pub loop-i-init : goal.loop-i-init
 loop-i-init g t c = record {
   walks = Walks-refl _ c.requires.sound;
-  touched = Touched-refl _ _ _;
+  touched = In-refl _ _ _ _;
   beside = beside_same _ _;
   later = g.met.N.Sets.same_later _;
   gathered = adds_none _ _ _ _ _;
@@ -94,10 +94,12 @@ loop-i-preserved g t c =
           let ind : is_indirect r ≡ true = sym w.is_indirect.ensures ∙ w.if-is_indirect.true in
           let on : touches c.args.from c.args.to r ≡ true = sym c.touches.ensures ∙ w.if-touches.true in
           let loaded_walk = Walks-trans _ _ _ inv.walks child.walks in
-          let loaded_touched = Touched-trans _ _ _ _ _ child.walks inv.touched (touched_load _ _ at i r _ _ there read ind on child.walks (child.loads r read)) in
+          let root = (inv.walks.stays at c.requires.stands).place.root in
+          let loaded_touched = In-trans _ _ _ at at _ _ root child.walks inv.touched (in_load _ _ at i r _ _ there read ind on child.walks (child.loads r read)) in
+          let root_child = next_root _ _ at w.in_ok-child.child.0 r.key child.walks there (child.ok r read) ∙ root in
           rw (w.n-is, w.out-is) (record {
             walks = Walks-trans _ _ _ loaded_walk rest.walks;
-            touched = Touched-trans _ _ _ _ _ rest.walks loaded_touched rest.touched;
+            touched = In-trans _ _ _ at w.in_ok-child.child.0 _ _ root_child rest.walks loaded_touched rest.touched;
             beside = beside_on _ _ _ _ _ _ (λ m st. (loaded_walk.stays m st).place.stands) (beside_on _ _ _ _ _ _ (λ m st. (inv.walks.stays m st).place.stands) inv.beside child.beside) rest.beside;
             later = g.met.N.Sets.later_later _ _ _ (g.met.N.Sets.later_later _ _ _ inv.later child.later) rest.later;
             gathered = (let mid = (child.walks.stays at there).place.stands in let link = (rest.walks.stays at mid).near r.key w.in_ok-child.child.0 (child.ok _ read) in adds_more f _ c.args.from c.args.to at i (refs f0 at) c.args.out.now.items c.loop-i.out.items w.collect.new.out.items r inv.walks.sound (Walks-trans _ _ _ child.walks rest.walks) there inv.gathered read0 (adds_entered _ c.args.from c.args.to at w.in_ok-child.child.0 c.loop-i.out.items w.collect.new.out.items r ind link rest.gathers));
@@ -133,7 +135,8 @@ returns-in_err-child-clause-touched g t c =
     let on : touches c.args.from c.args.to c.at.result.now ≡ true = sym c.touches.ensures ∙ c.if-touches.true in
     let read : slice_get (refs f c.args.at.0) c.loop-i.i ≡ Some c.at.result.now = subst (λ (s : RefSet). slice_get s.refs c.loop-i.i ≡ Some c.at.result.now) c.get-in-loop-i.ensures c.at.ensures in
     let there = (inv.walks.stays c.args.at.0 c.requires.stands).place.stands in
-    Touched-trans _ _ _ _ _ child.walks inv.touched (touched_load _ _ c.args.at.0 c.loop-i.i c.at.result.now _ _ there read ind on child.walks (child.loads c.at.result.now read))
+    let root = (inv.walks.stays c.args.at.0 c.requires.stands).place.root in
+    In-trans _ _ _ c.args.at.0 c.args.at.0 _ _ root child.walks inv.touched (in_load _ _ c.args.at.0 c.loop-i.i c.at.result.now _ _ there read ind on child.walks (child.loads c.at.result.now read))
 
 pub returns-in_err-child-clause-unloaded : goal.returns-in_err-child-clause-unloaded
 returns-in_err-child-clause-unloaded g t c =
@@ -155,7 +158,10 @@ returns-in_err-collect-clause-touched g t c =
     let on : touches c.args.from c.args.to c.at.result.now ≡ true = sym c.touches.ensures ∙ c.if-touches.true in
     let read : slice_get (refs f c.args.at.0) c.loop-i.i ≡ Some c.at.result.now = subst (λ (s : RefSet). slice_get s.refs c.loop-i.i ≡ Some c.at.result.now) c.get-in-loop-i.ensures c.at.ensures in
     let there = (inv.walks.stays c.args.at.0 c.requires.stands).place.stands in
-    Touched-trans _ _ _ _ _ rest.walks (Touched-trans _ _ _ _ _ child.walks inv.touched (touched_load _ _ c.args.at.0 c.loop-i.i c.at.result.now _ _ there read ind on child.walks (child.loads c.at.result.now read))) rest.touched
+    let root = (inv.walks.stays c.args.at.0 c.requires.stands).place.root in
+    let first = In-trans _ _ _ c.args.at.0 c.args.at.0 _ _ root child.walks inv.touched (in_load _ _ c.args.at.0 c.loop-i.i c.at.result.now _ _ there read ind on child.walks (child.loads c.at.result.now read)) in
+    let root_child = next_root _ _ c.args.at.0 c.in_ok-child.child.0 c.at.result.now.key child.walks there (child.ok c.at.result.now read) ∙ root in
+    In-trans _ _ _ c.args.at.0 c.in_ok-child.child.0 _ _ root_child rest.walks first rest.touched
 
 pub returns-in_err-collect-clause-unloaded : goal.returns-in_err-collect-clause-unloaded
 returns-in_err-collect-clause-unloaded g t c =

@@ -2,7 +2,7 @@ use Rattle.std.proofs.Common.{◌≡◌, List, ◌++◌, take}
 use Rattle.std.specs.Prelude.{filter}
 use Rattle.h2_ref.specs.declared.reference.Ref.{Ref}
 use Rattle.h2_set.specs.Forest.{refs, HasLeaves, Walks, KeepsBeside}
-use Rattle.h2_tree.specs.Changes.{is_between, LoadsTouched}
+use Rattle.h2_tree.specs.Changes.{is_between, LoadsIn}
 use Rattle.h2_tree.specs.Listing.{Adds}
 use Rattle.h2_tree.proofs.listing.+collect.Given as goal
 
@@ -14,7 +14,7 @@ invariant-loop-i g l =
     let f = g.N.Sets.forest l.fn.n in
     record {
       walks : Walks f (g.N.Sets.forest l.n);
-      touched : LoadsTouched f (g.N.Sets.forest l.n) l.from l.to;
+      touched : LoadsIn f (g.N.Sets.forest l.n) l.at.0 l.from l.to;
       beside : KeepsBeside f (g.N.Sets.forest l.n) (g.N.Sets.beside l.fn.n) (g.N.Sets.beside l.n);
       later : g.N.Sets.later l.fn.n l.n;
       gathered : Adds (g.N.Sets.forest l.n) l.from l.to l.at.0 (take l.i (refs f l.at.0)) l.fn.out.items l.out.items;

@@ -1,17 +1,18 @@
-use Rattle.std.proofs.Common.{◌≡◌, ◌∙◌, sym, true, false, Some, slice_get}
+use Rattle.std.proofs.Common.{◌≡◌, ◌∙◌, refl, sym, true, false, Some, slice_get}
 use Rattle.h2_set.specs.Ranges.{is_indirect}
 use Rattle.h2_set.specs.Forest.{refs, nowhere, here}
 use Rattle.h2_set.specs.StayLaws.{Walks-refl, Walks-trans}
-use Rattle.h2_tree.proofs.Climb.{leads_start, leads_on, next_node, found_in, led_start, led_on, not_led}
-use Rattle.h2_tree.proofs.Touching.{Touched-refl, Touched-trans, touched_load}
+use Rattle.h2_tree.proofs.Climb.{next_root, leads_start, leads_on, next_node, found_in, led_start, led_on, not_led}
+use Rattle.h2_tree.proofs.Touching.{In-refl, In-trans, in_path}
 use Rattle.h2_tree.proofs.Answering.{always_err, beside_same, beside_on}
 use Rattle.h2_tree.proofs.looking_up.lookup.Goals as goal
 
 pub loop-i-init : goal.loop-i-init
 loop-i-init g c = record {
   walks = Walks-refl _ c.requires.sound;
-  touched = Touched-refl _ _ _;
+  touched = In-refl _ _ _ _;
   stands = c.requires.stands;
+  tree = refl;
   leads = leads_start _ _ _;
   led = led_start _ _ _ c.requires.stands;
   beside = beside_same _ _;
@@ -36,14 +37,23 @@ returns-then-not-is_indirect-clause-found g c = found_in _ _ _ _ _ c.requires.so
 pub returns-in_err-at-clause-walks : goal.returns-in_err-at-clause-walks
 returns-in_err-at-clause-walks g c = Walks-trans _ _ _ c.loop-i.invariant.walks c.in_err-at.ensures.walks
 
-pub returns-in_err-at-clause-touched : goal.returns-in_err-at-clause-touched
-returns-in_err-at-clause-touched g c =
+pub returns-in_err-at-clause-tree : goal.returns-in_err-at-clause-tree
+returns-in_err-at-clause-tree g c =
     let f = g.N.Sets.forest c.loop-i.n in
     let now = c.loop-i.invariant in
     let child = c.in_err-at.ensures in
     let ind : is_indirect c.at.result.now ≡ true = sym c.is_indirect.ensures ∙ c.if-not-is_indirect.false in
     let read : slice_get (refs f c.loop-i.at.0) c.in-Some.i ≡ Some c.at.result.now = rw c.get-set.ensures at c.at.ensures in
-    Touched-trans _ _ _ _ _ child.walks now.touched (touched_load f _ _ _ c.at.result.now _ _ now.stands read ind (c.in-Some.ensures.found.holds _ c.at.ensures) child.walks (child.loads _ read))
+    In-trans _ _ _ c.args.root.0 c.loop-i.at.0 _ _ now.tree child.walks now.touched (in_path f _ _ _ c.at.result.now _ now.stands read ind (c.in-Some.ensures.found.holds _ c.at.ensures) child.walks (child.loads _ read))
+
+pub returns-in_err-at-clause-touched : goal.returns-in_err-at-clause-touched
+returns-in_err-at-clause-touched g c = (returns-in_err-at-clause-tree g c).touched
+
+pub returns-in_default-clause-touched : goal.returns-in_default-clause-touched
+returns-in_default-clause-touched g c = c.loop-i.invariant.touched.touched
+
+pub returns-then-not-is_indirect-clause-touched : goal.returns-then-not-is_indirect-clause-touched
+returns-then-not-is_indirect-clause-touched g c = c.loop-i.invariant.touched.touched
 
 pub returns-in_err-at-clause-unloaded : goal.returns-in_err-at-clause-unloaded
 returns-in_err-at-clause-unloaded g c =
@@ -72,7 +82,8 @@ loop-i-preserved g c =
     let read : slice_get (refs f c.loop-i.at.0) c.in-Some.i ≡ Some c.at.result.now = rw c.get-set.ensures at c.at.ensures in
     record {
       walks = Walks-trans _ _ _ now.walks child.walks;
-      touched = Touched-trans _ _ _ _ _ child.walks now.touched (touched_load f _ _ _ c.at.result.now _ _ now.stands read ind (c.in-Some.ensures.found.holds _ c.at.ensures) child.walks (child.loads _ read));
+      touched = In-trans _ _ _ c.args.root.0 c.loop-i.at.0 _ _ now.tree child.walks now.touched (in_path f _ _ _ c.at.result.now _ now.stands read ind (c.in-Some.ensures.found.holds _ c.at.ensures) child.walks (child.loads _ read));
+      tree = next_root f _ _ _ c.at.result.now.key child.walks now.stands (child.ok _ read) ∙ now.tree;
       stands = (next_node f _ _ _ _ c.at.result.now now.walks.sound child.walks now.stands read ind (child.ok _ read)).0;
       leads = leads_on f _ _ _ _ _ _ c.at.result.now now.leads child.walks now.stands read (c.in-Some.ensures.found.holds _ c.at.ensures) ind (child.ok _ read);
       led = led_on _ _ _ _ _ c.in-Some.i c.at.result.now c.requires.sound now.walks now.led read (c.in-Some.ensures.found.holds _ c.at.ensures) ind _ _ child.walks (child.ok _ read);

@@ -1,6 +1,6 @@
 use Rattle.std.proofs.Common.{◌≡◌, true}
 use Rattle.h2_set.specs.Forest.{Walks, KeepsBeside}
-use Rattle.h2_tree.specs.Changes.{LoadsTouched}
+use Rattle.h2_tree.specs.Changes.{LoadsIn}
 use Rattle.h2_tree.proofs.Climb.{LeadsTo, LedBack}
 use Rattle.h2_tree.proofs.looking_up.lookup.Given as goal
 
@@ -9,8 +9,9 @@ invariant-loop-i g l =
     let f = g.N.Sets.forest l.n in
     record {
       walks : Walks (g.N.Sets.forest l.fn.n) f;
-      touched : LoadsTouched (g.N.Sets.forest l.fn.n) f l.key l.key;
+      touched : LoadsIn (g.N.Sets.forest l.fn.n) f l.fn.root.0 l.key l.key;
       stands : f.stands l.at.0 ≡ true;
+      tree : f.root l.at.0 ≡ (let first = g.N.Sets.forest l.fn.n in first.root l.fn.root.0);
       leads : LeadsTo f l.key l.fn.root.0 l.at.0;
       led : LedBack (g.N.Sets.forest l.fn.n) l.key l.fn.root.0 l.at.0;
       beside : KeepsBeside (g.N.Sets.forest l.fn.n) f (g.N.Sets.beside l.fn.n) (g.N.Sets.beside l.n);

@@ -6,8 +6,8 @@ use Rattle.h2_set.specs.Forest.{refs, nowhere, here}
 use Rattle.h2_set.specs.StayLaws.{Walks-trans}
 use Rattle.h2_set.specs.LeafLaws.{find_none, find_here, leaves_rising}
 use Rattle.h2_tree.proofs.Answering.{always_err, beside_on}
-use Rattle.h2_tree.proofs.Climb.{reaches_loaded}
-use Rattle.h2_tree.proofs.Touching.{Touched-refl, Touched-trans, touched_load}
+use Rattle.h2_tree.proofs.Climb.{next_root, reaches_loaded}
+use Rattle.h2_tree.proofs.Touching.{In-refl, In-trans, in_path}
 use Rattle.h2_tree.specs.Changes.{TakesOut, itself}
 use Rattle.h2_tree.specs.declared.removing.Taken.TheVariants.{Nothing, Out, Sole}
 use Rattle.h2_tree.proofs.Taking.{under_refl, at_key_none, at_key_other}
@@ -21,7 +21,7 @@ returns-in_default-clause-taken g t c = (
   λ l hl.
       let node = c.requires.sound.node c.args.at.0 c.requires.stands in
       at_key_none c.args.key _ _ l (leaves_rising hl _ _ node.inside) (find_none c.args.key hl (rw c.get-set.ensures at c.in_default.ensures.absent)),
-  Touched-refl _ _ _,
+  In-refl _ _ _ _,
   record { found = None; path = nowhere (rw c.get-set.ensures at c.in_default.ensures.absent); other = λ r e is. none-some r e },
 )
 
@@ -35,7 +35,7 @@ returns-then-found-key-clause-taken g t c =
       λ l hl.
           let node = c.requires.sound.node c.args.at.0 c.requires.stands in
           at_key_other c.args.key _ _ l c.at.result.now (leaves_rising hl _ _ node.inside) (find_here c.args.key _ _ c.in-Some.i c.at.result.now hl node.inside read in_r leaf) (omega (arith, c.if-found-key.true)),
-      Touched-refl _ _ _,
+      In-refl _ _ _ _,
       record {
         found = Some c.at.result.now;
         path = here c.in-Some.i read in_r leaf;
@@ -66,7 +66,7 @@ returns-in_err-child-clause-touched g t c =
     let in_r = c.in-Some.ensures.found.holds _ c.at.ensures in
     let ind : is_indirect c.at.result.now ≡ true = sym c.is_indirect.ensures ∙ c.if-not-is_indirect.false in
     let child = c.in_err-child.ensures in
-    always_err c.from_residual.result (touched_load _ _ c.args.at.0 c.in-Some.i c.at.result.now _ _ c.requires.stands read ind in_r child.walks (child.loads _ read))
+    always_err c.from_residual.result (in_path _ _ c.args.at.0 c.in-Some.i c.at.result.now _ c.requires.stands read ind in_r child.walks (child.loads _ read))
 
 pub returns-in_err-leaf-clause-touched : goal.returns-in_err-leaf-clause-touched
 returns-in_err-leaf-clause-touched g t c =
@@ -75,7 +75,7 @@ returns-in_err-leaf-clause-touched g t c =
     let in_r = c.in-Some.ensures.found.holds _ c.at.ensures in
     let ind : is_indirect c.at.result.now ≡ true = sym c.is_indirect.ensures ∙ c.if-not-is_indirect.false in
     let child = c.in_ok-child.ensures in
-    always_err c.from_residual-in_err-leaf.result (Touched-trans _ _ _ _ _ c.in_err-leaf.ensures.walks (touched_load _ _ c.args.at.0 c.in-Some.i c.at.result.now _ _ c.requires.stands read ind in_r child.walks (child.loads _ read)) c.in_err-leaf.ensures.touched)
+    always_err c.from_residual-in_err-leaf.result (In-trans _ _ _ c.args.at.0 c.in_ok-child.child.0 _ _ (next_root _ _ _ _ c.at.result.now.key child.walks c.requires.stands (child.ok _ read)) c.in_err-leaf.ensures.walks (in_path _ _ c.args.at.0 c.in-Some.i c.at.result.now _ c.requires.stands read ind in_r child.walks (child.loads _ read)) c.in_err-leaf.ensures.touched)
 
 pub returns-in-Sole-clause-later : goal.returns-in-Sole-clause-later
 returns-in-Sole-clause-later g t c = g.met.N.Sets.later_later _ _ _ (g.met.N.Sets.later_later _ _ _ c.in_ok-child.ensures.later c.in_ok-leaf.ensures.later) c.cut_unless_sole-in-Sole.ensures.later

@@ -17,7 +17,10 @@ returns-in-Out-clause-path g c =
     removes_path _ _ _ c.in-Out.leaf c.requires.stands taken.0
 
 pub returns-in_err-take-clause-touched : goal.returns-in_err-take-clause-touched
-returns-in_err-take-clause-touched g c = always_err c.from_residual.result c.in_err-take.ensures.touched
+returns-in_err-take-clause-touched g c = always_err c.from_residual.result c.in_err-take.ensures.touched.touched
+
+pub returns-in_err-take-clause-tree : goal.returns-in_err-take-clause-tree
+returns-in_err-take-clause-tree g c = always_err c.from_residual.result c.in_err-take.ensures.touched
 
 pub returns-in-Nothing-clause-none : goal.returns-in-Nothing-clause-none
 returns-in-Nothing-clause-none g c =
@@ -26,6 +29,11 @@ returns-in-Nothing-clause-none g c =
 
 pub returns-in-Nothing-clause-off : goal.returns-in-Nothing-clause-off
 returns-in-Nothing-clause-off g c =
+    let taken : TakesOut (g.N.Sets.forest c.args.n.now) (g.N.Sets.forest c.take.new.n) c.args.root.0 c.args.key Nothing = subst (λ t. TakesOut (g.N.Sets.forest c.args.n.now) (g.N.Sets.forest c.take.new.n) c.args.root.0 c.args.key t) c.in-Nothing.is c.in_ok-take.ensures.taken in
+    taken.2.touched
+
+pub returns-in-Nothing-clause-off_tree : goal.returns-in-Nothing-clause-off_tree
+returns-in-Nothing-clause-off_tree g c =
     let taken : TakesOut (g.N.Sets.forest c.args.n.now) (g.N.Sets.forest c.take.new.n) c.args.root.0 c.args.key Nothing = subst (λ t. TakesOut (g.N.Sets.forest c.args.n.now) (g.N.Sets.forest c.take.new.n) c.args.root.0 c.args.key t) c.in-Nothing.is c.in_ok-take.ensures.taken in
     taken.2
 
