@@ -9,6 +9,7 @@ pub mod Plantable
 pub mod Topped
 pub mod Planted
 pub mod Sought
+pub mod Flagged
 pub mod Nesting
 pub mod Settled
 pub mod Passing
