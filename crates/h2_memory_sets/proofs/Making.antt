@@ -456,8 +456,8 @@ module _ (f : Forest) (at : ℕ) (set : RefSet) (s : Split) (ref leaf : Ref) (so
           record { other = λ same. h.other (p.root ∙ sym d.root ∙ sym (ap g.root e) ∙ same); stands = h.stands; root = h.root; leaf = h.leaf; key_is = h.key_is; kind_is = h.kind_is; path = h.path }
     ]
 
-    came : (m : ℕ) → g.stands m ≡ true → CameOf f g d.settled.loose m
-    came m st = elim (same_or_not m c) as (λ _. CameOf f g d.settled.loose m) [
+    came_of : (m : ℕ) → g.stands m ≡ true → CameOf f g d.settled.loose m
+    came_of m st = elim (same_or_not m c) as (λ _. CameOf f g d.settled.loose m) [
       | inr ne ↦ stood_in (d.stands m ne st)
       | inl e ↦ like at stands (stays at stands) (λ t k. ap (λ z. g.belongs z t k) e ∙ d.belongs t k ∙ sym ((place at stands).belongs t k))
     ]
@@ -482,7 +482,7 @@ module _ (f : Forest) (at : ℕ) (set : RefSet) (s : Split) (ref leaf : Ref) (so
           ])
           (λ m h. stays m (sound.held m h).0)
           owners
-          came;
+          came_of;
       fixed = d.settled.fixed;
       fresh = d.fresh;
       child = child;
