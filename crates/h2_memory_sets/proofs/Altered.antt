@@ -219,6 +219,7 @@ module _ (xs : List Node) (at : ℕ) (x : Node) (read : slice_get xs at ≡ Some
     spare = refl;
     failed = refl;
     bad = refl;
+    met = refl;
   }
 
 module _ (xs : List Node) (spare epoch room failed bad : ℕ) (met : Option (ℕ × Why)) (sound : IsSound (forest_with xs spare epoch room failed bad met)) (less : epoch < 2 ^ 62) where

@@ -169,7 +169,7 @@ module _ (xs ys : List Node) (c : ℕ) (y : Node) (spare spare' epoch room faile
   ]
 
   pub arrives : Brings f g c
-  arrives = brings_root xs ys c y spare spare' epoch room failed failed' bad bad' met met' h sound fit paths
+  arrives = brings_root xs ys c y spare spare' epoch room failed failed' bad bad' met met' h sound low fit paths
 
   pub named_now : IsNamed g top leaf.key c
   named_now = named_by ys spare' epoch room failed' bad' met' low top leaf.key c at_owner (stands xs ys c y spare spare' epoch room failed failed' bad bad' met met' h sound) (root xs ys c y spare spare' epoch room failed failed' bad bad' met met' h sound) (ap root_of top_now ∙ named.root)

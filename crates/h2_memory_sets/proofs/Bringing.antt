@@ -5,6 +5,8 @@ use Rattle.std.specs.List.{position}
 use Rattle.std.proofs.Math.ListN.{length-set}
 use Rattle.std.proofs.lemmas.Option.{slice_get_within}
 use Rattle.h2_ref.specs.declared.faults.Why.{Why}
+use Rattle.h2_ref.specs.declared.faults.Trouble.{Trouble}
+use Rattle.h2_ref.specs.declared.faults.Trouble.TheVariants.{Bad}
 use Rattle.h2_ref.specs.declared.reference.Ref.{Ref}
 use Rattle.h2_set.specs.Ranges.{is_indirect}
 use Rattle.h2_set.specs.Forest.{Link, loaded, told, untold, Forest, Loads, Walks, IsSound}
@@ -164,6 +166,10 @@ loads_nothing xs spare epoch room failed failed' bad bad' met met' at k = record
 -- where no node was found, none is loaded
 pub not_loaded : (xs : List Node) (at k d : ℕ) → position (is_child at k) xs ≡ None → link_of xs at k ≡ loaded d → ⊥
 not_loaded xs at k d none e = let it : untold ≡ loaded d = sym (rw none (cond_same _ untold)) ∙ e in cc
+
+-- which block is bad
+pub bad_place : (p q : ℕ) (v w : Why) → ◌≡◌ {A = Trouble} (Bad p v) (Bad q w) → p ≡ q
+bad_place p q v w e = cc
 
 -- nobody tells what isn't loaded
 pub not_told : (xs : List Node) (at k : ℕ) (l : List Ref) → link_of xs at k ≡ told l → ⊥

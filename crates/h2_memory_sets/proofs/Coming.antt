@@ -14,6 +14,8 @@ use Rattle.h2_set.specs.StayLaws.{stands_below}
 use Rattle.h2_inode.specs.NodeLaws.{same_stays}
 use Rattle.h2_inode.specs.Nodes.{Brings}
 use Rattle.h2_memory_sets.specs.declared.node.Node.{Node}
+use Rattle.h2_memory_sets.proofs.Chains.{belongs_trans}
+use Rattle.h2_memory_sets.proofs.Owned.{AreLower}
 use Rattle.h2_memory_sets.specs.Owners.{belongs_to, allows_of, held_of}
 use Rattle.h2_memory_sets.specs.View.{stands_of, set_of, root_of, low_of, bits_of, writable_of, copies_of, leaf_bits_of, is_child, link_of, forest_with, FitsBelow, range_of}
 
@@ -265,8 +267,14 @@ module _ (xs ys : List Node) (c : ℕ) (y : Node) (spare spare' epoch room faile
     path = path_stays it.stands it.path;
   }
 
-  pub sound_now : IsFitRoot y → ((t k : ℕ) → belongs_to ys c t k ≡ true → HasPath f t k) → IsSound g
-  sound_now fit owned = record {
+  owner_of_new : ((t k : ℕ) → belongs_to ys c t k ≡ true → HasPath f t k) → (m t k : ℕ) → g.stands m ≡ true → g.belongs m t k ≡ true → HasOwner g m t k
+  owner_of_new owned m t k st b = elim (new m st) as (λ _. HasOwner g m t k) [
+    | inl e ↦ subst (λ z. HasOwner g z t k) (sym e) (new_owner t k (owned t k (sym (ap (λ q. belongs_to ys q t k) root) ∙ subst (λ z. g.belongs z t k ≡ true) e b)))
+    | inr was ↦ old_owner m t k was (sound.owner m t k was (sym ((same m was).place.belongs t k) ∙ b))
+  ]
+
+  pub sound_now : AreLower ys → IsFitRoot y → ((t k : ℕ) → belongs_to ys c t k ≡ true → HasPath f t k) → IsSound g
+  sound_now low fit owned = record {
     node = λ m st. elim (new m st) as (λ _. IsSoundNode g m) [
       | inl e ↦ subst (IsSoundNode g) (sym e) (new_node fit)
       | inr was ↦ old_node m was
@@ -277,16 +285,16 @@ module _ (xs ys : List Node) (c : ℕ) (y : Node) (spare spare' epoch room faile
         (p.stands, p.root ∙ it.1);
     top = top_of;
     parent = parent_of;
-    owner = λ m t k st b. elim (new m st) as (λ _. HasOwner g m t k) [
-      | inl e ↦ subst (λ z. HasOwner g z t k) (sym e) (new_owner t k (owned t k (sym (ap (λ q. belongs_to ys q t k) root) ∙ subst (λ z. g.belongs z t k ≡ true) e b)))
-      | inr was ↦ old_owner m t k was (sound.owner m t k was (sym ((same m was).place.belongs t k) ∙ b))
-    ];
+    owner = owner_of_new owned;
+    chain = λ m t k u j st b b'.
+        let own : g.root t ≡ t = (owner_of_new owned m t k st b).root in
+        belongs_trans ys low (g.root m) t k u j b (sym (ap (λ q. belongs_to ys q u j) own) ∙ b');
     epoch = sound.epoch;
   }
 
-  pub brings_root : IsFitRoot y → ((t k : ℕ) → belongs_to ys c t k ≡ true → HasPath f t k) → Brings f g c
-  brings_root fit owned = record {
-    sound = sound_now fit owned;
+  pub brings_root : AreLower ys → IsFitRoot y → ((t k : ℕ) → belongs_to ys c t k ≡ true → HasPath f t k) → Brings f g c
+  brings_root low fit owned = record {
+    sound = sound_now low fit owned;
     same = same;
     leaf_bits = leaf_bits;
     allows = allows;

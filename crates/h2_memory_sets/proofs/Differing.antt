@@ -159,4 +159,5 @@ module _ (xs : List Node) (at : ℕ) (x : Node) (set : RefSet) (s : Split) (ref 
     room = room_is;
     failed = refl;
     bad = refl;
+    met = refl;
   }

@@ -12,7 +12,7 @@ use Rattle.h2_memory_sets.specs.declared.node.Node.{Node}
 use Rattle.h2_memory_sets.specs.Owners.{allows_of}
 use Rattle.h2_memory_sets.specs.View.{leaf_bits_of, AllFitBelow}
 use Rattle.h2_memory_sets.proofs.Lists.{same_key}
-use Rattle.h2_memory_sets.proofs.Settled.{Settled, KeepsRules, keeps_rules, owners_stay, fits_in, child_in, placed, same_node, same_keeps, same_top, sound_of}
+use Rattle.h2_memory_sets.proofs.Settled.{Settled, KeepsRules, CameOf, stood, like, keeps_rules, owners_stay, fits_in, child_in, placed, same_node, same_keeps, same_top, sound_of}
 
 -- two forests of which the second has one node loaded that the first hasn't
 pub record DiffersByLoad (f g : Forest) (at c : ℕ) (r : Ref) : Type 0 where
@@ -227,6 +227,12 @@ module _ (f g : Forest) (at c i : ℕ) (r : Ref) (d : DiffersByLoad f g at c r) 
         record { other = λ same. h.other (p.root ∙ sym d.root ∙ sym (ap g.root e) ∙ same); stands = h.stands; root = h.root; leaf = h.leaf; key_is = h.key_is; kind_is = h.kind_is; path = h.path }
   ]
 
+  came : (m : ℕ) → g.stands m ≡ true → CameOf f g d.settled.loose m
+  came m st = elim (same_or_not m c) as (λ _. CameOf f g d.settled.loose m) [
+    | inr ne ↦ stood (d.stands m ne st)
+    | inl e ↦ like at stands (stays at stands) (λ t k. ap (λ z. g.belongs z t k) e ∙ d.belongs t k ∙ sym ((place at stands).belongs t k))
+  ]
+
   pub walks : Walks f g
   walks = record {
     sound = sound_of f g d.settled.loose sound
@@ -246,7 +252,8 @@ module _ (f g : Forest) (at c i : ℕ) (r : Ref) (d : DiffersByLoad f g at c r) 
           | inr off ↦ old_parent m (d.stands m off st) ne
         ])
         (λ m h. stays m (sound.held m h).0)
-        owners;
+        owners
+        came;
     fixed = d.settled.fixed;
     stays = all_stay;
     roots = λ m st own. elim (same_or_not m c) as (λ _. f.stands m ≡ true) [

@@ -15,7 +15,6 @@ use Rattle.h2_memory_sets.specs.declared.node.Node.{Node}
 use Rattle.h2_memory_sets.specs.Kept.{AreKept}
 use Rattle.h2_memory_sets.specs.Owners.{owner_of, is_owner, belongs_to, held_of}
 use Rattle.h2_memory_sets.specs.View.{stands_of, set_of, root_of, low_of, bits_of, writable_of, copies_of, leaf_bits_of, is_child, names, link_to, forest_with, loses, goes, is_lost, goes_with, lost, AllRooted}
-use Rattle.h2_memory_sets.proofs.Chains.{belongs_trans}
 use Rattle.h2_memory_sets.proofs.Drops.{given, goes_of, dropped_with, going, at_here, other_field, field, still_field, still_other, there_of, read_other, gone, stays, none_new, first, link_other, loses_is, is_losing, rooted_drop}
 use Rattle.h2_memory_sets.proofs.Nesting.{few_bits}
 use Rattle.h2_memory_sets.proofs.Nodes.{KeepsRoots, KeepsNode, loose_of}
@@ -125,11 +124,6 @@ module _ (xs : List Node) (at : ℕ) (x y : Node) (s : RefSet) (inode : Option I
   by_root : (m t k : ℕ) → f.stands m ≡ true → f.belongs (f.root m) t k ≡ f.belongs m t k
   by_root m t k st = ap (λ q. belongs_to xs q t k) (sound.top m st).1
 
-  chain : (m t k t' k' : ℕ) → f.stands m ≡ true → f.belongs m t k ≡ true → f.belongs t t' k' ≡ true → f.belongs m t' k' ≡ true
-  chain m t k t' k' st bel bel' =
-      let own : root_of (slice_get xs t) ≡ t = (sound.owner m t k st bel).root in
-      belongs_trans xs (are_lower xs kept) (root_of (slice_get xs m)) t k t' k' bel (sym (ap (λ q. belongs_to xs q t' k') own) ∙ bel')
-
   module _ (free : (m : ℕ) → f.stands m ≡ true → GoesWith f m at s → f.held m ≡ false) where
     -- what is held doesn't go
     unheld : (m : ℕ) → goes_at m ≡ true → held_of (slice_get xs m) ≡ false
@@ -186,7 +180,6 @@ module _ (xs : List Node) (at : ℕ) (x y : Node) (s : RefSet) (inode : Option I
       goes_is = goes_is;
       goes_all = goes_all;
       by_root = by_root;
-      chain = chain;
       here = set_here;
       there = λ m ne. other_field xs at x y s inode kept read same set_of (λ z. refl) m ne;
       link = link_other xs at x y s inode kept read same;
@@ -197,6 +190,7 @@ module _ (xs : List Node) (at : ℕ) (x y : Node) (s : RefSet) (inode : Option I
       room = refl;
       failed = refl;
       bad = refl;
+      met = refl;
     }
 
     -- the root of what stays stays

@@ -38,3 +38,4 @@ pub record DiffersByMake (f g : Forest) (at c : ℕ) (set : RefSet) (s : Split) 
   pub room : g.room + 1 ≡ f.room
   pub failed : g.failed ≡ f.failed
   pub bad : g.bad ≡ f.bad
+  pub met : g.met ≡ f.met

@@ -18,7 +18,7 @@ use Rattle.h2_set.specs.SplitLaws.{lies_in}
 use Rattle.h2_set.specs.MadeLaws.{put_rising, put_fits, PartsNode, parts_node}
 use Rattle.h2_memory_sets.specs.View.{names}
 use Rattle.h2_memory_sets.proofs.Lists.{names_below, below_names, filter_from, filter_keeps, put_there, Rising-within}
-use Rattle.h2_memory_sets.proofs.Settled.{KeepsRules, keeps_rules, owner_in, fits_in, child_in, placed, same_node, same_all, same_top, sound_of}
+use Rattle.h2_memory_sets.proofs.Settled.{KeepsRules, CameOf, stood as stood_in, like, keeps_rules, owner_in, fits_in, child_in, placed, same_node, same_all, same_top, sound_of}
 use Rattle.h2_memory_sets.proofs.Made.{DiffersByMake}
 use Rattle.h2_memory_sets.proofs.Sides.{at_start, in_range, outside, same_bool, where_lies, count_not, not_false, off_range, on_range, off_key, off_lies, Rising-wide}
 
@@ -456,6 +456,12 @@ module _ (f : Forest) (at : ℕ) (set : RefSet) (s : Split) (ref leaf : Ref) (so
           record { other = λ same. h.other (p.root ∙ sym d.root ∙ sym (ap g.root e) ∙ same); stands = h.stands; root = h.root; leaf = h.leaf; key_is = h.key_is; kind_is = h.kind_is; path = h.path }
     ]
 
+    came : (m : ℕ) → g.stands m ≡ true → CameOf f g d.settled.loose m
+    came m st = elim (same_or_not m c) as (λ _. CameOf f g d.settled.loose m) [
+      | inr ne ↦ stood_in (d.stands m ne st)
+      | inl e ↦ like at stands (stays at stands) (λ t k. ap (λ z. g.belongs z t k) e ∙ d.belongs t k ∙ sym ((place at stands).belongs t k))
+    ]
+
     pub makes : Makes f g at c set s
     makes = record {
       sound = sound_of f g d.settled.loose sound
@@ -475,7 +481,8 @@ module _ (f : Forest) (at : ℕ) (set : RefSet) (s : Split) (ref leaf : Ref) (so
             | inr off ↦ old_parent m (d.stands m off st) ne
           ])
           (λ m h. stays m (sound.held m h).0)
-          owners;
+          owners
+          came;
       fixed = d.settled.fixed;
       fresh = d.fresh;
       child = child;
@@ -500,4 +507,5 @@ module _ (f : Forest) (at : ℕ) (set : RefSet) (s : Split) (ref leaf : Ref) (so
       room = d.room;
       failed = d.failed;
       bad = d.bad;
+      met = d.met;
     }

@@ -99,7 +99,7 @@ settled_of xs ys spare spare' epoch room room' failed failed' bad bad' met met' 
 pub readies_nodes : (xs ys : List Node) (spare more epoch room failed bad : ℕ) (met : Option (ℕ × Why)) → ys ≡ xs → spare ≤ more → IsSound (forest_with xs spare epoch room failed bad met) → ReadiesOnly (forest_with xs spare epoch room failed bad met) (forest_with ys more epoch room failed bad met)
 readies_nodes xs ys spare more epoch room failed bad met items le sound =
     let field : (X : Type 0) (F : Option Node → X) (m : ℕ) → F (slice_get ys m) ≡ F (slice_get xs m) = λ X F m. ap (λ (l : List Node). F (slice_get l m)) items in
-    readies _ _ (settled_of xs ys spare more epoch room room failed failed bad bad met met (record { leaf_bits = field _ leaf_bits_of; owner = field _ owner_of; held = field _ held_of }) (λ m r st now. field _ (λ o. allows_of o r) m) (omega arith) (omega arith) (λ m st. (field _ stands_of m ∙ st, record { root = field _ root_of m; low = field _ low_of m; bits = field _ bits_of m; writable = field _ writable_of m; copies = field _ copies_of m }))) (field _ stands_of) (field _ set_of) (λ m k. ap (λ (l : List Node). link_of l m k) items) le refl refl refl sound
+    readies _ _ (settled_of xs ys spare more epoch room room failed failed bad bad met met (record { leaf_bits = field _ leaf_bits_of; owner = field _ owner_of; held = field _ held_of }) (λ m r st now. field _ (λ o. allows_of o r) m) (omega arith) (omega arith) (λ m st. (field _ stands_of m ∙ st, record { root = field _ root_of m; low = field _ low_of m; bits = field _ bits_of m; writable = field _ writable_of m; copies = field _ copies_of m }))) (field _ stands_of) (field _ set_of) (λ m k. ap (λ (l : List Node). link_of l m k) items) le refl refl refl refl sound
 
 -- the nodes that a change of the set, a move of what is below, and one more node make
 pub parted_is : (xs zs items : List Node) (at n : ℕ) (x a b : Node) (kept part : RefSet) (r : Ref) → n ≡ length xs → slice_get xs at ≡ Some x → slice_get xs at ≡ Some a → slice_get xs at ≡ Some b → zs ≡ moved_all at n r (slice_set xs at (with_set b kept)) → items ≡ zs ++ new_node at a part r ∷ [] → items ≡ parted xs at x kept part r

@@ -15,7 +15,7 @@ use Rattle.h2_memory_sets.proofs.Lists.{names_below, below_names, same_key}
 use Rattle.h2_memory_sets.proofs.Nesting.{in_holds, same_holder, meet, link_of, clash, one_range, leads_to, few_bits}
 use Rattle.h2_memory_sets.proofs.Parting.{alike, one_of}
 use Rattle.h2_memory_sets.proofs.Passing.{any_true, any_some, and_parts, same_named, one_sort}
-use Rattle.h2_memory_sets.proofs.Settled.{Loose, KeepsRules, child_in, placed, same_node, same_all, same_top, sound_of}
+use Rattle.h2_memory_sets.proofs.Settled.{Loose, KeepsRules, stood, child_in, placed, same_node, same_all, same_top, sound_of}
 use Rattle.h2_memory_sets.proofs.Storing.{DiffersByStore, Suits, tested, refs_here, not_goes, at_now, now_stays, kid_stays, link_same, not_below, root_now, near_stays, kept, here_node, other_node, parent_now, held_now}
 
 module _ (f g : Forest) (at : ℕ) (s : RefSet) (d : DiffersByStore f g at s) (sound : IsSound f) (stands : f.stands at ≡ true) (suits : Suits f g at s) where
@@ -130,7 +130,7 @@ module _ (f g : Forest) (at : ℕ) (s : RefSet) (d : DiffersByStore f g at s) (s
       let top : d.goes t ≡ false = not_goes f g at s d sound stands t h.stands (λ why. elim why as (λ _. ⊥) [
         | inl goes ↦ not_below f g at s d sound stands t h.stands h.root goes
         | inr w ↦
-            let far : f.belongs m (f.root at) w.key ≡ true = d.chain m t k (f.root at) w.key st bel w.belongs in
+            let far : f.belongs m (f.root at) w.key ≡ true = sound.chain m t k (f.root at) w.key st bel w.belongs in
             let goes : GoesWith f m at s = record {
               other = (sound.owner m (f.root at) w.key st far).other;
               key = w.key;
@@ -163,6 +163,7 @@ module _ (f g : Forest) (at : ℕ) (s : RefSet) (d : DiffersByStore f g at s) (s
       ])
       (λ m now. let st = d.none_new m now in same_top f g d.loose m sound st now (root_now f g at s d sound stands m st (now_stays f g at s d sound stands m now)))
       (parent_now f g at s d sound stands suits) (held_now f g at s d sound stands suits) owners
+      (λ m now. stood (d.none_new m now))
 
   pub others : (m : ℕ) → f.stands m ≡ true → (m ≡ at → ⊥) → (GoesBelow f m at s → ⊥) → (GoesWith f m at s → ⊥) → Same f g m
   others m st ne off with' =
@@ -190,4 +191,5 @@ module _ (f g : Forest) (at : ℕ) (s : RefSet) (d : DiffersByStore f g at s) (s
     room = d.room;
     failed = d.failed;
     bad = d.bad;
+    met = d.met;
   }

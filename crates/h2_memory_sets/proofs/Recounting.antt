@@ -374,5 +374,6 @@ module _ (xs : List Node) (new : Node → Bool) (spare epoch room failed bad : �
           let h = sound.parent m (sym (stands_same m) ∙ now) (λ e. off (root_same m ∙ e)) in
           record { parent = h.parent; stands = stands_same h.parent ∙ h.stands; link = ap (g.link h.parent) (low_same m) ∙ link_same h.parent (f.low m) ∙ h.link };
       owner = λ m t k st b. owner_same f g sound (λ n was. ap (λ (t : RefSet). t.refs) (set_same n)) (λ n j was. link_same n j) stands_same root_same m t k (sym (stands_same m) ∙ st) (sym (belongs_same_at m t k) ∙ b);
+      chain = λ m t k u j now b b'. belongs_same_at m u j ∙ sound.chain m t k u j (sym (stands_same m) ∙ now) (sym (belongs_same_at m t k) ∙ b) (sym (belongs_same_at t u j) ∙ b');
       epoch = epoch_fits;
     }

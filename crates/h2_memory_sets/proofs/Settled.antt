@@ -140,9 +140,27 @@ module _ (f g : Forest) (s : Loose f g) where
     path = path;
   }
 
+  -- where a node came from: it stood, or it belongs to what one does that stands before and after
+  pub data CameOf (m : ℕ) : Type 0 where
+    stood : f.stands m ≡ true → CameOf m
+    like : (n : ℕ) → f.stands n ≡ true → g.stands n ≡ true → ((t k : ℕ) → g.belongs m t k ≡ g.belongs n t k) → CameOf m
+
+  -- what belongs to a leaf belongs to all that the leaf's tree belongs to
+  chain_old : IsSound f → ((m t k : ℕ) → g.stands m ≡ true → g.belongs m t k ≡ true → HasOwner g m t k) → (m t k u j : ℕ) → f.stands m ≡ true → g.stands m ≡ true → g.belongs m t k ≡ true → g.belongs t u j ≡ true → g.belongs m u j ≡ true
+  chain_old sound owner m t k u j st now b b' =
+      let p = s.place m st now in
+      let was : f.belongs m t k ≡ true = sym (p.belongs t k) ∙ b in
+      let top = (sound.owner m t k st was).stands in
+      let q = s.place t top (owner m t k now b).stands in
+      p.belongs u j ∙ sound.chain m t k u j st was (sym (q.belongs u j) ∙ b')
+
+  chain_in : IsSound f → ((m t k : ℕ) → g.stands m ≡ true → g.belongs m t k ≡ true → HasOwner g m t k) → (m t k u j : ℕ) → CameOf m → g.stands m ≡ true → g.belongs m t k ≡ true → g.belongs t u j ≡ true → g.belongs m u j ≡ true
+  chain_in sound owner m t k u j (stood st) now b b' = chain_old sound owner m t k u j st now b b'
+  chain_in sound owner m t k u j (like n st there same) now b b' = same u j ∙ chain_old sound owner n t k u j st there (sym (same t k) ∙ b) b'
+
   -- a forest whose nodes are sound and hang together
-  pub sound_of : IsSound f → ((m : ℕ) → g.stands m ≡ true → IsSoundNode g m) → ((m : ℕ) → g.stands m ≡ true → (g.stands (g.root m) ≡ true) × (g.root (g.root m) ≡ g.root m)) → ((m : ℕ) → g.stands m ≡ true → (g.root m ≡ m → ⊥) → HasParent g m) → ((m : ℕ) → f.held m ≡ true → g.stands m ≡ true) → ((m t k : ℕ) → g.stands m ≡ true → g.belongs m t k ≡ true → HasOwner g m t k) → IsSound g
-  sound_of sound node top parent held owner = record {
+  pub sound_of : IsSound f → ((m : ℕ) → g.stands m ≡ true → IsSoundNode g m) → ((m : ℕ) → g.stands m ≡ true → (g.stands (g.root m) ≡ true) × (g.root (g.root m) ≡ g.root m)) → ((m : ℕ) → g.stands m ≡ true → (g.root m ≡ m → ⊥) → HasParent g m) → ((m : ℕ) → f.held m ≡ true → g.stands m ≡ true) → ((m t k : ℕ) → g.stands m ≡ true → g.belongs m t k ≡ true → HasOwner g m t k) → ((m : ℕ) → g.stands m ≡ true → CameOf m) → IsSound g
+  sound_of sound node top parent held owner came = record {
     node = node;
     held = λ m h.
         let was : f.held m ≡ true = sym (s.held m) ∙ h in
@@ -152,6 +170,7 @@ module _ (f g : Forest) (s : Loose f g) where
     top = top;
     parent = parent;
     owner = owner;
+    chain = λ m t k u j now b b'. chain_in sound owner m t k u j (came m now) now b b';
     epoch = rw s.epoch sound.epoch;
   }
 
@@ -188,10 +207,11 @@ module _ (f g : Forest) (s : Settled f g) where
       record { parent = h.parent; stands = s.stands h.parent h.stands; link = ap (g.link h.parent) p.low ∙ link h.parent (f.low m) ∙ h.link })
       (λ m h. s.stands m (sound.held m h).0)
       (λ m t k st b. owners_stay sound (λ n was. Keeps-Stays f g n (same_keeps n was (set n) (link n))) m t k (sym (stands m) ∙ st) b)
+      (λ m st. stood (sym (stands m) ∙ st))
 
   -- where nothing but spare has changed
-  pub readies : ((m : ℕ) → g.stands m ≡ f.stands m) → ((m : ℕ) → g.set m ≡ f.set m) → ((m k : ℕ) → g.link m k ≡ f.link m k) → f.spare ≤ g.spare → g.room ≡ f.room → g.failed ≡ f.failed → g.bad ≡ f.bad → IsSound f → ReadiesOnly f g
-  readies stands set link spare room failed bad sound = record {
+  pub readies : ((m : ℕ) → g.stands m ≡ f.stands m) → ((m : ℕ) → g.set m ≡ f.set m) → ((m k : ℕ) → g.link m k ≡ f.link m k) → f.spare ≤ g.spare → g.room ≡ f.room → g.failed ≡ f.failed → g.bad ≡ f.bad → g.met ≡ f.met → IsSound f → ReadiesOnly f g
+  readies stands set link spare room failed bad met sound = record {
     sound = all_same stands set link sound;
     fixed = s.fixed;
     same = λ m st. same_all f g s.loose m st (s.stands m st) (set m) (link m);
@@ -200,6 +220,7 @@ module _ (f g : Forest) (s : Settled f g) where
     room = room;
     failed = failed;
     bad = bad;
+    met = met;
   }
 
   -- where nothing but the two counts has risen

@@ -1,6 +1,5 @@
 -- What storing a set leaves.
 use Rattle.std.proofs.Common.{◌≡◌, ℕ, ◌<◌, Bool, true, false, ◌&&◌, arith, refl, sym, ◌∙◌, ap, List, [], ◌∷◌, Option, Some, None, subst, slice_get, slice_set}
-use Rattle.std.specs.Prelude.{not}
 use Rattle.h2_ref.specs.declared.faults.Why.{Why}
 use Rattle.h2_ref.specs.declared.reference.Kind.{Kind}
 use Rattle.h2_ref.specs.declared.reference.Kind.TheVariants.{Empty, Inode as Inode_kind, Indirect, Content, Dirent, MapNode, MapLeaf}
@@ -18,7 +17,7 @@ use Rattle.h2_memory_sets.specs.declared.node.Leaves.{Leaves}
 use Rattle.h2_memory_sets.specs.declared.node.Leaves.TheVariants.{Any, Inodes}
 use Rattle.h2_memory_sets.specs.declared.node.Node.{Node}
 use Rattle.h2_memory_sets.specs.Kept.{AreKept, IsRootOf}
-use Rattle.h2_memory_sets.specs.Owners.{is_leaf_of, inode_allows, allowed_by, allows_of, beside_of, refit}
+use Rattle.h2_memory_sets.specs.Owners.{is_leaf_of, is_plain, inode_allows, allowed_by, allows_of, beside_of, refit}
 use Rattle.h2_memory_sets.specs.View.{stands_of, set_of, root_of, with_set, forest_with, dropped, dropped_all, AllRooted}
 use Rattle.h2_memory_sets.proofs.Drops.{given, dropped_with, own_stays, kept_drop}
 use Rattle.h2_memory_sets.proofs.Keeping.{refit_allows, refit_twice, refit_known, refit_root}
@@ -65,10 +64,7 @@ one_kind (Some x) leaf r a kind b = by_inode x.inode a b
     by_body k (Bytes bytes) a b = absurd (cc)
 
     by_leaves : (l : Leaves) → allowed_by None l leaf ≡ true → allowed_by None l r ≡ true → r.kind ≡ Inode_kind
-    by_leaves Any a b = absurd (let clash : false ≡ true = ap (λ k. is_not k) (sym kind) ∙ a in cc)
-      where
-        is_not : Kind → Bool
-        is_not k = not (is_leaf_of Pfs k)
+    by_leaves Any a b = absurd (let clash : false ≡ true = ap is_plain (sym kind) ∙ a in cc)
     by_leaves Inodes a b = of_kind Pfs (and_parts (is_leaf_of Pfs leaf.kind) _ a).0 (and_parts (is_leaf_of Pfs r.kind) _ b).0
 
     by_inode : (i : Option Inode) → allowed_by i x.leaves leaf ≡ true → allowed_by i x.leaves r ≡ true → r.kind ≡ Inode_kind

@@ -28,7 +28,6 @@ pub record DiffersByStore (f g : Forest) (at : ℕ) (s : RefSet) : Type 0 where
   pub goes_is : (m : ℕ) → f.stands m ≡ true → goes m ≡ true → GoesBelow f m at s ⊎ GoesWith f m at s
   pub goes_all : (m : ℕ) → f.stands m ≡ true → GoesBelow f m at s ⊎ GoesWith f m at s → goes m ≡ true
   pub by_root : (m t k : ℕ) → f.stands m ≡ true → f.belongs (f.root m) t k ≡ f.belongs m t k
-  pub chain : (m t k t' k' : ℕ) → f.stands m ≡ true → f.belongs m t k ≡ true → f.belongs t t' k' ≡ true → f.belongs m t' k' ≡ true
   pub here : g.set at ≡ s
   pub there : (m : ℕ) → (m ≡ at → ⊥) → g.set m ≡ f.set m
   pub link : (m k : ℕ) → (m ≡ at → ⊥) → ((c : ℕ) → f.link m k ≡ loaded c → goes c ≡ false) → g.link m k ≡ f.link m k
@@ -38,6 +37,7 @@ pub record DiffersByStore (f g : Forest) (at : ℕ) (s : RefSet) : Type 0 where
   pub room : g.room ≡ f.room
   pub failed : g.failed ≡ f.failed
   pub bad : g.bad ≡ f.bad
+  pub met : g.met ≡ f.met
 
 -- a set that may stand in node at, in the forest that comes of it
 pub record Suits (f g : Forest) (at : ℕ) (s : RefSet) : Type 0 where

@@ -5,7 +5,7 @@ use Rattle.std.proofs.lemmas.List.{length-append}
 use Rattle.std.proofs.lemmas.Option.{none-some, slice_get_past}
 use Rattle.h2_ref.specs.declared.faults.Why.{Why}
 use Rattle.h2_ref.specs.declared.reference.Kind.{Kind}
-use Rattle.h2_ref.specs.declared.reference.Kind.TheVariants.{Inode as Inode_kind}
+use Rattle.h2_ref.specs.declared.reference.Kind.TheVariants.{Empty, Inode as Inode_kind, Indirect, Content, Dirent, MapNode, MapLeaf}
 use Rattle.h2_ref.specs.declared.reference.Ref.{Ref}
 use Rattle.h2_set.specs.Forest.{Forest, IsSound, KeepsBeside}
 use Rattle.h2_set.specs.ChangeLaws.{same_or_not}
@@ -17,7 +17,7 @@ use Rattle.h2_memory_sets.specs.declared.node.Leaves.{Leaves}
 use Rattle.h2_memory_sets.specs.declared.node.Leaves.TheVariants.{Any, Inodes}
 use Rattle.h2_memory_sets.specs.declared.node.Node.{Node}
 use Rattle.h2_memory_sets.specs.Kept.{AreKept}
-use Rattle.h2_memory_sets.specs.Owners.{owner_of, belongs_to, beside_of, held_of, allows_of, tree_allows, is_leaf_of}
+use Rattle.h2_memory_sets.specs.Owners.{owner_of, belongs_to, beside_of, held_of, allows_of, tree_allows, is_plain}
 use Rattle.h2_memory_sets.specs.Roots.{IsTreeRoot, AddsRoot, AddsSuperRoot}
 use Rattle.h2_memory_sets.specs.View.{stands_of, set_of, root_of, low_of, bits_of, writable_of, copies_of, leaf_bits_of, forest_with, first_key, top_node, AllRooted}
 use Rattle.h2_memory_sets.proofs.Arrived.{rooted_arrives, kept_plain, beside_arrives}
@@ -34,12 +34,14 @@ keys_end : (keys : KeyClass) → first_key keys + 2 ^ 63 ≤ 2 ^ 64
 keys_end Low = omega arith
 keys_end High = omega arith
 
-not_leaf : (k : Kind) → (k ≡ Inode_kind → ⊥) → not (is_leaf_of Pfs k) ≡ true
-not_leaf k ne = go (is_leaf_of Pfs k) refl
-  where
-    go : (b : Bool) → is_leaf_of Pfs k ≡ b → not (is_leaf_of Pfs k) ≡ true
-    go true e = absurd (ne (leaf_is Pfs k e))
-    go false e = ap not e
+plain_kind : (k : Kind) → (k ≡ Inode_kind → ⊥) → (k ≡ Empty → ⊥) → is_plain k ≡ true
+plain_kind Empty inode empty = absurd (empty refl)
+plain_kind Inode_kind inode empty = absurd (inode refl)
+plain_kind Indirect inode empty = refl
+plain_kind Content inode empty = refl
+plain_kind Dirent inode empty = refl
+plain_kind MapNode inode empty = refl
+plain_kind MapLeaf inode empty = refl
 
 -- what adding a root does
 pub record Topped (xs ys : List Node) (spare epoch room failed bad : ℕ) (met : Option (ℕ × Why)) (c : ℕ) (keys : KeyClass) (leaf_bits : ℕ) : Type 0 where
@@ -84,7 +86,7 @@ module _ (xs : List Node) (keys : KeyClass) (leaf_bits : ℕ) (leaves : Leaves) 
 
   tree : IsSound f → IsTreeRoot g (length xs) keys leaf_bits
   tree sound = record {
-    sound = sound_now xs ys (length xs) y spare spare epoch room failed failed bad bad met met comes sound fit no_path;
+    sound = sound_now xs ys (length xs) y spare spare epoch room failed failed bad bad met met comes sound (are_lower ys (kept_plain xs ys (length xs) y comes refl kept longer refl refl)) fit no_path;
     stands = ap stands_of comes.at_c;
     root = ap root_of comes.at_c;
     low = ap low_of comes.at_c;
@@ -113,7 +115,7 @@ module _ (xs : List Node) (keys : KeyClass) (leaf_bits : ℕ) (leaves : Leaves) 
     set = ap set_of comes.at_c;
     writable = ap writable_of comes.at_c;
     link = link_here xs ys (length xs) y spare spare epoch room failed failed bad bad met met comes sound;
-    allows = λ r ne. ap (λ (o : Option Node). allows_of o r) comes.at_c ∙ ap (λ (l : Leaves). tree_allows l r) any ∙ not_leaf r.kind ne;
+    allows = λ r ne full. ap (λ (o : Option Node). allows_of o r) comes.at_c ∙ ap (λ (l : Leaves). tree_allows l r) any ∙ plain_kind r.kind ne full;
     held = held_same sound (length xs) ∙ away;
     others = same xs ys (length xs) y spare spare epoch room failed failed bad bad met met comes sound;
     others_leaf_bits = λ m ne. ap leaf_bits_of (comes.off_c m ne);

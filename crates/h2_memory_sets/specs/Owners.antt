@@ -1,5 +1,5 @@
 -- Which leaves name the roots of inodes, and which leaves their trees may have.
-use Rattle.std.specs.Prelude.{ℕ, zero, suc, not, Bool, true, false, ◌&&◌, ◌||◌, ◌==◌, List, [], Option, Some, None, slice_get}
+use Rattle.std.specs.Prelude.{ℕ, zero, suc, Bool, true, false, ◌&&◌, ◌||◌, ◌==◌, List, [], Option, Some, None, slice_get}
 use Rattle.h2_ref.specs.declared.reference.Kind.{Kind}
 use Rattle.h2_ref.specs.declared.reference.Kind.TheVariants.{Empty, Inode as Inode_kind, Indirect, Content, Dirent, MapNode, MapLeaf}
 use Rattle.h2_ref.specs.declared.reference.Ref.{Ref}
@@ -71,10 +71,20 @@ abbrev pub inode_allows : InodeKind → Body → Ref → Bool
 inode_allows kind (Refs s) r = is_leaf_of kind r.kind && passes_as_held r
 inode_allows kind (Bytes bytes) r = false
 
+-- whether a reference of the kind names something, but no inode
+abbrev pub is_plain : Kind → Bool
+is_plain Empty = false
+is_plain Inode_kind = false
+is_plain Indirect = true
+is_plain Content = true
+is_plain Dirent = true
+is_plain MapNode = true
+is_plain MapLeaf = true
+
 -- whether the tree of a root without an inode may have the leaf: where it isn't one of inodes alone, it has none that
--- names an inode
+-- names an inode, nor one that names nothing
 abbrev pub tree_allows : Leaves → Ref → Bool
-tree_allows Any r = not (is_leaf_of Pfs r.kind)
+tree_allows Any r = is_plain r.kind
 tree_allows Inodes r = is_leaf_of Pfs r.kind && passes_as_held r
 
 abbrev pub allowed_by : Option Inode → Leaves → Ref → Bool

@@ -1,6 +1,6 @@
 -- What adding a root, giving room and unloading do to a forest.
 use Rattle.std.specs.Prelude.{◌≡◌, ℕ, ◌+◌, ◌≤◌, ◌<◌, ◌⊎◌, ◌↔◌, Bool, true, false, []}
-use Rattle.h2_ref.specs.declared.reference.Kind.TheVariants.{Inode}
+use Rattle.h2_ref.specs.declared.reference.Kind.TheVariants.{Empty, Inode}
 use Rattle.h2_ref.specs.declared.reference.Ref.{Ref}
 use Rattle.h2_set.specs.Forest.{Forest, loaded, untold, IsSound, Fixed, InPlace, Same}
 use Rattle.h2_set.specs.SetBytes.{IsHeld}
@@ -24,7 +24,7 @@ pub record AddsRoot (f g : Forest) (c : ℕ) (keys : KeyClass) (leaf_bits : ℕ)
   pub set : g.set c ≡ record { refs = []; capacity = 4 }
   pub writable : g.writable c ≡ true
   pub link : (k : ℕ) → g.link c k ≡ untold
-  pub allows : (r : Ref) → (r.kind ≡ Inode → ⊥) → g.allows c r ≡ true
+  pub allows : (r : Ref) → (r.kind ≡ Inode → ⊥) → (r.kind ≡ Empty → ⊥) → g.allows c r ≡ true
   pub held : g.held c ≡ false
   pub others : (m : ℕ) → f.stands m ≡ true → Same f g m
   pub others_leaf_bits : (m : ℕ) → (m ≡ c → ⊥) → g.leaf_bits m ≡ f.leaf_bits m

@@ -283,10 +283,11 @@ dropped xs root bits old new x = if goes root bits old new x || goes_with xs roo
 abbrev pub dropped_all : ℕ → ℕ → List Ref → List Ref → List Node → List Node
 dropped_all root bits old new xs = map (dropped xs root bits old new) xs
 
--- what the block of a node holds, loaded or not, and its first key
+-- what the block of a node holds, loaded or not, its first key, and the node above it
 pub record Block : Type 0 where
   pub set : RefSet
   pub low : ℕ
+  pub up : Option ℕ
 
 abbrev pub block : Node → Block
-block x = record { set = x.set; low = x.low }
+block x = record { set = x.set; low = x.low; up = x.up }

@@ -2,7 +2,7 @@
 ghost use Rattle.std.specs.Prelude.{◌≡◌, ◌&&◌, not, Some};
 ghost use Rattle.h2_ref.specs.ValidTest.{passes_as_valid};
 ghost use Rattle.h2_set.specs.HeldTest.{names_something, passes_as_held};
-ghost use Rattle.h2_memory_sets.specs.Owners.{is_leaf_of, inode_allows, tree_allows, allows_of};
+ghost use Rattle.h2_memory_sets.specs.Owners.{is_leaf_of, is_plain, inode_allows, tree_allows, allows_of};
 
 use crate::node::{Leaves, Node};
 use h2_inode::{Body, Inode, InodeKind};
@@ -54,12 +54,22 @@ fn inode_allows(inode: &Inode, r: &Ref) -> bool
     }
 }
 
+// Whether a reference of the kind names something, but no inode.
+fn is_plain(kind: Kind) -> bool
+    ensures { result ≡ is_plain kind }
+{
+    match kind {
+        Kind::Empty | Kind::Inode => false,
+        Kind::Indirect | Kind::Content | Kind::Dirent | Kind::MapNode | Kind::MapLeaf => true,
+    }
+}
+
 // Whether the tree of a root without an inode may have a leaf.
 fn tree_allows(leaves: Leaves, r: &Ref) -> bool
     ensures { result ≡ tree_allows leaves r.now }
 {
     match leaves {
-        Leaves::Any => !is_leaf_of(InodeKind::Pfs, r.kind),
+        Leaves::Any => is_plain(r.kind),
         Leaves::Inodes => is_leaf_of(InodeKind::Pfs, r.kind) && is_held(r),
     }
 }

@@ -50,7 +50,9 @@ pub struct MemorySets {
 }
 
 impl MemorySets {
-    ghost use Rattle.std.specs.Prelude.{OnErr, IfErr, ℕ, true, false, None};
+    ghost use Rattle.std.specs.Prelude.{OnErr, OnOk, IfErr, ℕ, true, false, None};
+    ghost use Rattle.h2_ref.specs.declared.faults.Trouble.{Trouble};
+    ghost use Rattle.h2_ref.specs.declared.faults.Why.{Why};
     ghost use Rattle.h2_set.specs.Forest.{IsSound, Unchanged, HasCause, KeepsBeside};
     ghost use Rattle.h2_memory_sets.specs.Seen.{forest_of, beside_seen, blocks_of, failing_load, spoiled_load, refused_spare};
     ghost use Rattle.h2_memory_sets.specs.Roots.{AddsRoot, AddsSuperRoot, HoldsRoot, BeginsEpoch, Unloads, UnloadsInodes};
@@ -97,6 +99,7 @@ impl MemorySets {
     pub fn fail_load(&mut self, which: u64)
         ensures same { forest_of self.new ≡ forest_of self.old }
         ensures beside { beside_seen self.new ≡ beside_seen self.old }
+        ensures blocks { blocks_of self.new ≡ blocks_of self.old }
         ensures due { failing_load self.new ≡ which }
     {
         self.fault = which;
@@ -106,6 +109,7 @@ impl MemorySets {
     pub fn spoil_load(&mut self, which: u64)
         ensures same { forest_of self.new ≡ forest_of self.old }
         ensures beside { beside_seen self.new ≡ beside_seen self.old }
+        ensures blocks { blocks_of self.new ≡ blocks_of self.old }
         ensures due { spoiled_load self.new ≡ which }
     {
         self.spoiled = which;
@@ -116,6 +120,7 @@ impl MemorySets {
     pub fn refuse_spare(&mut self, which: u64)
         ensures same { forest_of self.new ≡ forest_of self.old }
         ensures beside { beside_seen self.new ≡ beside_seen self.old }
+        ensures blocks { blocks_of self.new ≡ blocks_of self.old }
         ensures due { refused_spare self.new ≡ which }
     {
         self.refused = which;
@@ -229,6 +234,8 @@ impl MemorySets {
         ensures same { Unchanged (forest_of self.old) (forest_of self.new) }
         ensures len { IfOk result (λ b. length b ≡ len) }
         ensures err { IfErr result (HasCause (forest_of self.old) (forest_of self.new)) }
+        ensures place { IfErr result (λ e. (p : ℕ) (why : Why) → e ≡ Trouble.Bad p why → p ≡ place) }
+        ensures met { let f = forest_of self.old in let g = forest_of self.new in OnOk result (g.met ≡ f.met) }
         ensures beside { beside_seen self.new ≡ beside_seen self.old }
     {
         if is_due(&mut self.fault) {

@@ -6,7 +6,7 @@ use Rattle.h2_set.specs.StayLaws.{Walks-refl, Unchanged-walks}
 use Rattle.h2_set.specs.Forest.{Loads, loaded}
 use Rattle.h2_memory_sets.specs.View.{forest_with, is_child, link_of}
 use Rattle.h2_memory_sets.proofs.Nodes.{unchanged_nodes, is_there}
-use Rattle.h2_memory_sets.proofs.Bringing.{ref_there, ref_same, loads_nothing, not_loaded, not_told, is_loaded, loadable_in, loadable_within, loadable_away, brings}
+use Rattle.h2_memory_sets.proofs.Bringing.{ref_there, ref_same, loads_nothing, bad_place, not_loaded, not_told, is_loaded, loadable_in, loadable_within, loadable_away, brings}
 use Rattle.h2_memory_sets.proofs.Brought.{kept_bring, beside_bring}
 use Rattle.h2_memory_sets.proofs.Rooted.{rooted_bring, root_not}
 use Rattle.h2_memory_sets.proofs.memory.MemorySetsSets.child.Goals as goal
@@ -182,3 +182,10 @@ returns-clause-beside c =
     let l = loadable_in _ xs at k q c.deref-2.ensures.value c.in-Some-find_unspoiled.ensures.found in
     let y = slice_get_read xs _ k c.index_mut.result.now refl (loadable_within xs at k q l) c.index_mut.ensures.value in
     record { same = λ m st now. beside_bring xs k _ _ _ c.index_mut.result.now c.bring_in.new.x y c.bring_in.ensures m }
+
+pub returns-in_default-find_unspoiled-clause-place : goal.returns-in_default-find_unspoiled-clause-place
+returns-in_default-find_unspoiled-clause-place c = λ r place why read e.
+    let xs = c.args.self.now.nodes.items in
+    let node = slice_get_read xs _ c.args.at.0 c.index.result.now refl (is_there _ _ c.requires.stands) c.index.ensures in
+    let same = ref_same xs c.args.at.0 c.args.i c.index.result.now c.at.result.now node c.at.ensures r read in
+    sym (bad_place _ place _ why e) ∙ ap (λ (q : Ref). q.place) same
