@@ -114,6 +114,7 @@ module _ (xs : List Node) (at : ℕ) (x : Node) (b : Bool) (read : slice_get xs 
           kind_is = h.kind_is;
           path = reaches_stay f g (λ n. f.stands n ≡ true) (stands_below f sound) (λ n old. same_stays f g n (same n old)) h.stands h.path;
         };
+    chain = λ m t k u j now a b'. belongs m u j ∙ sound.chain m t k u j (stood m now) (sym (belongs m t k) ∙ a) (sym (belongs t u j) ∙ b');
     epoch = sound.epoch;
   }
 
