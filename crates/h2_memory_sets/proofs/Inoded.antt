@@ -48,9 +48,10 @@ and_both false b e h = absurd (cc)
 
 -- the leaves of one kind that can be written
 pub kind_allows : (kind : InodeKind) (r : Ref) → ((is_leaf_of kind r.kind && passes_as_held r) ≡ true) ↔ ((r.kind ≡ leaf_kind kind) × IsHeld r)
-kind_allows kind r =
-    ((λ e. let p = and_parts (is_leaf_of kind r.kind) (passes_as_held r) e in (leaf_is kind r.kind p.0, (held-tested r).0 p.1)),
-    (λ h. and_both (is_leaf_of kind r.kind) (passes_as_held r) (is_leaf kind r.kind h.0) ((held-tested r).1 h.1)))
+kind_allows kind r = (
+  (λ e. let p = and_parts (is_leaf_of kind r.kind) (passes_as_held r) e in (leaf_is kind r.kind p.0, (held-tested r).0 p.1)),
+  (λ h. and_both (is_leaf_of kind r.kind) (passes_as_held r) (is_leaf kind r.kind h.0) ((held-tested r).1 h.1)),
+)
 
 pub may_have : (kind : InodeKind) (body : Body) (r : Ref) → (inode_allows kind body r ≡ true) ↔ MayHave kind body r
 may_have kind (Refs s) r = kind_allows kind r

@@ -26,11 +26,13 @@ module _ (xs : List Node) (spare epoch room failed bad : ℕ) (met : Option (ℕ
     belongs = λ t k.
         let here : f.belongs c t k ≡ belongs_to xs c t k = ap (λ q. belongs_to xs q t k) own in
         let there : f.belongs top t k ≡ belongs_to xs top t k = ap (λ q. belongs_to xs q t k) top_own in
-        let step = belongs_step xs low c t k (record { root = top; key = key }) owner in
-        ((λ e. elim (or_parts (is_owner t k (record { root = top; key = key })) (belongs_to xs top t k) (sym step ∙ sym here ∙ e)) as (λ _. ((t ≡ top) × (k ≡ key)) ⊎ (f.belongs top t k ≡ true)) [
-          | inl is ↦ let o = owner_is t k (record { root = top; key = key }) is in inl (sym o.0, sym o.1)
-          | inr above ↦ inr (there ∙ above)
-        ]), (λ e. here ∙ step ∙ back t k e there));
+        let step = belongs_step xs low c t k (record { root = top; key = key }) owner in (
+          (λ e. elim (or_parts (is_owner t k (record { root = top; key = key })) (belongs_to xs top t k) (sym step ∙ sym here ∙ e)) as (λ _. ((t ≡ top) × (k ≡ key)) ⊎ (f.belongs top t k ≡ true)) [
+            | inl is ↦ let o = owner_is t k (record { root = top; key = key }) is in inl (sym o.0, sym o.1)
+            | inr above ↦ inr (there ∙ above)
+          ]),
+          (λ e. here ∙ step ∙ back t k e there),
+        );
   }
     where
       back : (t k : ℕ) → ((t ≡ top) × (k ≡ key)) ⊎ (f.belongs top t k ≡ true) → f.belongs top t k ≡ belongs_to xs top t k → (is_owner t k (record { root = top; key = key }) || belongs_to xs top t k) ≡ true

@@ -217,12 +217,12 @@ module _ (f g : Forest) (at : ℕ) (s : RefSet) (d : DiffersByStore f g at s) (s
         not_goes c kid.stands (λ why. elim why as (λ _. ⊥) [
           | inr w ↦ w.other kid.root
           | inl goes ↦
-        let old = suits.stood i r read ind in
-        let pos = pow_pos r.keybits in
-        let low : f.low c ≡ r.key = kid.low in
-        let in_r = in_holds (f.low c) r (omega (arith, low)) (omega (arith, low, pos)) in
-        let same = same_holder _ _ (refs f at) old.0 goes.loses.place (f.low c) r goes.loses.lost node.inside old.1 goes.loses.was in_r goes.loses.held in
-        goes.loses.lacks i r read (ap (λ (z : Ref). z.key) same) (ap (λ (z : Ref). is_indirect z) same)
+              let old = suits.stood i r read ind in
+              let pos = pow_pos r.keybits in
+              let low : f.low c ≡ r.key = kid.low in
+              let in_r = in_holds (f.low c) r (omega (arith, low)) (omega (arith, low, pos)) in
+              let same = same_holder _ _ (refs f at) old.0 goes.loses.place (f.low c) r goes.loses.lost node.inside old.1 goes.loses.was in_r goes.loses.held in
+              goes.loses.lacks i r read (ap (λ (z : Ref). z.key) same) (ap (λ (z : Ref). is_indirect z) same)
         ])
 
     -- what is below a reference that stays
