@@ -5,6 +5,8 @@ use Rattle.std.specs.List.{position}
 use Rattle.std.proofs.Math.ListN.{length-set}
 use Rattle.std.proofs.lemmas.Option.{slice_get_within}
 use Rattle.h2_ref.specs.declared.faults.Why.{Why}
+use Rattle.h2_ref.specs.declared.faults.Trouble.{Trouble}
+use Rattle.h2_ref.specs.declared.faults.Trouble.TheVariants.{Bad}
 use Rattle.h2_ref.specs.declared.reference.Ref.{Ref}
 use Rattle.h2_set.specs.Ranges.{is_indirect}
 use Rattle.h2_set.specs.Forest.{Link, loaded, told, untold, Forest, Loads, Walks, IsSound}
@@ -12,9 +14,11 @@ use Rattle.h2_set.specs.ChangeLaws.{same_or_not}
 use Rattle.h2_set.specs.StayLaws.{Alike-refl}
 use Rattle.h2_memory_sets.specs.declared.node.Node.{Node}
 use Rattle.h2_memory_sets.specs.View.{stands_of, set_of, root_of, low_of, bits_of, writable_of, copies_of, leaf_bits_of, is_up, is_below, is_child, link_to, link_of, forest_with, brought, IsLoadable}
+use Rattle.h2_memory_sets.specs.Owners.{owner_of, belongs_to, allows_of, held_of}
 use Rattle.h2_memory_sets.proofs.Lists.{below_names}
 use Rattle.h2_memory_sets.proofs.Loading.{DiffersByLoad, walks, loads}
-use Rattle.h2_memory_sets.proofs.Nodes.{settled_of, position_same, get_set, get_set_other, field_stays}
+use Rattle.h2_memory_sets.proofs.Nodes.{KeepsRoots, settled_of, position_same, get_set, get_set_other, field_stays}
+use Rattle.h2_memory_sets.proofs.Owned.{belongs_same}
 use Rattle.h2_memory_sets.proofs.Parting.{unlike, alike, fails, none_passes, none_false, position_one, one_of}
 
 -- the parts of what a node that isn't loaded is
@@ -100,6 +104,16 @@ module _ (xs : List Node) (at c : ℕ) (r : Ref) (stands : stands_of (slice_get 
   leaf : (m : ℕ) → leaf_bits_of (slice_get ys m) ≡ leaf_bits_of (slice_get xs m)
   leaf = field_stays leaf_bits_of xs c l.node new l.read refl
 
+  roots : KeepsRoots xs ys
+  roots = record {
+    leaf_bits = leaf;
+    owner = field_stays owner_of xs c l.node new l.read refl;
+    held = field_stays held_of xs c l.node new l.read (sym (ap (λ b. b && l.node.held) parts.0));
+  }
+
+  allows_same : (m : ℕ) (q : Ref) → allows_of (slice_get ys m) q ≡ allows_of (slice_get xs m) q
+  allows_same m q = field_stays (λ o. allows_of o q) xs c l.node new l.read refl m
+
   set_same : (m : ℕ) → set_of (slice_get ys m) ≡ set_of (slice_get xs m)
   set_same = field_stays set_of xs c l.node new l.read refl
 
@@ -108,7 +122,7 @@ module _ (xs : List Node) (at c : ℕ) (r : Ref) (stands : stands_of (slice_get 
 
   pub differs_by_load : (root_of (slice_get xs at) ≡ c → ⊥) → (spare epoch room failed bad : ℕ) (met : Option (ℕ × Why)) (i : ℕ) → slice_get (let s = set_of (slice_get xs at) in s.refs) i ≡ Some r → is_indirect r ≡ true → DiffersByLoad (forest_with xs spare epoch room failed bad met) (forest_with (slice_set xs c (brought (root_of (slice_get xs at)) (copies_of (slice_get xs at)) r.keybits l.node)) spare epoch room failed bad met) at c r
   differs_by_load under spare epoch room failed bad met i read ind = record {
-    settled = settled_of xs ys spare spare epoch room room failed failed bad bad met met leaf (omega arith) (omega arith) (λ m st. let off = off_c m (not_fresh m st) in (ap stands_of off ∙ st, ap root_of off, ap low_of off, ap bits_of off, ap writable_of off, ap copies_of off));
+    settled = settled_of xs ys spare spare epoch room room failed failed bad bad met met roots (λ m r st now. allows_same m r) (omega arith) (omega arith) (λ m st. let off = off_c m (not_fresh m st) in (ap stands_of off ∙ st, record { root = ap root_of off; low = ap low_of off; bits = ap bits_of off; writable = ap writable_of off; copies = ap copies_of off }));
     fresh = fresh;
     under = under;
     new = ap stands_of at_c;
@@ -120,7 +134,10 @@ module _ (xs : List Node) (at c : ℕ) (r : Ref) (stands : stands_of (slice_get 
     copies = ap copies_of at_c;
     set = rw (ap set_of at_c) l.fits.set;
     fits = rw (ap set_of at_c) l.fits;
-    allowed = λ q. refl;
+    rules = slice_get xs (root_of (slice_get xs at));
+    rules_leaf = refl;
+    rules_allow = λ q e. e;
+    belongs = λ t k. ap (λ q. belongs_to ys q t k) (ap root_of at_c) ∙ belongs_same xs ys roots.owner (root_of (slice_get xs at)) t k;
     there = λ m st. set_same m;
     link = λ m k st ne. rw (set_same m, first_same m k ne) refl;
     child = (let named = below_names _ r.key i r read ind refl in rw (set_same at, first_new, named) refl);
@@ -149,6 +166,10 @@ loads_nothing xs spare epoch room failed failed' bad bad' met met' at k = record
 -- where no node was found, none is loaded
 pub not_loaded : (xs : List Node) (at k d : ℕ) → position (is_child at k) xs ≡ None → link_of xs at k ≡ loaded d → ⊥
 not_loaded xs at k d none e = let it : untold ≡ loaded d = sym (rw none (cond_same _ untold)) ∙ e in cc
+
+-- which block is bad
+pub bad_place : (p q : ℕ) (v w : Why) → ◌≡◌ {A = Trouble} (Bad p v) (Bad q w) → p ≡ q
+bad_place p q v w e = cc
 
 -- nobody tells what isn't loaded
 pub not_told : (xs : List Node) (at k : ℕ) (l : List Ref) → link_of xs at k ≡ told l → ⊥

@@ -14,8 +14,11 @@ use Rattle.h2_set.specs.LeafLaws.{outside_holds}
 use Rattle.h2_set.specs.ChangeLaws.{same_or_not}
 use Rattle.h2_memory_sets.specs.declared.node.Node.{Node}
 use Rattle.h2_memory_sets.specs.View.{stands_of, set_of, root_of, low_of, bits_of, writable_of, copies_of, leaf_bits_of, is_child, link_to, moved, moved_all, with_set, new_node, parted, forest_with}
+use Rattle.h2_memory_sets.specs.Owners.{owner_of, belongs_to, allows_of, held_of}
+use Rattle.h2_memory_sets.proofs.Keeping.{refit_allows}
 use Rattle.h2_memory_sets.proofs.Made.{DiffersByMake}
-use Rattle.h2_memory_sets.proofs.Nodes.{settled_of, is_there}
+use Rattle.h2_memory_sets.proofs.Nodes.{KeepsRoots, settled_of, is_there}
+use Rattle.h2_memory_sets.proofs.Owned.{belongs_same}
 use Rattle.h2_memory_sets.proofs.Parting.{unlike, alike, up_other, up_at_out, up_c_out, up_at_in, up_c_in, tests, fails, first_push, first_none, none_passes, item_at, front_length, at_new, at_here, at_other, field, front_same, front_none}
 
 -- no node is below where no place was found
@@ -113,9 +116,24 @@ module _ (xs : List Node) (at : ℕ) (x : Node) (set : RefSet) (s : Split) (ref 
     | inl e ↦ subst (λ z. leaf_bits_of (slice_get ys z) ≡ leaf_bits_of (slice_get xs z)) (sym e) (ap leaf_bits_of (at_new xs at x kept s.moved ref read) ∙ ap leaf_bits_of (sym (slice_get_past xs (length xs) (omega arith))))
   ]
 
+  owner : (m : ℕ) → owner_of (slice_get ys m) ≡ owner_of (slice_get xs m)
+  owner m = elim (same_or_not m (length xs)) as (λ _. owner_of (slice_get ys m) ≡ owner_of (slice_get xs m)) [
+    | inr ne ↦ stays owner_of (λ y. refl) refl m ne
+    | inl e ↦ subst (λ z. owner_of (slice_get ys z) ≡ owner_of (slice_get xs z)) (sym e) (ap owner_of (at_new xs at x kept s.moved ref read) ∙ ap owner_of (sym (slice_get_past xs (length xs) (omega arith))))
+  ]
+
+  held : (m : ℕ) → held_of (slice_get ys m) ≡ held_of (slice_get xs m)
+  held m = elim (same_or_not m (length xs)) as (λ _. held_of (slice_get ys m) ≡ held_of (slice_get xs m)) [
+    | inr ne ↦ stays held_of (λ y. refl) refl m ne
+    | inl e ↦ subst (λ z. held_of (slice_get ys z) ≡ held_of (slice_get xs z)) (sym e) (ap held_of (at_new xs at x kept s.moved ref read) ∙ ap held_of (sym (slice_get_past xs (length xs) (omega arith))))
+  ]
+
+  roots : KeepsRoots xs ys
+  roots = record { leaf_bits = leaf; owner = owner; held = held }
+
   pub differs_by_make : (root_of (slice_get xs at) ≡ length xs → ⊥) → (spare spare' epoch room room' failed bad : ℕ) (met : Option (ℕ × Why)) → spare' + 1 ≡ spare → room' + 1 ≡ room → DiffersByMake (forest_with xs spare epoch room failed bad met) (forest_with (parted xs at x (record { refs = put ref (with_rest s.rest set.refs); capacity = set.capacity }) s.moved ref) spare' epoch room' failed bad met) at (length xs) set s ref
   differs_by_make under spare spare' epoch room room' failed bad met spare_is room_is = record {
-    settled = settled_of xs ys spare spare' epoch room room' failed failed bad bad met met leaf (omega arith) (omega arith) (λ m st. let ne = not_fresh m st in (stays stands_of (λ y. refl) refl m ne ∙ st, stays root_of (λ y. refl) refl m ne, stays low_of (λ y. refl) refl m ne, stays bits_of (λ y. refl) refl m ne, stays writable_of (λ y. refl) refl m ne, stays copies_of (λ y. refl) refl m ne));
+    settled = settled_of xs ys spare spare' epoch room room' failed failed bad bad met met roots (λ m r st now. stays (λ o. allows_of o r) (λ y. refl) (refit_allows x.inode kept x.leaves r) m (not_fresh m st)) (omega arith) (omega arith) (λ m st. let ne = not_fresh m st in (stays stands_of (λ y. refl) refl m ne ∙ st, record { root = stays root_of (λ y. refl) refl m ne; low = stays low_of (λ y. refl) refl m ne; bits = stays bits_of (λ y. refl) refl m ne; writable = stays writable_of (λ y. refl) refl m ne; copies = stays copies_of (λ y. refl) refl m ne }));
     fresh = fresh;
     under = under;
     new = ap stands_of (at_new xs at x kept s.moved ref read);
@@ -126,6 +144,7 @@ module _ (xs : List Node) (at : ℕ) (x : Node) (set : RefSet) (s : Split) (ref 
     new_writable = ap writable_of (at_new xs at x kept s.moved ref read);
     new_copies = ap copies_of (at_new xs at x kept s.moved ref read) ∙ ap copies_of (sym read);
     moved = ap set_of (at_new xs at x kept s.moved ref read);
+    belongs = λ t k. ap (λ q. belongs_to ys q t k) (ap root_of (at_new xs at x kept s.moved ref read)) ∙ belongs_same xs ys owner x.root t k ∙ ap (λ q. belongs_to xs q t k) (ap root_of (sym read));
     now = ap set_of (at_here xs at x kept s.moved ref read);
     there = there;
     link = λ m k st ne. rw (there m st ne, first_other m k ne (not_fresh m st)) refl;
@@ -140,4 +159,5 @@ module _ (xs : List Node) (at : ℕ) (x : Node) (set : RefSet) (s : Split) (ref 
     room = room_is;
     failed = refl;
     bad = refl;
+    met = refl;
   }

@@ -1,16 +1,18 @@
 -- A node that is loaded.
-use Rattle.std.proofs.Common.{◌≡◌, ℕ, ◌+◌, ◌≤◌, ◌^◌, true, false, arith, refl, sym, ◌∙◌, ap, List, [], ◌∷◌, Some, subst, ◌⊎◌, inl, inr, slice_get, suc}
+use Rattle.std.proofs.Common.{◌≡◌, ℕ, ◌+◌, ◌≤◌, ◌^◌, true, false, arith, refl, sym, ◌∙◌, ap, List, [], ◌∷◌, Option, Some, subst, ◌⊎◌, inl, inr, slice_get, suc}
 use Rattle.h2_ref.specs.declared.reference.Ref.{Ref}
 use Rattle.h2_set.specs.Ranges.{Rising, limit, is_indirect}
 use Rattle.h2_set.specs.RefSet.{RefSet, IsRefSet}
-use Rattle.h2_set.specs.Forest.{Forest, refs, loaded, told, untold, IsSound, IsSoundNode, IsChild, NamesBelow, Fits, InPlace, Stays, Keeps, Walks, Loads, Below, Alike, HasParent}
+use Rattle.h2_set.specs.Forest.{Forest, refs, loaded, told, untold, IsSound, IsSoundNode, IsChild, NamesBelow, Fits, InPlace, Stays, Keeps, Walks, Loads, Below, Alike, HasParent, HasOwner}
 use Rattle.h2_set.specs.ChangeLaws.{same_or_not, Keeps-Stays}
 use Rattle.h2_set.specs.LeafLaws.{place_above}
 use Rattle.h2_set.specs.SplitLaws.{below_high}
 use Rattle.h2_set.specs.StayLaws.{Alike-refl}
-use Rattle.h2_memory_sets.specs.View.{AllFitBelow}
+use Rattle.h2_memory_sets.specs.declared.node.Node.{Node}
+use Rattle.h2_memory_sets.specs.Owners.{allows_of}
+use Rattle.h2_memory_sets.specs.View.{leaf_bits_of, AllFitBelow}
 use Rattle.h2_memory_sets.proofs.Lists.{same_key}
-use Rattle.h2_memory_sets.proofs.Settled.{Settled, fits_in, child_in, placed, same_node, same_keeps, same_top, sound_of}
+use Rattle.h2_memory_sets.proofs.Settled.{Settled, KeepsRules, CameOf, stood, like, keeps_rules, owners_stay, fits_in, child_in, placed, same_node, same_keeps, same_top, sound_of}
 
 -- two forests of which the second has one node loaded that the first hasn't
 pub record DiffersByLoad (f g : Forest) (at c : ℕ) (r : Ref) : Type 0 where
@@ -25,8 +27,12 @@ pub record DiffersByLoad (f g : Forest) (at c : ℕ) (r : Ref) : Type 0 where
   pub clean : g.writable c ≡ false
   pub copies : g.copies c ≡ f.copies at + 1
   pub set : IsRefSet (g.set c)
-  pub fits : AllFitBelow r (f.leaf_bits (f.root at)) (g.set c)
-  pub allowed : (q : Ref) → f.allows (f.root at) q ≡ true
+  -- it was judged by the rules of the root
+  pub rules : Option Node
+  pub rules_leaf : leaf_bits_of rules ≡ f.leaf_bits (f.root at)
+  pub rules_allow : (q : Ref) → allows_of rules q ≡ true → f.allows (f.root at) q ≡ true
+  pub fits : AllFitBelow r rules (g.set c)
+  pub belongs : (t k : ℕ) → g.belongs c t k ≡ f.belongs at t k
   pub there : (m : ℕ) → f.stands m ≡ true → g.set m ≡ f.set m
   pub link : (m k : ℕ) → f.stands m ≡ true → (m ≡ at → k ≡ r.key → ⊥) → g.link m k ≡ f.link m k
   pub child : g.link at r.key ≡ loaded c
@@ -63,6 +69,9 @@ module _ (f g : Forest) (at c i : ℕ) (r : Ref) (d : DiffersByLoad f g at c r) 
   place : (m : ℕ) → f.stands m ≡ true → InPlace f g m
   place m st = d.settled.loose.place m st (stays m st)
 
+  rules : KeepsRules f g (f.root at)
+  rules = keeps_rules f g d.settled sound at stands
+
   refs_same : (m : ℕ) → f.stands m ≡ true → refs g m ≡ refs f m
   refs_same m st = ap (λ (t : RefSet). t.refs) (d.there m st)
 
@@ -80,7 +89,7 @@ module _ (f g : Forest) (at c i : ℕ) (r : Ref) (d : DiffersByLoad f g at c r) 
         within = rw (p.low, d.low, p.bits, d.bits) ends;
         fewer = rw (p.bits, d.bits) (fits.falls ind);
         copies = (let s = d.settled.loose in rw (d.clean, s.copies at stands (stays at stands)) d.copies);
-        belongs = λ t k. d.settled.loose.none_belong c t k ∙ sym (d.settled.loose.none_belong at t k);
+        belongs = λ t k. d.belongs t k ∙ sym (p.belongs t k);
       }
 
   here_child : (k e : ℕ) → g.link at k ≡ loaded e → IsChild g at k e
@@ -117,7 +126,7 @@ module _ (f g : Forest) (at c i : ℕ) (r : Ref) (d : DiffersByLoad f g at c r) 
         set = rw (d.there at stands) node.set;
         capacity = ap (λ (t : RefSet). t.capacity) (d.there at stands);
         inside = rw (same, p.low, p.bits) node.inside;
-        fits = λ j q got. fits_in f g d.settled.loose at q stands (stays at stands) (node.fits j q (rw same at got));
+        fits = λ j q got. fits_in f g d.settled.loose at q stands (stays at stands) rules (node.fits j q (rw same at got));
         some = λ top. rw same (node.some (λ e. top (p.root ∙ e)));
         child = here_child;
         named = λ k e l. rw same (here_named k e l);
@@ -127,14 +136,14 @@ module _ (f g : Forest) (at c i : ℕ) (r : Ref) (d : DiffersByLoad f g at c r) 
   new_fits : (j : ℕ) (q : Ref) → slice_get (refs g c) j ≡ Some q → Fits g c q
   new_fits j q got =
       let h = d.fits.each j q got in
-      let grain : g.leaf_bits (g.root c) ≡ f.leaf_bits (f.root at) = ap g.leaf_bits d.root ∙ d.settled.loose.leaf_bits (f.root at) in
+      let grain : g.leaf_bits (g.root c) ≡ f.leaf_bits (f.root at) = ap g.leaf_bits d.root ∙ d.settled.loose.leaf_bits (f.root at) rules.stood rules.stands in
       record {
         held = h.held;
         aligned = h.aligned;
         class = h.class;
-        leaf = λ k. h.leaf k ∙ sym grain;
-        allowed = λ k. ap (λ n. g.allows n q) d.root ∙ d.settled.loose.allows (f.root at) q ∙ d.allowed q;
-        wide = λ k. rw grain (h.wide k);
+        leaf = λ k. h.leaf k ∙ d.rules_leaf ∙ sym grain;
+        allowed = λ k. ap (λ n. g.allows n q) d.root ∙ rules.allows q (d.rules_allow q (h.allowed k));
+        wide = λ k. rw grain (let it = h.wide k in rw d.rules_leaf at it);
         some_bits = h.some_bits;
         falls = λ k. rw d.bits h.fewer;
       }
@@ -202,6 +211,28 @@ module _ (f g : Forest) (at c i : ℕ) (r : Ref) (d : DiffersByLoad f g at c r) 
       let off : h.parent ≡ at → f.low m ≡ r.key → ⊥ = λ e q. (let clash : untold ≡ loaded m = sym d.was ∙ ap (f.link at) (sym q) ∙ ap (λ z. f.link z (f.low m)) (sym e) ∙ h.link in cc) in
       record { parent = h.parent; stands = stays h.parent h.stands; link = ap (g.link h.parent) p.low ∙ d.link h.parent (f.low m) h.stands off ∙ h.link }
 
+  all_stay : (m : ℕ) → f.stands m ≡ true → Stays f g m
+  all_stay m st = elim (same_or_not m at) as (λ _. Stays f g m) [
+    | inl e ↦ subst (Stays f g) (sym e) here_stays
+    | inr off ↦ Keeps-Stays f g m (keeps m st off)
+  ]
+
+  -- what was loaded belongs to what the node above it does
+  owners : (m t k : ℕ) → g.stands m ≡ true → g.belongs m t k ≡ true → HasOwner g m t k
+  owners m t k st b = elim (same_or_not m c) as (λ _. HasOwner g m t k) [
+    | inr ne ↦ owners_stay f g d.settled sound all_stay m t k (d.stands m ne st) b
+    | inl e ↦
+        let p = place at stands in
+        let h = owners_stay f g d.settled sound all_stay at t k stands (p.belongs t k ∙ sym (d.belongs t k) ∙ subst (λ z. g.belongs z t k ≡ true) e b) in
+        record { other = λ same. h.other (p.root ∙ sym d.root ∙ sym (ap g.root e) ∙ same); stands = h.stands; root = h.root; leaf = h.leaf; key_is = h.key_is; kind_is = h.kind_is; path = h.path }
+  ]
+
+  came : (m : ℕ) → g.stands m ≡ true → CameOf f g d.settled.loose m
+  came m st = elim (same_or_not m c) as (λ _. CameOf f g d.settled.loose m) [
+    | inr ne ↦ stood (d.stands m ne st)
+    | inl e ↦ like at stands (stays at stands) (λ t k. ap (λ z. g.belongs z t k) e ∙ d.belongs t k ∙ sym ((place at stands).belongs t k))
+  ]
+
   pub walks : Walks f g
   walks = record {
     sound = sound_of f g d.settled.loose sound
@@ -209,7 +240,7 @@ module _ (f g : Forest) (at c i : ℕ) (r : Ref) (d : DiffersByLoad f g at c r) 
           | inl e ↦ subst (IsSoundNode g) (sym e) new_node
           | inr ne ↦ elim (same_or_not m at) as (λ _. IsSoundNode g m) [
             | inl e ↦ subst (IsSoundNode g) (sym e) here_node
-            | inr off ↦ let old = d.stands m ne st in same_node f g d.settled.loose m old st (sound.node m old) (d.there m old) (λ k. d.link m k old (λ e _. off e)) (λ k e l. stays e ((sound.node m old).child k e l).stands)
+            | inr off ↦ let old = d.stands m ne st in same_node f g d.settled.loose m old st (keeps_rules f g d.settled sound m old) (sound.node m old) (d.there m old) (λ k. d.link m k old (λ e _. off e)) (λ k e l. stays e ((sound.node m old).child k e l).stands)
           ]
         ])
         (λ m st. elim (same_or_not m c) as (λ _. (g.stands (g.root m) ≡ true) × (g.root (g.root m) ≡ g.root m)) [
@@ -219,12 +250,12 @@ module _ (f g : Forest) (at c i : ℕ) (r : Ref) (d : DiffersByLoad f g at c r) 
         (λ m st ne. elim (same_or_not m c) as (λ _. HasParent g m) [
           | inl e ↦ subst (HasParent g) (sym e) (record { parent = at; stands = stays at stands; link = ap (g.link at) d.low ∙ d.child })
           | inr off ↦ old_parent m (d.stands m off st) ne
-        ]);
-    fixed = d.settled.loose.fixed;
-    stays = λ m st. elim (same_or_not m at) as (λ _. Stays f g m) [
-      | inl e ↦ subst (Stays f g) (sym e) here_stays
-      | inr off ↦ Keeps-Stays f g m (keeps m st off)
-    ];
+        ])
+        (λ m h. stays m (sound.held m h).0)
+        owners
+        came;
+    fixed = d.settled.fixed;
+    stays = all_stay;
     roots = λ m st own. elim (same_or_not m c) as (λ _. f.stands m ≡ true) [
       | inl e ↦ absurd (d.under (sym d.root ∙ subst (λ z. g.root z ≡ z) e own))
       | inr ne ↦ d.stands m ne st

@@ -21,6 +21,7 @@ pub record DiffersByMake (f g : Forest) (at c : ℕ) (set : RefSet) (s : Split) 
   pub new_writable : g.writable c ≡ true
   pub new_copies : g.copies c ≡ f.copies at
   pub moved : g.set c ≡ s.moved
+  pub belongs : (t k : ℕ) → g.belongs c t k ≡ f.belongs at t k
   pub now : g.set at ≡ record { refs = put ref (with_rest s.rest set.refs); capacity = set.capacity }
   pub there : (m : ℕ) → f.stands m ≡ true → (m ≡ at → ⊥) → g.set m ≡ f.set m
   pub link : (m k : ℕ) → f.stands m ≡ true → (m ≡ at → ⊥) → g.link m k ≡ f.link m k
@@ -37,3 +38,4 @@ pub record DiffersByMake (f g : Forest) (at c : ℕ) (set : RefSet) (s : Split) 
   pub room : g.room + 1 ≡ f.room
   pub failed : g.failed ≡ f.failed
   pub bad : g.bad ≡ f.bad
+  pub met : g.met ≡ f.met

@@ -8,16 +8,17 @@ use Rattle.h2_set.specs.declared.set.Split.{Split}
 use Rattle.h2_set.specs.Ranges.{Rising, limit, put, lies, is_indirect, IsApart, Apart}
 use Rattle.h2_set.specs.RefSet.{RefSet, IsRefSet, with_rest}
 use Rattle.h2_set.specs.SetBytes.{IsHeld}
-use Rattle.h2_set.specs.Forest.{Forest, refs, loaded, untold, IsSound, IsSoundNode, IsChild, NamesBelow, Fits, MadeFrom, Makes, HasParent, InPlace}
+use Rattle.h2_set.specs.Forest.{Forest, refs, loaded, untold, IsSound, IsSoundNode, IsChild, NamesBelow, Fits, MadeFrom, Makes, HasParent, HasOwner, InPlace, Same}
 use Rattle.h2_set.specs.ChangeLaws.{same_or_not}
 use Rattle.h2_set.specs.LeafLaws.{Rising-low}
 use Rattle.h2_set.specs.EditLaws.{Rising-put, length-put}
+use Rattle.h2_set.specs.EditPathLaws.{PartsRefs, made_path}
 use Rattle.h2_set.specs.PutLaws.{Rising-filter, put_from, put_keeps}
 use Rattle.h2_set.specs.SplitLaws.{lies_in}
 use Rattle.h2_set.specs.MadeLaws.{put_rising, put_fits, PartsNode, parts_node}
 use Rattle.h2_memory_sets.specs.View.{names}
 use Rattle.h2_memory_sets.proofs.Lists.{names_below, below_names, filter_from, filter_keeps, put_there, Rising-within}
-use Rattle.h2_memory_sets.proofs.Settled.{fits_in, child_in, placed, same_node, same_all, same_top, sound_of}
+use Rattle.h2_memory_sets.proofs.Settled.{KeepsRules, CameOf, stood as stood_in, like, keeps_rules, owner_in, fits_in, child_in, placed, same_node, same_all, same_top, sound_of}
 use Rattle.h2_memory_sets.proofs.Made.{DiffersByMake}
 use Rattle.h2_memory_sets.proofs.Sides.{at_start, in_range, outside, same_bool, where_lies, count_not, not_false, off_range, on_range, off_key, off_lies, Rising-wide}
 
@@ -204,6 +205,9 @@ module _ (f : Forest) (at : ℕ) (set : RefSet) (s : Split) (ref leaf : Ref) (so
     stays : (m : ℕ) → f.stands m ≡ true → g.stands m ≡ true
     stays = d.settled.stands
 
+    rules : KeepsRules f g (f.root at)
+    rules = keeps_rules f g d.settled sound at stands
+
     place : (m : ℕ) → f.stands m ≡ true → InPlace f g m
     place m st = d.settled.loose.place m st (stays m st)
 
@@ -230,7 +234,7 @@ module _ (f : Forest) (at : ℕ) (set : RefSet) (s : Split) (ref leaf : Ref) (so
 
     -- the reference to the new node fits
     ref_fits : Fits g at ref
-    ref_fits = fits_in f g d.settled.loose at ref stands (stays at stands) (record {
+    ref_fits = fits_in f g d.settled.loose at ref stands (stays at stands) rules (record {
       held = λ _. ref_held;
       aligned = rw (key_is, bits_is) made.split.half.aligned;
       class = rw key_is parts.class;
@@ -259,7 +263,7 @@ module _ (f : Forest) (at : ℕ) (set : RefSet) (s : Split) (ref leaf : Ref) (so
               within = rw (p.low, d.low, p.bits, d.bits) parts.range_high;
               fewer = rw (p.bits, d.bits) parts.fewer;
               copies = (let s = d.settled.loose in let a = d.new_copies in rw (d.new_writable, s.copies at stands (stays at stands)) (omega (arith, a)));
-              belongs = λ t j. d.settled.loose.none_belong c t j ∙ sym (d.settled.loose.none_belong at t j);
+              belongs = λ t j. d.belongs t j ∙ sym (p.belongs t j);
             }
 
     here_named : (k e : ℕ) → g.link at k ≡ loaded e → NamesBelow (put ref (filter (λ q. not (lies s.key s.keybits q)) (put leaf (refs f at)))) k
@@ -293,7 +297,7 @@ module _ (f : Forest) (at : ℕ) (set : RefSet) (s : Split) (ref leaf : Ref) (so
     here_fits : (i : ℕ) (q : Ref) → slice_get (put ref (filter (λ q. not (lies s.key s.keybits q)) (put leaf (refs f at)))) i ≡ Some q → Fits g at q
     here_fits i q read = elim (put_from ref (filter (λ q. not (lies s.key s.keybits q)) (put leaf (refs f at))) ref_apart i q read) as (λ _. Fits g at q) [
       | inl same ↦ subst (Fits g at) (sym same) ref_fits
-      | inr old ↦ let st = stayed old.0 q old.1 in fits_in f g d.settled.loose at q stands (stays at stands) (all_fits st.place q st.read)
+      | inr old ↦ let st = stayed old.0 q old.1 in fits_in f g d.settled.loose at q stands (stays at stands) rules (all_fits st.place q st.read)
     ]
 
     pub here_node : IsSoundNode g at
@@ -314,13 +318,13 @@ module _ (f : Forest) (at : ℕ) (set : RefSet) (s : Split) (ref leaf : Ref) (so
     new_fits i q read =
         let it = came i q read in
         let h = all_fits it.1 q it.2 in
-        let grain : g.leaf_bits (g.root c) ≡ f.leaf_bits (f.root at) = ap g.leaf_bits d.root ∙ d.settled.loose.leaf_bits (f.root at) in
+        let grain : g.leaf_bits (g.root c) ≡ f.leaf_bits (f.root at) = ap g.leaf_bits d.root ∙ d.settled.loose.leaf_bits (f.root at) rules.stood rules.stands in
         record {
           held = h.held;
           aligned = h.aligned;
           class = h.class;
           leaf = λ k. h.leaf k ∙ sym grain;
-          allowed = λ k. ap (λ n. g.allows n q) d.root ∙ d.settled.loose.allows (f.root at) q ∙ h.allowed k;
+          allowed = λ k. ap (λ n. g.allows n q) d.root ∙ rules.allows q (h.allowed k);
           wide = λ k. rw grain (h.wide k);
           some_bits = h.some_bits;
           falls = λ k. rw d.bits (parts.shorter it.1 q it.2 it.0);
@@ -365,7 +369,7 @@ module _ (f : Forest) (at : ℕ) (set : RefSet) (s : Split) (ref leaf : Ref) (so
           within = rw (d.low, d.bits, p.low, p.bits, low_is) end';
           fewer = rw (d.bits, p.bits, bits_is) (parts.shorter m.all_place n.ref m.all_read m.lies_there);
           copies = (let s = d.settled.loose in rw (s.copies e kid.stands (stays e kid.stands), s.writable e kid.stands (stays e kid.stands), d.new_copies) kid.copies);
-          belongs = λ t j. d.settled.loose.none_belong e t j ∙ sym (d.settled.loose.none_belong c t j);
+          belongs = λ t j. p.belongs t j ∙ kid.belongs t j ∙ sym (d.belongs t j);
         }
 
     new_named : (k e : ℕ) → g.link c k ≡ loaded e → NamesBelow (filter (lies s.key s.keybits) (put leaf (refs f at))) k
@@ -430,6 +434,34 @@ module _ (f : Forest) (at : ℕ) (set : RefSet) (s : Split) (ref leaf : Ref) (so
           | inr off ↦ record { parent = h.parent; stands = stays h.parent h.stands; link = ap (g.link h.parent) p.low ∙ d.link h.parent (f.low m) h.stands off ∙ h.link }
         ]
 
+    others : (m : ℕ) → f.stands m ≡ true → (m ≡ at → ⊥) → Same f g m
+    others m st off = same_all f g d.settled.loose m st (stays m st) (d.there m st off) (λ k. d.link m k st off)
+
+    -- the references of the node are parted, and the path of each leaf goes on through the new node or beside it
+    parted : PartsRefs f g at c s.key s.keybits (put leaf (refs f at)) ref
+    parted = record { moved = refs_new; kept = refs_here; indirect = is_ind; ref_key = key_is; ref_bits = bits_is; link = child; sides = parts.sides; below_moved = below; below_kept = kept }
+
+    old_owner : (m t k : ℕ) → f.stands m ≡ true → f.belongs m t k ≡ true → HasOwner g m t k
+    old_owner m t k st b =
+        let h = sound.owner m t k st b in
+        owner_in f g d.settled.loose m t k st (stays m st) h (stays t h.stands) (made_path f g at c leaf ref s.key s.keybits sound stands made.apart parted others k t (Some h.leaf) h.stands (λ e. cc) h.path)
+
+    -- what is new belongs to what the old node does
+    owners : (m t k : ℕ) → g.stands m ≡ true → g.belongs m t k ≡ true → HasOwner g m t k
+    owners m t k st b = elim (same_or_not m c) as (λ _. HasOwner g m t k) [
+      | inr ne ↦ let old = d.stands m ne st in old_owner m t k old (sym ((place m old).belongs t k) ∙ b)
+      | inl e ↦
+          let p = place at stands in
+          let h = old_owner at t k stands (sym (d.belongs t k) ∙ subst (λ z. g.belongs z t k ≡ true) e b) in
+          record { other = λ same. h.other (p.root ∙ sym d.root ∙ sym (ap g.root e) ∙ same); stands = h.stands; root = h.root; leaf = h.leaf; key_is = h.key_is; kind_is = h.kind_is; path = h.path }
+    ]
+
+    came_of : (m : ℕ) → g.stands m ≡ true → CameOf f g d.settled.loose m
+    came_of m st = elim (same_or_not m c) as (λ _. CameOf f g d.settled.loose m) [
+      | inr ne ↦ stood_in (d.stands m ne st)
+      | inl e ↦ like at stands (stays at stands) (λ t k. ap (λ z. g.belongs z t k) e ∙ d.belongs t k ∙ sym ((place at stands).belongs t k))
+    ]
+
     pub makes : Makes f g at c set s
     makes = record {
       sound = sound_of f g d.settled.loose sound
@@ -437,7 +469,7 @@ module _ (f : Forest) (at : ℕ) (set : RefSet) (s : Split) (ref leaf : Ref) (so
             | inl e ↦ subst (IsSoundNode g) (sym e) new_node
             | inr ne ↦ elim (same_or_not m at) as (λ _. IsSoundNode g m) [
               | inl e ↦ subst (IsSoundNode g) (sym e) here_node
-              | inr off ↦ let old = d.stands m ne st in same_node f g d.settled.loose m old st (sound.node m old) (d.there m old off) (λ k. d.link m k old off) (λ k e l. stays e ((sound.node m old).child k e l).stands)
+              | inr off ↦ let old = d.stands m ne st in same_node f g d.settled.loose m old st (keeps_rules f g d.settled sound m old) (sound.node m old) (d.there m old off) (λ k. d.link m k old off) (λ k e l. stays e ((sound.node m old).child k e l).stands)
             ]
           ])
           (λ m st. elim (same_or_not m c) as (λ _. (g.stands (g.root m) ≡ true) × (g.root (g.root m) ≡ g.root m)) [
@@ -447,8 +479,11 @@ module _ (f : Forest) (at : ℕ) (set : RefSet) (s : Split) (ref leaf : Ref) (so
           (λ m st ne. elim (same_or_not m c) as (λ _. HasParent g m) [
             | inl e ↦ subst (HasParent g) (sym e) (record { parent = at; stands = stays at stands; link = ap (g.link at) d.low ∙ child })
             | inr off ↦ old_parent m (d.stands m off st) ne
-          ]);
-      fixed = d.settled.loose.fixed;
+          ])
+          (λ m h. stays m (sound.held m h).0)
+          owners
+          came_of;
+      fixed = d.settled.fixed;
       fresh = d.fresh;
       child = child;
       moved = d.moved;
@@ -463,7 +498,7 @@ module _ (f : Forest) (at : ℕ) (set : RefSet) (s : Split) (ref leaf : Ref) (so
       below_moved = below;
       below_kept = kept;
       copies = d.settled.loose.copies at stands (stays at stands);
-      others = λ m st off. same_all f g d.settled.loose m st (stays m st) (d.there m st off) (λ k. d.link m k st off);
+      others = others;
       none_new = λ m st. elim (same_or_not m c) as (λ _. (m ≡ c) ⊎ (f.stands m ≡ true)) [
         | inl e ↦ inl e
         | inr ne ↦ inr (d.stands m ne st)
@@ -472,4 +507,5 @@ module _ (f : Forest) (at : ℕ) (set : RefSet) (s : Split) (ref leaf : Ref) (so
       room = d.room;
       failed = d.failed;
       bad = d.bad;
+      met = d.met;
     }

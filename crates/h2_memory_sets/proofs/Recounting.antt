@@ -7,15 +7,20 @@ use Rattle.std.proofs.lemmas.Bool.Decides.{nat_tests}
 use Rattle.std.proofs.lemmas.List.{length-map}
 use Rattle.std.proofs.lemmas.Nat.{pow_pos}
 use Rattle.h2_ref.specs.declared.faults.Why.{Why}
+use Rattle.h2_set.specs.RefSet.{RefSet}
 use Rattle.h2_set.specs.Forest.{Forest, loaded, IsSound, IsSoundNode, HasParent}
 use Rattle.h2_set.specs.ChangeLaws.{same_or_not}
 use Rattle.h2_memory_sets.specs.declared.node.Node.{Node}
 use Rattle.h2_memory_sets.specs.View.{stands_of, set_of, root_of, low_of, bits_of, writable_of, copies_of, leaf_bits_of, is_child, link_of, forest_with, is_above, place_of, with_dirty, with_copies, is_copied, count_copied, recounted_all, is_top, AllRooted}
+use Rattle.h2_memory_sets.specs.Owners.{owner_of, allows_of, held_of}
 use Rattle.h2_memory_sets.proofs.Counting.{count_one, count_none}
+use Rattle.h2_memory_sets.specs.Kept.{AreKept}
+use Rattle.h2_memory_sets.proofs.Keeping.{kept_map}
 use Rattle.h2_memory_sets.proofs.Nesting.{LiesIn, Link, meet, link_of as link_at, clash, few_bits, one_range, leads_to}
-use Rattle.h2_memory_sets.proofs.Nodes.{position_same, is_there}
+use Rattle.h2_memory_sets.proofs.Nodes.{belongs_still, position_same, is_there}
 use Rattle.h2_memory_sets.proofs.Parting.{alike, one_of, item_at, get_map}
 use Rattle.h2_memory_sets.proofs.Passing.{and_parts}
+use Rattle.h2_memory_sets.proofs.Paths.{owner_same}
 use Rattle.h2_memory_sets.proofs.Rooted.{map_field}
 use Rattle.h2_memory_sets.proofs.Rooting.{still_counted}
 use Rattle.h2_memory_sets.proofs.Sides.{same_bool}
@@ -298,6 +303,9 @@ module _ (xs : List Node) (new : Node → Bool) (spare epoch room failed bad : �
       let few = few_bits f sound m st in
       record { root = t.1; bits = omega (arith, half, few); low = low; high = omega (arith, high, pos) }
 
+  pub kept_still : AreKept xs → AreKept (recounted_all (map (λ x. with_dirty (new x) x) xs))
+  kept_still kept = kept_map r zs (kept_map d xs kept (λ x. record { owner = refl; root = refl; up = refl; loaded = λ e. e; inode = refl; low = refl; bits = refl; leaf_bits = refl; set = refl })) (λ x. record { owner = refl; root = refl; up = refl; loaded = λ e. e; inode = refl; low = refl; bits = refl; leaf_bits = refl; set = refl })
+
   pub rooted_still : AllRooted xs → AllRooted (recounted_all (map (λ x. with_dirty (new x) x) xs))
   rooted_still rooted i now = ap (λ z. is_top (slice_get ys z)) (field root_of (λ b x. refl) (λ n x. refl) i) ∙ field is_top (λ b x. refl) (λ n x. refl) (root_of (slice_get xs i)) ∙ rooted i (sym (field stands_of (λ b x. refl) (λ n x. refl) i) ∙ now)
 
@@ -321,6 +329,15 @@ module _ (xs : List Node) (new : Node → Bool) (spare epoch room failed bad : �
     set_same : (m : ℕ) → set_of (slice_get ys m) ≡ set_of (slice_get xs m)
     set_same = field set_of (λ b x. refl) (λ n x. refl)
 
+    owner_still : (m : ℕ) → owner_of (slice_get ys m) ≡ owner_of (slice_get xs m)
+    owner_still = field owner_of (λ b x. refl) (λ n x. refl)
+
+    held_same : (m : ℕ) → held_of (slice_get ys m) ≡ held_of (slice_get xs m)
+    held_same = field held_of (λ b x. refl) (λ n x. refl)
+
+    belongs_same_at : (m t k : ℕ) → g.belongs m t k ≡ f.belongs m t k
+    belongs_same_at m t k = belongs_still xs ys owner_still m t k (root_same m)
+
     leaf_same : (m : ℕ) → leaf_bits_of (slice_get ys m) ≡ leaf_bits_of (slice_get xs m)
     leaf_same = field leaf_bits_of (λ b x. refl) (λ n x. refl)
 
@@ -338,7 +355,7 @@ module _ (xs : List Node) (new : Node → Bool) (spare epoch room failed bad : �
         let x = node_at m st in
         still_counted f g m (λ n was now. record { root = root_same n; low = low_same n; bits = bits_same n; set = set_same n }) st (stands_same m ∙ st)
         (λ k c e. let was = sym (link_same m k) ∙ e in (was, stands_same c ∙ (node.child k c was).stands))
-        (leaf_same (f.root m)) (λ q. refl) (λ n t j. refl)
+        (leaf_same (f.root m)) (λ q. field (λ o. allows_of o q) (λ b x. refl) (λ n x. refl) (f.root m)) (λ n t j was now. belongs_same_at n t j)
         (λ k c e. kid_count m k c st (sym (link_same m k) ∙ e))
         (λ top. counted m x.0 x.1 ∙ count_top m x.0 x.1 (node.half (sym (root_same m) ∙ top)))
         (rw (counted m x.0 x.1, bits_same m) (falls 63 m x.0 st x.1 (omega arith)))
@@ -347,13 +364,16 @@ module _ (xs : List Node) (new : Node → Bool) (spare epoch room failed bad : �
     pub still : IsSound g
     still = record {
       node = λ m now. sound_node m (sym (stands_same m) ∙ now);
-      held = λ m held. absurd (cc);
+      held = λ m held.
+          let it = sound.held m (sym (held_same m) ∙ held) in
+          (stands_same m ∙ it.0, root_same m ∙ it.1);
       top = λ m now.
           let t = sound.top m (sym (stands_same m) ∙ now) in
           (ap g.stands (root_same m) ∙ stands_same (f.root m) ∙ t.0, ap g.root (root_same m) ∙ root_same (f.root m) ∙ t.1 ∙ sym (root_same m));
       parent = λ m now off.
           let h = sound.parent m (sym (stands_same m) ∙ now) (λ e. off (root_same m ∙ e)) in
           record { parent = h.parent; stands = stands_same h.parent ∙ h.stands; link = ap (g.link h.parent) (low_same m) ∙ link_same h.parent (f.low m) ∙ h.link };
-      owner = λ m t k st b. absurd (cc);
+      owner = λ m t k st b. owner_same f g sound (λ n was. ap (λ (t : RefSet). t.refs) (set_same n)) (λ n j was. link_same n j) stands_same root_same m t k (sym (stands_same m) ∙ st) (sym (belongs_same_at m t k) ∙ b);
+      chain = λ m t k u j now b b'. belongs_same_at m u j ∙ sound.chain m t k u j (sym (stands_same m) ∙ now) (sym (belongs_same_at m t k) ∙ b) (sym (belongs_same_at t u j) ∙ b');
       epoch = epoch_fits;
     }

@@ -111,18 +111,6 @@ get_push xs z m ne = elim (cases_lt m (length xs)) as (λ _. slice_get (xs ++ z 
   | inr ge ↦ get_none xs z m ne ge ∙ sym (slice_get_past xs m ge)
 ]
 
-pub rooted_push : (xs : List Node) (keys : KeyClass) (leaf_bits : ℕ) → AllRooted xs → AllRooted (xs ++ top_node (length xs) keys leaf_bits ∷ [])
-rooted_push xs keys leaf_bits rooted i st = elim (same_or_not i (length xs)) as (λ _. is_top (slice_get (xs ++ top_node (length xs) keys leaf_bits ∷ []) (root_of (slice_get (xs ++ top_node (length xs) keys leaf_bits ∷ []) i))) ≡ true) [
-  | inl e ↦ subst (λ z. is_top (slice_get (xs ++ top_node (length xs) keys leaf_bits ∷ []) (root_of (slice_get (xs ++ top_node (length xs) keys leaf_bits ∷ []) z))) ≡ true) (sym e) (rw (get_last xs (top_node (length xs) keys leaf_bits)) (ap is_top (get_last xs (top_node (length xs) keys leaf_bits))))
-  | inr ne ↦
-      let off = get_push xs (top_node (length xs) keys leaf_bits) i ne in
-      let top = rooted i (sym (ap stands_of off) ∙ st) in
-      rw (ap root_of off) (still (root_of (slice_get xs i)) top)
-]
-  where
-    still : (t : ℕ) → is_top (slice_get xs t) ≡ true → is_top (slice_get (xs ++ top_node (length xs) keys leaf_bits ∷ []) t) ≡ true
-    still t top = ap is_top (get_push xs (top_node (length xs) keys leaf_bits) t (λ e. let clash : true ≡ false = sym top ∙ ap (λ z. is_top (slice_get xs z)) e ∙ ap is_top (slice_get_past xs (length xs) (omega arith)) in cc)) ∙ top
-
 -- what reads the same of a node once it is changed reads the same of all
 pub map_field : {X : Type 0} (F : Option Node → X) (f : Node → Node) (xs : List Node) → ((x : Node) → F (Some (f x)) ≡ F (Some x)) → (m : ℕ) → F (slice_get (map f xs) m) ≡ F (slice_get xs m)
 map_field F f [] same m = refl

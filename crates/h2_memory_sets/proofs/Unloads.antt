@@ -13,9 +13,16 @@ use Rattle.h2_set.specs.Forest.{Forest, loaded, untold, IsSound, InPlace, HasPar
 use Rattle.h2_memory_sets.specs.declared.node.Node.{Node}
 use Rattle.h2_memory_sets.specs.View.{stands_of, set_of, root_of, low_of, bits_of, writable_of, copies_of, leaf_bits_of, is_up, is_bare, is_top, is_child, link_to, link_of, forest_with, Block, block, stays_loaded, unloaded, unloaded_all, AllRooted}
 use Rattle.h2_memory_sets.specs.Roots.{Unloads}
+use Rattle.h2_memory_sets.specs.Inodes.{is_named, named_by}
+use Rattle.h2_memory_sets.specs.Kept.{AreKept}
+use Rattle.h2_memory_sets.specs.declared.node.Owner.{Owner}
+use Rattle.h2_memory_sets.specs.Owners.{owner_of, allows_of, held_of}
 use Rattle.h2_memory_sets.proofs.Bringing.{cond_same}
-use Rattle.h2_memory_sets.proofs.Nodes.{position_same, is_there}
-use Rattle.h2_memory_sets.proofs.Parting.{alike, one_of, item_at, none_passes, get_map}
+use Rattle.h2_memory_sets.proofs.Keeping.{flag_of, held_keeps, kept_map}
+use Rattle.h2_memory_sets.proofs.Owned.{belongs_none}
+use Rattle.h2_memory_sets.proofs.Nodes.{belongs_still, position_same, is_there}
+use Rattle.h2_memory_sets.proofs.Parting.{alike, one_of, item_at, none_passes, none_false, get_map}
+use Rattle.h2_memory_sets.proofs.Passing.{and_parts}
 use Rattle.h2_memory_sets.proofs.Rooted.{map_field, stood}
 use Rattle.h2_memory_sets.proofs.Rooting.{still_sound}
 
@@ -66,18 +73,18 @@ bare_of true true h = refl
 bare_of true false h = absurd (cc)
 bare_of false b h = absurd (cc)
 
-link_found : (b : Bool) (o : Option ℕ) (c : ℕ) → cond b (link_to o) untold ≡ loaded c → o ≡ Some c
+pub link_found : (b : Bool) (o : Option ℕ) (c : ℕ) → cond b (link_to o) untold ≡ loaded c → o ≡ Some c
 link_found true None c e = absurd (cc)
 link_found true (Some d) c e = let it : d ≡ c = (cc) in ap Some it
 link_found false o c e = absurd (cc)
 
 -- the place that a search found
-record Found {X : Type 0} (p : X → Bool) (xs : List X) (c : ℕ) : Type 0 where
-  item : X
-  read : slice_get xs c ≡ Some item
-  passes : p item ≡ true
+pub record Found {X : Type 0} (p : X → Bool) (xs : List X) (c : ℕ) : Type 0 where
+  pub item : X
+  pub read : slice_get xs c ≡ Some item
+  pub passes : p item ≡ true
 
-found : {X : Type 0} (p : X → Bool) (xs : List X) (c : ℕ) → position p xs ≡ Some c → Found p xs c
+pub found : {X : Type 0} (p : X → Bool) (xs : List X) (c : ℕ) → position p xs ≡ Some c → Found p xs c
 found p [] c e = absurd (cc)
 found p (y ∷ ys) c e =
     let it = position-Some p (y ∷ ys) c y e in
@@ -97,7 +104,10 @@ pub blocks_stay : (from : ℕ) (xs : List Node) → map block (unloaded_all from
 blocks_stay from [] = refl
 blocks_stay from (x ∷ xs) = ap (λ (l : List Block). block x ∷ l) (blocks_stay from xs)
 
-module _ (xs : List Node) (from spare epoch room failed bad : ℕ) (met : Option (ℕ × Why)) where
+pub kept_unload : (from : ℕ) (xs : List Node) → AreKept xs → AreKept (unloaded_all from xs)
+kept_unload from xs kept = kept_map (unloaded from) xs kept (λ x. record { owner = refl; root = refl; up = refl; loaded = λ e. (and_parts x.loaded (is_bare x.up || nat_lt x.low from) e).0; inode = refl; low = refl; bits = refl; leaf_bits = refl; set = refl })
+
+module _ (xs : List Node) (from spare epoch room failed bad : ℕ) (met : Option (ℕ × Why)) (none : position is_named xs ≡ None) where
   abbrev ys : List Node
   ys = unloaded_all from xs
 
@@ -109,6 +119,24 @@ module _ (xs : List Node) (from spare epoch room failed bad : ℕ) (met : Option
 
   field : {X : Type 0} (F : Option Node → X) → ((x : Node) → F (Some (unloaded from x)) ≡ F (Some x)) → (m : ℕ) → F (slice_get ys m) ≡ F (slice_get xs m)
   field F same m = map_field F (unloaded from) xs same m
+
+  owner_same : (m : ℕ) → owner_of (slice_get ys m) ≡ owner_of (slice_get xs m)
+  owner_same = field owner_of (λ x. refl)
+
+  belongs_same_at : (m t k : ℕ) → g.belongs m t k ≡ f.belongs m t k
+  belongs_same_at m t k = belongs_still xs ys owner_same m t k (field root_of (λ x. refl) m)
+
+  -- no leaf names a tree that stands
+  unnamed : IsSound f → (m t k : ℕ) → f.stands m ≡ true → f.belongs m t k ≡ false
+  unnamed sound m t k st = belongs_none xs (f.root m) t k (no_owner (slice_get xs (f.root m)) refl (sound.top m st).0)
+    where
+      no_owner : (o : Option Node) → slice_get xs (f.root m) ≡ o → stands_of o ≡ true → owner_of o ≡ None
+      no_owner None read st' = refl
+      no_owner (Some x) read st' = by_owner x.owner (none_false is_named xs none (f.root m) x read)
+        where
+          by_owner : (w : Option Owner) → named_by w x.loaded ≡ false → w ≡ None
+          by_owner None e = refl
+          by_owner (Some o) e = let clash : true ≡ false = sym st' ∙ e in absurd (cc)
 
   first_before : (m k : ℕ) → k < from → position (is_child m k) ys ≡ position (is_child m k) xs
   first_before m k lt = sym (position_same (is_child m k) (is_child m k) xs ys (sym (length-map _ _)) pointwise)
@@ -144,7 +172,11 @@ module _ (xs : List Node) (from spare epoch room failed bad : ℕ) (met : Option
       ap stands_of (get_map (unloaded from) xs c x it.read) ∙ gone x.loaded (is_up m x.up && nat_eq x.low k) (stays_loaded from x) it.passes (child_from x.loaded x.up m x.low k from le)
 
   place : (m : ℕ) → stands_of (slice_get ys m) ≡ true → InPlace f g m
-  place m st = record { stands = st; root = field root_of (λ x. refl) m; low = field low_of (λ x. refl) m; bits = field bits_of (λ x. refl) m; belongs = λ t k. refl; writable = λ e. field writable_of (λ x. refl) m ∙ e }
+  place m st = record { stands = st; root = field root_of (λ x. refl) m; low = field low_of (λ x. refl) m; bits = field bits_of (λ x. refl) m; belongs = λ t k. belongs_same_at m t k; writable = λ e. field writable_of (λ x. refl) m ∙ e }
+
+  -- what is held is a root, which stays
+  held_same : AllRooted xs → IsSound f → (m : ℕ) → held_of (slice_get ys m) ≡ held_of (slice_get xs m)
+  held_same rooted sound m = held_keeps (slice_get xs m) (slice_get ys m) (field flag_of (λ x. refl) m) (stood from xs m) (λ e. let it = sound.held m e in stays m rooted it.0 (inr it.1))
 
   -- a node that stays isn't below one that goes
   kept_parent : AllRooted xs → IsSound f → (m : ℕ) → stands_of (slice_get xs m) ≡ true → stands_of (slice_get ys m) ≡ true → (f.root m ≡ m → ⊥) → HasParent g m
@@ -175,8 +207,10 @@ module _ (xs : List Node) (from spare epoch room failed bad : ℕ) (met : Option
             | inr ge ↦ let clash : untold ≡ loaded c = sym (link_from m k ge) ∙ e in absurd (cc)
           ])
           (field leaf_bits_of (λ x. refl) (root_of (slice_get xs m)))
-          (λ r. refl) (λ n t j. refl) node;
-      held = λ m held. absurd (cc);
+          (λ r. field (λ o. allows_of o r) (λ x. refl) (root_of (slice_get xs m))) (λ n t j was now. belongs_same_at n t j) node;
+      held = λ m held.
+          let it = sound.held m (sym (held_same rooted sound m) ∙ held) in
+          (stays m rooted it.0 (inr it.1), field root_of (λ x. refl) m ∙ it.1);
       top = λ m st.
           let old = stood from xs m st in
           let t = sound.top m old in
@@ -184,18 +218,19 @@ module _ (xs : List Node) (from spare epoch room failed bad : ℕ) (met : Option
           let now = stays (f.root m) rooted t.0 (inr t.1) in
           (ap g.stands root ∙ now, ap g.root root ∙ field root_of (λ x. refl) (f.root m) ∙ t.1 ∙ sym root);
       parent = λ m st off. kept_parent rooted sound m (stood from xs m st) st (λ e. off (field root_of (λ x. refl) m ∙ e));
-      owner = λ m t k st b. absurd (cc);
+      owner = λ m t k st b. let clash : true ≡ false = sym b ∙ belongs_same_at m t k ∙ unnamed sound m t k (stood from xs m st) in absurd (cc);
+      chain = λ m t k u j now b b'. belongs_same_at m u j ∙ sound.chain m t k u j (stood from xs m now) (sym (belongs_same_at m t k) ∙ b) (sym (belongs_same_at t u j) ∙ b');
       epoch = sound.epoch;
     };
-    fixed = record { leaf_bits = λ m st now. field leaf_bits_of (λ x. refl) m; allows = λ m r st now. refl; held = λ m. refl; name = λ r. refl; epoch = refl; failed = omega arith; bad = omega arith };
+    fixed = record { leaf_bits = λ m st now. field leaf_bits_of (λ x. refl) m; allows = λ m r st now. field (λ o. allows_of o r) (λ x. refl) m; held = held_same rooted sound; name = λ r. refl; epoch = refl; failed = omega arith; bad = omega arith };
     stays = λ m st why. place m (stays m rooted st why);
-    goes = goes;
+    goes = λ m k c bare le link. goes m k c le link;
     none_new = stood from xs;
     set = field set_of (λ x. refl);
     writable = field writable_of (λ x. refl);
     copies = field copies_of (λ x. refl);
     link_before = link_before;
-    link_from = link_from;
+    link_from = λ m k bare le. link_from m k le;
     spare = refl;
     room = refl;
     failed = refl;

@@ -1,12 +1,18 @@
 -- What a value is seen as.
-use Rattle.std.specs.Prelude.{ℕ, List, map}
+use Rattle.std.specs.Prelude.{ℕ, List, Option, map, slice_get}
 use Rattle.h2_set.specs.Forest.{Forest}
 use Rattle.h2_memory_sets.specs.declared.memory.MemorySets.{MemorySets}
+use Rattle.h2_inode.specs.declared.inode.Inode.{Inode}
+use Rattle.h2_memory_sets.specs.Owners.{beside_of}
 use Rattle.h2_memory_sets.specs.View.{Block, block, forest_with}
 
 -- the forest that the value is seen as
 abbrev pub forest_of : MemorySets → Forest
 forest_of p = forest_with p.nodes.items p.spare p.epoch p.room p.failed p.bad p.met
+
+-- what each root keeps beside its set
+abbrev pub beside_seen : MemorySets → ℕ → Option Inode
+beside_seen p = λ m. beside_of (slice_get p.nodes.items m)
 
 -- the blocks of all nodes, loaded or not
 abbrev pub blocks_of : MemorySets → List Block

@@ -1,8 +1,9 @@
 -- The forest that a vector of nodes is.
-use Rattle.std.specs.Prelude.{◌≡◌, ℕ, ◌≤◌, ◌<◌, ◌⊎◌, not, Bool, true, false, ◌&&◌, ◌==◌, if◌then◌else◌, List, [], ◌∷◌, ◌++◌, length, Option, Some, None, slice_get, slice_set, map, count_by, nat_lt, nat_le, ◌||◌, ◌^◌, ◌+◌}
+use Rattle.std.specs.Prelude.{◌≡◌, ℕ, ◌≤◌, ◌<◌, ◌⊎◌, not, Bool, true, false, ◌&&◌, ◌==◌, if◌then◌else◌, List, [], ◌∷◌, ◌++◌, length, Option, Some, None, slice_get, slice_set, map, count_by, nat_lt, nat_le, suc, ◌||◌, ◌^◌, ◌+◌}
 use Rattle.std.specs.List.{position}
 use Rattle.h2_ref.specs.declared.faults.Why.{Why}
-use Rattle.h2_ref.specs.declared.reference.Kind.TheVariants.{Empty}
+use Rattle.h2_ref.specs.declared.reference.Kind.TheVariants.{Empty, Indirect}
+use Rattle.h2_ref.specs.declared.reference.Check.TheVariants.{Nothing}
 use Rattle.h2_ref.specs.declared.reference.Ref.{Ref}
 use Rattle.h2_set.specs.Ranges.{limit, holds, is_indirect, IsAligned}
 use Rattle.h2_set.specs.RefSet.{RefSet, IsRefSet}
@@ -12,6 +13,10 @@ use Rattle.h2_memory_sets.specs.declared.node.Node.{Node}
 use Rattle.h2_memory_sets.specs.declared.node.Place.{Place}
 use Rattle.h2_memory_sets.specs.declared.node.KeyClass.{KeyClass}
 use Rattle.h2_memory_sets.specs.declared.node.KeyClass.TheVariants.{Low, High}
+use Rattle.h2_memory_sets.specs.declared.node.Leaves.{Leaves}
+use Rattle.h2_memory_sets.specs.declared.node.Leaves.TheVariants.{Any}
+use Rattle.h2_memory_sets.specs.declared.node.Owner.{Owner}
+use Rattle.h2_memory_sets.specs.Owners.{owner_of, on_chain, belongs_to, refit, allows_of, held_of}
 
 -- the fields of a node, or what stands for them where there is none
 abbrev pub stands_of : Option Node → Bool
@@ -86,9 +91,9 @@ forest_with xs spare epoch room failed bad met = record {
   low = λ m. low_of (slice_get xs m);
   bits = λ m. bits_of (slice_get xs m);
   leaf_bits = λ m. leaf_bits_of (slice_get xs m);
-  allows = λ m r. true;
-  belongs = λ m top k. false;
-  held = λ m. false;
+  allows = λ m r. allows_of (slice_get xs m) r;
+  belongs = λ m top k. belongs_to xs (root_of (slice_get xs m)) top k;
+  held = λ m. held_of (slice_get xs m);
   copies = λ m. copies_of (slice_get xs m);
   writable = λ m. writable_of (slice_get xs m);
   name = λ r. None;
@@ -107,26 +112,26 @@ moved_up at c r low (Some u) = if u == c then None else (if u == at then (if hol
 
 -- a node, once node c has what lay in the range of r below node at
 abbrev pub moved : ℕ → ℕ → Ref → Node → Node
-moved at c r x = record { set = x.set; loaded = x.loaded; up = moved_up at c r x.low x.up; root = x.root; low = x.low; bits = x.bits; dirty = x.dirty; copies = x.copies; leaf_bits = x.leaf_bits }
+moved at c r x = record { set = x.set; loaded = x.loaded; up = moved_up at c r x.low x.up; root = x.root; low = x.low; bits = x.bits; dirty = x.dirty; copies = x.copies; leaf_bits = x.leaf_bits; inode = x.inode; owner = x.owner; held = x.held; leaves = x.leaves }
 
 abbrev pub moved_all : ℕ → ℕ → Ref → List Node → List Node
 moved_all at c r xs = map (moved at c r) xs
 
 -- a node with another set
 abbrev pub with_set : Node → RefSet → Node
-with_set x s = record { set = s; loaded = x.loaded; up = x.up; root = x.root; low = x.low; bits = x.bits; dirty = x.dirty; copies = x.copies; leaf_bits = x.leaf_bits }
+with_set x s = record { set = s; loaded = x.loaded; up = x.up; root = x.root; low = x.low; bits = x.bits; dirty = x.dirty; copies = x.copies; leaf_bits = x.leaf_bits; inode = refit x.inode s; owner = x.owner; held = x.held; leaves = x.leaves }
 
 -- a new node right below node at, to which r leads
 abbrev pub new_node : ℕ → Node → RefSet → Ref → Node
-new_node at x part r = record { set = part; loaded = true; up = Some at; root = x.root; low = r.key; bits = r.keybits; dirty = true; copies = x.copies; leaf_bits = 0 }
+new_node at x part r = record { set = part; loaded = true; up = Some at; root = x.root; low = r.key; bits = r.keybits; dirty = true; copies = x.copies; leaf_bits = 0; inode = None; owner = None; held = false; leaves = Any }
 
 -- nodes of which x, at place at, has the set kept, and a new one the set part with what lay in the range of r
 abbrev pub parted : List Node → ℕ → Node → RefSet → RefSet → Ref → List Node
 parted xs at x kept part r = moved_all at (length xs) r (slice_set xs at (with_set x kept)) ++ new_node at x part r ∷ []
 
--- a reference that may stand in the node that top names, in a tree with leaves of these keybits; on no disk does a set
--- have an empty one
-pub record FitsBelow (top : Ref) (leaf_bits : ℕ) (r : Ref) : Type 0 where
+-- a reference that may stand in the node that top names, in the tree of this root; on no disk does a set have an
+-- empty one
+pub record FitsBelow (top : Ref) (root : Option Node) (r : Ref) : Type 0 where
   pub named : r.kind ≡ Empty → ⊥
   pub held : is_indirect r ≡ true → IsHeld r
   pub low : top.key ≤ r.key
@@ -134,16 +139,21 @@ pub record FitsBelow (top : Ref) (leaf_bits : ℕ) (r : Ref) : Type 0 where
   pub aligned : IsAligned r
   pub class : (r.key < 2 ^ 62) ⊎ (2 ^ 63 ≤ r.key)
   pub fewer : r.keybits < top.keybits
-  pub leaf : is_indirect r ≡ false → r.keybits ≡ leaf_bits
-  pub wide : is_indirect r ≡ true → leaf_bits ≤ r.keybits
+  pub leaf : is_indirect r ≡ false → r.keybits ≡ leaf_bits_of root
+  pub allowed : is_indirect r ≡ false → allows_of root r ≡ true
+  pub wide : is_indirect r ≡ true → leaf_bits_of root ≤ r.keybits
   pub some_bits : is_indirect r ≡ true → 0 < r.keybits
 
--- a set that may be that of the node that top names
-pub record AllFitBelow (top : Ref) (leaf_bits : ℕ) (s : RefSet) : Type 0 where
+-- a reference with the range of a node
+abbrev pub range_of : Node → Ref
+range_of x = record { kind = Indirect; key = x.low; keybits = x.bits; place = 0; radix = 0; id = 0; check = Nothing; dirent = None }
+
+-- a set that may be that of the node that top names, in the tree of this root
+pub record AllFitBelow (top : Ref) (root : Option Node) (s : RefSet) : Type 0 where
   pub set : IsRefSet s
   pub capacity : s.capacity ≡ 32
   pub some : 0 < length s.refs
-  pub each : (i : ℕ) (r : Ref) → slice_get s.refs i ≡ Some r → FitsBelow top leaf_bits r
+  pub each : (i : ℕ) (r : Ref) → slice_get s.refs i ≡ Some r → FitsBelow top root r
 
 -- node c isn't loaded, a reference r in the set of node at leads to it, it may be a node of its tree, and nothing
 -- below it is loaded
@@ -151,12 +161,12 @@ pub record IsLoadable (xs : List Node) (at : ℕ) (r : Ref) (c : ℕ) : Type 0 w
   pub node : Node
   pub read : slice_get xs c ≡ Some node
   pub away : is_away at r.key node ≡ true
-  pub fits : AllFitBelow r (leaf_bits_of (slice_get xs (root_of (slice_get xs at)))) node.set
+  pub fits : AllFitBelow r (slice_get xs (root_of (slice_get xs at))) node.set
   pub bare : position (is_below c) xs ≡ None
 
 -- a node that was loaded, below one with this root and so many copies, and by a reference with these keybits
 abbrev pub brought : ℕ → ℕ → ℕ → Node → Node
-brought root copies bits x = record { set = x.set; loaded = true; up = x.up; root = root; low = x.low; bits = bits; dirty = false; copies = copies + 1; leaf_bits = x.leaf_bits }
+brought root copies bits x = record { set = x.set; loaded = true; up = x.up; root = root; low = x.low; bits = bits; dirty = false; copies = copies + 1; leaf_bits = x.leaf_bits; inode = x.inode; owner = x.owner; held = false; leaves = x.leaves }
 
 -- the first key of a tree's range, which is one half of all keys
 abbrev pub first_key : KeyClass → ℕ
@@ -164,8 +174,8 @@ first_key Low = 0
 first_key High = 2 ^ 63
 
 -- the root of a tree, at this place of the vector
-abbrev pub top_node : ℕ → KeyClass → ℕ → Node
-top_node n keys leaf_bits = record { set = record { refs = []; capacity = 4 }; loaded = true; up = None; root = n; low = first_key keys; bits = 63; dirty = true; copies = 0; leaf_bits = leaf_bits }
+abbrev pub top_node : ℕ → KeyClass → ℕ → Leaves → Node
+top_node n keys leaf_bits leaves = record { set = record { refs = []; capacity = 4 }; loaded = true; up = None; root = n; low = first_key keys; bits = 63; dirty = true; copies = 0; leaf_bits = leaf_bits; inode = None; owner = None; held = false; leaves = leaves }
 
 -- whether nothing is above
 abbrev pub is_bare : Option ℕ → Bool
@@ -186,7 +196,7 @@ abbrev pub stays_loaded : ℕ → Node → Bool
 stays_loaded from x = x.loaded && (is_bare x.up || nat_lt x.low from)
 
 abbrev pub unloaded : ℕ → Node → Node
-unloaded from x = record { set = x.set; loaded = stays_loaded from x; up = x.up; root = x.root; low = x.low; bits = x.bits; dirty = x.dirty; copies = x.copies; leaf_bits = x.leaf_bits }
+unloaded from x = record { set = x.set; loaded = stays_loaded from x; up = x.up; root = x.root; low = x.low; bits = x.bits; dirty = x.dirty; copies = x.copies; leaf_bits = x.leaf_bits; inode = x.inode; owner = x.owner; held = x.held; leaves = x.leaves }
 
 abbrev pub unloaded_all : ℕ → List Node → List Node
 unloaded_all from xs = map (unloaded from) xs
@@ -200,14 +210,27 @@ place_of x = record { root = x.root; low = x.low; bits = x.bits }
 
 -- a node that is writable or not
 abbrev pub with_dirty : Bool → Node → Node
-with_dirty dirty x = record { set = x.set; loaded = x.loaded; up = x.up; root = x.root; low = x.low; bits = x.bits; dirty = dirty; copies = x.copies; leaf_bits = x.leaf_bits }
+with_dirty dirty x = record { set = x.set; loaded = x.loaded; up = x.up; root = x.root; low = x.low; bits = x.bits; dirty = dirty; copies = x.copies; leaf_bits = x.leaf_bits; inode = x.inode; owner = x.owner; held = x.held; leaves = x.leaves }
 
 abbrev pub with_copies : ℕ → Node → Node
-with_copies n x = record { set = x.set; loaded = x.loaded; up = x.up; root = x.root; low = x.low; bits = x.bits; dirty = x.dirty; copies = n; leaf_bits = x.leaf_bits }
+with_copies n x = record { set = x.set; loaded = x.loaded; up = x.up; root = x.root; low = x.low; bits = x.bits; dirty = x.dirty; copies = n; leaf_bits = x.leaf_bits; inode = x.inode; owner = x.owner; held = x.held; leaves = x.leaves }
 
--- nodes of which the one at a place is writable, and all above it
+-- whether one of the references passes
+abbrev pub any_of : (Ref → Bool) → List Ref → Bool
+any_of p [] = false
+any_of p (r ∷ rs) = if p r then true else any_of p rs
+
+-- whether a reference of node x leads to the leaf
+abbrev pub leads : Node → Owner → Bool
+leads x o = let s = x.set in x.root == o.root && any_of (holds o.key) s.refs
+
+-- whether a reference of node x leads to what the root belongs to
+abbrev pub is_over : List Node → ℕ → Node → Bool
+is_over xs root x = on_chain (leads x) xs (suc root) root
+
+-- nodes of which the one at a place is writable, and all above it, in its tree and in those that this belongs to
 abbrev pub marked_all : Place → List Node → List Node
-marked_all at xs = map (λ x. with_dirty (x.dirty || is_above at x) x) xs
+marked_all at xs = map (λ x. with_dirty (x.dirty || (is_above at x || is_over xs at.root x)) x) xs
 
 -- nodes of which none is writable
 abbrev pub cleaned_all : List Node → List Node
@@ -225,11 +248,6 @@ count_copied at xs = count_by (is_copied at) xs
 abbrev pub recounted_all : List Node → List Node
 recounted_all xs = map (λ x. with_copies (count_copied (place_of x) xs) x) xs
 
--- whether one of the references passes
-abbrev pub any_of : (Ref → Bool) → List Ref → Bool
-any_of p [] = false
-any_of p (r ∷ rs) = if p r then true else any_of p rs
-
 -- whether two references have one key, and both lead further down or neither
 abbrev pub names_same : Ref → Ref → Bool
 names_same q r = r.key == q.key && (if is_indirect q then is_indirect r else not (is_indirect r))
@@ -246,21 +264,30 @@ loses old new key = any_of (λ q. holds key q && lacks new q) old
 abbrev pub goes : ℕ → ℕ → List Ref → List Ref → Node → Bool
 goes root bits old new x = x.root == root && (nat_lt x.bits bits && loses old new x.low)
 
+-- whether an owner is a leaf of the tree with this root to which a reference leads that is missing
+abbrev pub is_lost : ℕ → List Ref → List Ref → Owner → Bool
+is_lost root old new o = o.root == root && loses old new o.key
+
+-- whether a tree belongs to such a leaf
+abbrev pub goes_with : List Node → ℕ → List Ref → List Ref → ℕ → Bool
+goes_with xs root old new m = on_chain (is_lost root old new) xs (suc m) m
+
 -- a node that stands no longer, nor can be loaded again
 abbrev pub lost : Node → Node
-lost x = record { set = x.set; loaded = false; up = None; root = x.root; low = x.low; bits = x.bits; dirty = x.dirty; copies = x.copies; leaf_bits = x.leaf_bits }
+lost x = record { set = x.set; loaded = false; up = None; root = x.root; low = x.low; bits = x.bits; dirty = x.dirty; copies = x.copies; leaf_bits = x.leaf_bits; inode = None; owner = x.owner; held = x.held; leaves = x.leaves }
 
-abbrev pub dropped : ℕ → ℕ → List Ref → List Ref → Node → Node
-dropped root bits old new x = if goes root bits old new x then lost x else x
+abbrev pub dropped : List Node → ℕ → ℕ → List Ref → List Ref → Node → Node
+dropped xs root bits old new x = if goes root bits old new x || goes_with xs root old new x.root then lost x else x
 
--- nodes of which those below references that are missing are lost
+-- nodes of which those are lost that are below references that are missing, or belong to what these lead to
 abbrev pub dropped_all : ℕ → ℕ → List Ref → List Ref → List Node → List Node
-dropped_all root bits old new xs = map (dropped root bits old new) xs
+dropped_all root bits old new xs = map (dropped xs root bits old new) xs
 
--- what the block of a node holds, loaded or not, and its first key
+-- what the block of a node holds, loaded or not, its first key, and the node above it
 pub record Block : Type 0 where
   pub set : RefSet
   pub low : ℕ
+  pub up : Option ℕ
 
 abbrev pub block : Node → Block
-block x = record { set = x.set; low = x.low }
+block x = record { set = x.set; low = x.low; up = x.up }

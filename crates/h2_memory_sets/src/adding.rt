@@ -9,7 +9,8 @@ ghost use Rattle.h2_set.specs.SetBytes.{IsHeld};
 ghost use Rattle.h2_memory_sets.specs.View.{parted};
 
 use crate::moving::move_below;
-use crate::node::Node;
+use crate::node::{Leaves, Node};
+use crate::refitting::give_set;
 use h2_ref::{Check, Kind, Ref};
 use h2_set::{PutAnswer, Set};
 
@@ -90,7 +91,7 @@ pub(crate) fn add_node(nodes: &mut Vec<Node>, at: u32, kept: Set, part: Set, r: 
     let c = nodes.len() as u32;
     let x = &nodes[at as usize];
     let (root, copies) = (x.root, x.copies);
-    nodes[at as usize].set = kept;
+    give_set(&mut nodes[at as usize], kept);
     move_below(nodes, at, c, r);
     let node = Node {
         set: part,
@@ -102,6 +103,10 @@ pub(crate) fn add_node(nodes: &mut Vec<Node>, at: u32, kept: Set, part: Set, r: 
         dirty: true,
         copies,
         leaf_bits: 0,
+        inode: None,
+        owner: None,
+        held: false,
+        leaves: Leaves::Any,
     };
     match nodes.push(node) {
         Ok(()) => {}

@@ -1,8 +1,10 @@
 //! Nodes that become writable, and how many above each aren't.
-ghost use Rattle.std.specs.Prelude.{◌≡◌, ◌&&◌, ◌||◌, ◌+◌, ◌^◌, nat_le, nat_lt, false};
-ghost use Rattle.h2_memory_sets.specs.View.{is_above, place_of, with_dirty, with_copies, marked_all, cleaned_all, is_copied, count_copied, recounted_all};
+ghost use Rattle.std.specs.Prelude.{◌≡◌, ◌&&◌, ◌||◌, ◌+◌, ◌^◌, ◌<◌, nat_le, nat_lt, false, length, slice_get, Some};
+ghost use Rattle.h2_memory_sets.specs.declared.node.Node.{Node};
+ghost use Rattle.h2_memory_sets.specs.View.{is_above, is_over, place_of, range_of, with_dirty, with_copies, marked_all, cleaned_all, is_copied, count_copied, recounted_all};
 
 use crate::node::{Node, Place};
+use crate::owners::leads_over;
 use h2_ref::{Check, Kind, Ref};
 use h2_set::holds;
 
@@ -17,10 +19,9 @@ pub(crate) fn place_of(x: &Node) -> Place
     }
 }
 
-// A reference with the range of a node.
-fn range_of(x: &Node) -> Ref
-    ensures key { result.key ≡ x.now.low }
-    ensures keybits { result.keybits ≡ x.now.bits }
+/// A reference with the range of a node.
+pub(crate) fn range_of(x: &Node) -> Ref
+    ensures { result ≡ range_of x.now }
 {
     Ref {
         kind: Kind::Indirect,
@@ -48,19 +49,28 @@ fn is_above(x: &Node, at: Place) -> bool
     x.root == at.root && (at.bits <= x.bits && reaches(x, at.low))
 }
 
-// Makes a node writable, where it is the one at a place or above it.
-fn mark_one(x: &mut Node, at: Place)
-    ensures { x.new ≡ with_dirty (x.old.dirty || is_above at x.old) x.old }
+// Whether a node is writable, once the one at a place is with all above it.
+fn is_marked(nodes: &[Node], i: usize, at: Place) -> bool
+    requires { i < length nodes.now }
+    ensures { (x : Node) → slice_get nodes.now i ≡ Some x → result ≡ (x.dirty || (is_above at x || is_over nodes.now at.root x)) }
 {
-    x.dirty = x.dirty || is_above(x, at);
+    let x = &nodes[i];
+    x.dirty || (is_above(x, at) || leads_over(nodes, at.root as u64 + 1, at.root, x))
 }
 
-/// Makes the node at a place writable, and all above it.
+fn set_dirty(x: &mut Node, dirty: bool)
+    ensures { x.new ≡ with_dirty dirty x.old }
+{
+    x.dirty = dirty;
+}
+
+/// Makes the node at a place writable, and all above it, in its tree and in those that this belongs to.
 pub(crate) fn mark_all(nodes: &mut [Node], at: Place)
     ensures { nodes.new ≡ marked_all at nodes.old }
 {
     for i in 0..nodes.len() {
-        mark_one(&mut nodes[i], at);
+        let dirty = is_marked(nodes, i, at);
+        set_dirty(&mut nodes[i], dirty);
     }
 }
 

@@ -1,9 +1,11 @@
 //! Nodes below references that are lost.
-ghost use Rattle.std.specs.Prelude.{◌≡◌, ◌&&◌};
+ghost use Rattle.std.specs.Prelude.{◌≡◌, ◌&&◌, ◌||◌, ◌<◌, length, slice_get, Some, if◌then◌else◌};
+ghost use Rattle.h2_memory_sets.specs.declared.node.Node.{Node};
 ghost use Rattle.h2_set.specs.Ranges.{holds};
-ghost use Rattle.h2_memory_sets.specs.View.{names_same, lacks, loses, goes, dropped, dropped_all};
+ghost use Rattle.h2_memory_sets.specs.View.{names_same, lacks, loses, goes, goes_with, lost, dropped_all};
 
 use crate::node::Node;
+use crate::owners::is_over_lost;
 use h2_ref::Ref;
 use h2_set::{Set, holds, is_indirect};
 
@@ -38,8 +40,8 @@ fn is_missing(q: &Ref, set: &Set, key: u64) -> bool
     holds(q, key) && lacks(set, q)
 }
 
-// Whether a reference of a set whose range holds the key is missing in another.
-fn loses(old: &Set, new: &Set, key: u64) -> bool
+/// Whether a reference of a set whose range holds the key is missing in another.
+pub(crate) fn loses(old: &Set, new: &Set, key: u64) -> bool
     ensures { result ≡ loses old.now.refs new.now.refs key }
 {
     for i in 0..old.len() {
@@ -57,22 +59,33 @@ fn goes(x: &Node, root: u32, bits: u8, old: &Set, new: &Set) -> bool
     x.root == root && (x.bits < bits && loses(old, new, x.low))
 }
 
-// Lets a node stand no longer, nor be loaded again, where it is below a reference that is missing.
-fn drop_one(x: &mut Node, root: u32, bits: u8, old: &Set, new: &Set)
-    ensures { x.new ≡ dropped root bits old.now.refs new.now.refs x.old }
+// Whether a node is below a reference that is missing, or belongs to what such a one leads to.
+fn is_dropped(nodes: &[Node], i: usize, root: u32, bits: u8, old: &Set, new: &Set) -> bool
+    requires { i < length nodes.now }
+    ensures { (x : Node) → slice_get nodes.now i ≡ Some x → result ≡ (goes root bits old.now.refs new.now.refs x || goes_with nodes.now root old.now.refs new.now.refs x.root) }
 {
-    if goes(x, root, bits, old, new) {
+    let x = &nodes[i];
+    goes(x, root, bits, old, new) || is_over_lost(nodes, x.root as u64 + 1, x.root, root, old, new)
+}
+
+// Lets a node stand no longer, nor be loaded again, where it is dropped.
+fn lose_one(x: &mut Node, is_dropped: bool)
+    ensures { x.new ≡ if is_dropped then lost x.old else x.old }
+{
+    if is_dropped {
         x.loaded = false;
         x.up = None;
+        x.inode = None;
     }
 }
 
-/// Drops what is below references that are in `old` and not in `new`, where `old` is the set of a node of the tree
-/// with this root, whose range has 2^bits keys.
+/// Drops what is below references that are in `old` and not in `new`, or belongs to what these lead to, where `old` is
+/// the set of a node of the tree with this root, whose range has 2^bits keys.
 pub(crate) fn drop_all(nodes: &mut [Node], root: u32, bits: u8, old: &Set, new: &Set)
     ensures { nodes.new ≡ dropped_all root bits old.now.refs new.now.refs nodes.old }
 {
     for i in 0..nodes.len() {
-        drop_one(&mut nodes[i], root, bits, old, new);
+        let is_gone = is_dropped(nodes, i, root, bits, old, new);
+        lose_one(&mut nodes[i], is_gone);
     }
 }

@@ -3,7 +3,9 @@ ghost use Rattle.h2_ref.specs.declared.reference.Kind.TheVariants.{Empty};
 ghost use Rattle.h2_set.specs.Ranges.{limit, is_indirect, IsAligned};
 ghost use Rattle.h2_set.specs.SetBytes.{IsHeld};
 ghost use Rattle.h2_memory_sets.specs.View.{leaf_bits_of, brought, FitsBelow, AllFitBelow, IsLoadable};
+ghost use Rattle.h2_memory_sets.specs.Owners.{allows_of};
 
+use crate::allowing::allows;
 use crate::node::Node;
 use crate::searching::{find_away, find_below};
 use h2_ref::{Kind, Ref};
@@ -92,9 +94,19 @@ fn is_held(r: &Ref) -> bool
     r.valid()
 }
 
-// Whether a reference may stand in a node with the range of `top`, in a tree with leaves of these keybits.
-fn fits_below(r: &Ref, top: &Ref, leaf_bits: u8) -> bool
-    ensures { IsTrue result → FitsBelow top.now leaf_bits r.now }
+// Whether the tree of a root may have a reference: any that is indirect, and those leaves that it allows.
+fn is_allowed(r: &Ref, root: &Node) -> bool
+    ensures { IsTrue result → is_indirect r.now ≡ false → allows_of (Some root.now) r.now ≡ true }
+{
+    if is_indirect(r) {
+        return true;
+    }
+    allows(root, r)
+}
+
+/// Whether a reference may stand in a node with the range of `top`, in the tree of this root.
+pub(crate) fn fits_below(r: &Ref, top: &Ref, root: &Node) -> bool
+    ensures { IsTrue result → FitsBelow top.now (Some root.now) r.now }
 {
     if !is_held(r) {
         return false;
@@ -108,7 +120,10 @@ fn fits_below(r: &Ref, top: &Ref, leaf_bits: u8) -> bool
     if !is_classed(r.key) {
         return false;
     }
-    is_sized(r, leaf_bits)
+    if !is_allowed(r, root) {
+        return false;
+    }
+    is_sized(r, root.leaf_bits)
 }
 
 // Whether a set has a reference.
@@ -125,9 +140,9 @@ fn has_room(set: &Set) -> bool
     set.capacity() == BLOCK_CAPACITY
 }
 
-// Whether a set may be that of the node that `top` names.
-fn all_fit(set: &Set, top: &Ref, leaf_bits: u8) -> bool
-    ensures { IsTrue result → AllFitBelow top.now leaf_bits set.now }
+// Whether a set may be that of the node that `top` names, in the tree of this root.
+fn all_fit(set: &Set, top: &Ref, root: &Node) -> bool
+    ensures { IsTrue result → AllFitBelow top.now (Some root.now) set.now }
 {
     if !has_room(set) {
         return false;
@@ -136,21 +151,18 @@ fn all_fit(set: &Set, top: &Ref, leaf_bits: u8) -> bool
         return false;
     }
     for i in 0..set.len() {
-        if !fits_below(set.at(i), top, leaf_bits) {
+        if !fits_below(set.at(i), top, root) {
             return false;
         }
     }
     true
 }
 
-// Of a root, the keybits of its tree's leaves.
-fn leaf_bits_of(nodes: &[Node], root: u32) -> u8
-    ensures { result ≡ leaf_bits_of (slice_get nodes.now root) }
+// The root of a tree.
+fn root_node(nodes: &[Node], root: u32) -> Option<&Node>
+    ensures { IfSome result (λ x. slice_get nodes.now root ≡ Some x.now) }
 {
-    match nodes.get(root as usize) {
-        Some(x) => x.leaf_bits,
-        None => 0,
-    }
+    nodes.get(root as usize)
 }
 
 // The node to which a reference in the set of node `at` leads, where it isn't loaded. None where it isn't one
@@ -161,8 +173,8 @@ fn find_loadable(nodes: &[Node], at: u32, r: &Ref) -> Option<usize>
     ensures { IfSome result (IsLoadable nodes.now at r.now) }
 {
     let c = find_away(nodes, at, r.key)?;
-    let leaf_bits = leaf_bits_of(nodes, nodes[at as usize].root);
-    if !all_fit(&nodes[c].set, r, leaf_bits) {
+    let root = root_node(nodes, nodes[at as usize].root)?;
+    if !all_fit(&nodes[c].set, r, root) {
         return None;
     }
     match find_below(nodes, c as u32) {
@@ -206,4 +218,5 @@ pub(crate) fn bring_in(x: &mut Node, root: u32, copies: u64, bits: u8)
     x.bits = bits;
     x.dirty = false;
     x.copies = copies + 1;
+    x.held = false;
 }

@@ -1,20 +1,29 @@
-//! Forests of sets in memory: every node in one vector.
+//! Forests of sets and inodes in memory: every node in one vector.
 //!
-//! This is an implementation of [`Sets`](h2_set::Sets) without a disk, for the tests of crates over it. The load
+//! This is an implementation of [`Sets`](h2_set::Sets) and [`Nodes`](h2_inode::Nodes) without a disk, for the tests of crates over it. The load
 //! that is to fail can be named, and a node that is loaded is judged first, so that trouble is met. A loaded node isn't
 //! writable until it is altered, and none is once the next epoch begins, so that copies are met. What a value means is
 //! told by `specs/View`: what is below a node that isn't loaded is told by nobody.
 #![tactic(auto)]
 
 mod adding;
+mod allowing;
 mod altering;
 mod dropping;
+mod holding;
+mod inodes;
 mod judging;
 mod memory;
 mod moving;
+mod naming;
 mod node;
+mod owners;
+mod planting;
+mod refitting;
 mod roots;
 mod searching;
+mod seeking;
+mod spelling;
 mod unloading;
 
 pub use memory::MemorySets;

@@ -2,17 +2,22 @@ ghost use Rattle.std.specs.Prelude.{◌≡◌, ◌<◌, ◌≤◌, ◌^◌, ◌�
 ghost use Rattle.h2_num.specs.Causes.{Rose};
 ghost use Rattle.std.specs.Vec.{vec_len, vec_capacity};
 ghost use Rattle.h2_memory_sets.specs.View.{AllRooted};
+ghost use Rattle.h2_memory_sets.specs.Kept.{AreKept};
 
 use crate::adding::{add_node, new_reference, with_left, with_one};
 use crate::altering::{clean_all, mark_all, place_of, recount_all};
 use crate::dropping::drop_all;
+use crate::holding::{hold_one, release_one};
 use crate::judging::{bring_in, find_unspoiled, is_due};
-use crate::node::{KeyClass, Node};
+use crate::naming::{LongName, find_unspoiled_name, inline_name};
+use crate::node::{KeyClass, Leaves, Node};
+use crate::refitting::give_set;
 use crate::roots::add_top;
-use crate::searching::find_child;
-use crate::unloading::unload_all;
+use crate::searching::{find_child, find_named};
+use crate::unloading::{unload_all, unload_owned};
+use h2_inode::Inode;
 use h2_num::{Bytes, NoMemory};
-use h2_ref::{Dirent, Ref, Trouble, Why};
+use h2_ref::{Ref, Trouble, Why};
 use h2_set::{NodeId, Set, Sets, Split};
 use std::alloc::Global;
 
@@ -20,6 +25,8 @@ use std::alloc::Global;
 #[derive(Drop)]
 pub struct MemorySets {
     pub(crate) nodes: Vec<Node>,
+    /// Names that have a block of their own.
+    pub(crate) names: Vec<LongName>,
     /// How many nodes can be made without taking memory.
     pub(crate) spare: u32,
     pub(crate) epoch: u64,
@@ -39,13 +46,16 @@ pub struct MemorySets {
     ghost small: { length nodes.items + spare < 2 ^ 32 },
     ghost roomy: { vec_len nodes + spare ≤ vec_capacity nodes },
     ghost rooted: { AllRooted nodes.items },
+    ghost kept: { AreKept nodes.items },
 }
 
 impl MemorySets {
-    ghost use Rattle.std.specs.Prelude.{OnErr, ℕ, false};
-    ghost use Rattle.h2_set.specs.Forest.{IsSound};
-    ghost use Rattle.h2_memory_sets.specs.Seen.{forest_of, blocks_of, failing_load, spoiled_load, refused_spare};
-    ghost use Rattle.h2_memory_sets.specs.Roots.{AddsRoot, BeginsEpoch, Unloads};
+    ghost use Rattle.std.specs.Prelude.{OnErr, OnOk, IfErr, ℕ, true, false, None};
+    ghost use Rattle.h2_ref.specs.declared.faults.Trouble.{Trouble};
+    ghost use Rattle.h2_ref.specs.declared.faults.Why.{Why};
+    ghost use Rattle.h2_set.specs.Forest.{IsSound, Unchanged, HasCause, KeepsBeside};
+    ghost use Rattle.h2_memory_sets.specs.Seen.{forest_of, beside_seen, blocks_of, failing_load, spoiled_load, refused_spare};
+    ghost use Rattle.h2_memory_sets.specs.Roots.{AddsRoot, AddsSuperRoot, HoldsRoot, BeginsEpoch, Unloads, UnloadsInodes};
 
     /// A forest with no node, in which this number of blocks can be taken. The epoch is the number of a checkpoint.
     pub fn new(alloc: Global, epoch: u64, room: u64) -> MemorySets
@@ -58,6 +68,7 @@ impl MemorySets {
     {
         MemorySets {
             nodes: Vec::new(alloc),
+            names: Vec::new(alloc),
             spare: 0,
             epoch,
             room,
@@ -87,6 +98,8 @@ impl MemorySets {
     /// Lets the disk fail this load from now on: 1 for the next. It fails none where it is 0.
     pub fn fail_load(&mut self, which: u64)
         ensures same { forest_of self.new ≡ forest_of self.old }
+        ensures beside { beside_seen self.new ≡ beside_seen self.old }
+        ensures blocks { blocks_of self.new ≡ blocks_of self.old }
         ensures due { failing_load self.new ≡ which }
     {
         self.fault = which;
@@ -95,6 +108,8 @@ impl MemorySets {
     /// Lets this load from now on meet a bad block: 1 for the next. None does where it is 0.
     pub fn spoil_load(&mut self, which: u64)
         ensures same { forest_of self.new ≡ forest_of self.old }
+        ensures beside { beside_seen self.new ≡ beside_seen self.old }
+        ensures blocks { blocks_of self.new ≡ blocks_of self.old }
         ensures due { spoiled_load self.new ≡ which }
     {
         self.spoiled = which;
@@ -104,79 +119,161 @@ impl MemorySets {
     /// where it is 0.
     pub fn refuse_spare(&mut self, which: u64)
         ensures same { forest_of self.new ≡ forest_of self.old }
+        ensures beside { beside_seen self.new ≡ beside_seen self.old }
+        ensures blocks { blocks_of self.new ≡ blocks_of self.old }
         ensures due { refused_spare self.new ≡ which }
     {
         self.refused = which;
     }
 
-    /// Adds the root of a tree: a node with an empty set of capacity 4. After a refusal nothing has changed.
+    /// Adds the root of a tree without inodes: a node with an empty set of capacity 4. After a refusal nothing has changed.
     pub fn add_root(&mut self, keys: KeyClass, leaf_bits: u8) -> Result<NodeId, NoMemory>
         requires sound { IsSound (forest_of self.old) }
         ensures added { IfOk result (λ c. AddsRoot (forest_of self.old) (forest_of self.new) c.0 keys leaf_bits) }
+        ensures beside { KeepsBeside (forest_of self.old) (forest_of self.new) (beside_seen self.old) (beside_seen self.new) }
         ensures err { OnErr result (forest_of self.new ≡ forest_of self.old) }
     {
         if self.nodes.len() >= (u32::MAX - self.spare) as usize {
             return Err(NoMemory);
         }
         match self.nodes.reserve(self.spare as usize + 1) {
-            Ok(()) => Ok(NodeId(add_top(&mut self.nodes, keys, leaf_bits))),
+            Ok(()) => Ok(NodeId(add_top(&mut self.nodes, keys, leaf_bits, Leaves::Any))),
             Err(_) => Err(NoMemory),
         }
+    }
+
+    /// Adds a super-root: the root of a tree whose leaves name inodes, with an empty set of capacity 4. After a refusal
+    /// nothing has changed.
+    pub fn add_super_root(&mut self) -> Result<NodeId, NoMemory>
+        requires sound { IsSound (forest_of self.old) }
+        ensures added { IfOk result (λ c. AddsSuperRoot (forest_of self.old) (forest_of self.new) c.0) }
+        ensures beside { KeepsBeside (forest_of self.old) (forest_of self.new) (beside_seen self.old) (beside_seen self.new) }
+        ensures none { IfOk result (λ c. beside_seen self.new c.0 ≡ None) }
+        ensures err { OnErr result (forest_of self.new ≡ forest_of self.old) }
+    {
+        if self.nodes.len() >= (u32::MAX - self.spare) as usize {
+            return Err(NoMemory);
+        }
+        match self.nodes.reserve(self.spare as usize + 1) {
+            Ok(()) => Ok(NodeId(add_top(&mut self.nodes, KeyClass::Low, 0, Leaves::Inodes))),
+            Err(_) => Err(NoMemory),
+        }
+    }
+
+    /// Adds the name in the block at a place. After a refusal nothing has changed.
+    pub fn add_name(&mut self, alloc: Global, place: u64, name: &[u8]) -> Result<(), NoMemory>
+        ensures same { forest_of self.new ≡ forest_of self.old }
+        ensures beside { beside_seen self.new ≡ beside_seen self.old }
+    {
+        let name = Bytes::from_slice(alloc, name)?;
+        match self.names.push(LongName { place, name }) {
+            Ok(()) => Ok(()),
+            Err(_) => Err(NoMemory),
+        }
+    }
+
+    /// Holds a root, so that nothing may take it away.
+    pub fn hold(&mut self, at: NodeId)
+        requires sound { IsSound (forest_of self.old) }
+        requires root { let f = forest_of self.old in (f.stands at.0 ≡ true) × (f.root at.0 ≡ at.0) }
+        ensures held { HoldsRoot (forest_of self.old) (forest_of self.new) at.0 true }
+        ensures beside { KeepsBeside (forest_of self.old) (forest_of self.new) (beside_seen self.old) (beside_seen self.new) }
+    {
+        hold_one(&mut self.nodes[at.0 as usize]);
+    }
+
+    /// Lets go of a root that is held.
+    pub fn release(&mut self, at: NodeId)
+        requires sound { IsSound (forest_of self.old) }
+        requires root { let f = forest_of self.old in (f.stands at.0 ≡ true) × (f.root at.0 ≡ at.0) }
+        ensures held { HoldsRoot (forest_of self.old) (forest_of self.new) at.0 false }
+        ensures beside { KeepsBeside (forest_of self.old) (forest_of self.new) (beside_seen self.old) (beside_seen self.new) }
+    {
+        release_one(&mut self.nodes[at.0 as usize]);
     }
 
     /// Begins the next epoch, in which no node is writable yet.
     pub fn begin_epoch(&mut self)
         requires sound { IsSound (forest_of self.old) }
         requires epoch { let f = forest_of self.old in f.epoch < 2 ^ 62 }
-        ensures { BeginsEpoch (forest_of self.old) (forest_of self.new) }
+        ensures begins { BeginsEpoch (forest_of self.old) (forest_of self.new) }
+        ensures beside { KeepsBeside (forest_of self.old) (forest_of self.new) (beside_seen self.old) (beside_seen self.new) }
     {
         self.epoch += 1;
         clean_all(&mut self.nodes);
         recount_all(&mut self.nodes);
     }
 
-    /// Unloads the nodes below roots whose range starts at this key or after. `child` loads them again.
+    /// Unloads the nodes below roots whose range starts at this key or after, where no inode is loaded: a loaded one
+    /// stands on the path of its leaf. `child` loads them again.
     pub fn unload(&mut self, from: u64)
         requires sound { IsSound (forest_of self.old) }
         ensures unloads { Unloads (forest_of self.old) (forest_of self.new) from }
+        ensures beside { KeepsBeside (forest_of self.old) (forest_of self.new) (beside_seen self.old) (beside_seen self.new) }
         ensures blocks { blocks_of self.new ≡ blocks_of self.old }
     {
+        let None = find_named(&self.nodes) else {
+            return;
+        };
         unload_all(&mut self.nodes, from);
+    }
+
+    /// Unloads all inodes, with what is below them, where none is held. `seek` loads them again.
+    pub fn unload_inodes(&mut self)
+        requires sound { IsSound (forest_of self.old) }
+        requires free { let f = forest_of self.old in (m : ℕ) → f.held m ≡ false }
+        ensures unloads { UnloadsInodes (forest_of self.old) (forest_of self.new) }
+        ensures beside { KeepsBeside (forest_of self.old) (forest_of self.new) (beside_seen self.old) (beside_seen self.new) }
+    {
+        unload_owned(&mut self.nodes);
+    }
+
+    // The name of this length in the block at a place.
+    fn load_name(&mut self, alloc: Global, place: u64, len: u16) -> Result<Bytes, Trouble>
+        requires sound { IsSound (forest_of self.old) }
+        ensures same { Unchanged (forest_of self.old) (forest_of self.new) }
+        ensures len { IfOk result (λ b. length b ≡ len) }
+        ensures err { IfErr result (HasCause (forest_of self.old) (forest_of self.new)) }
+        ensures place { IfErr result (λ e. (p : ℕ) (why : Why) → e ≡ Trouble.Bad p why → p ≡ place) }
+        ensures met { let f = forest_of self.old in let g = forest_of self.new in OnOk result (g.met ≡ f.met) }
+        ensures beside { beside_seen self.new ≡ beside_seen self.old }
+    {
+        if is_due(&mut self.fault) {
+            self.failed = one_more(self.failed);
+            return Err(Trouble::Failed);
+        }
+        let Some(name) = find_unspoiled_name(&self.names, place, len, &mut self.spoiled) else {
+            self.bad = one_more(self.bad);
+            self.met = Some((place, Why::Name));
+            return Err(Trouble::Bad {
+                place,
+                why: Why::Name,
+            });
+        };
+        match name.copy(alloc) {
+            Ok(name) => Ok(name),
+            Err(NoMemory) => Err(Trouble::NoMemory),
+        }
     }
 }
 
-// A count of one more, which stands still at its last value.
-fn one_more(count: u64) -> u64
+/// A count of one more, which stands still at its last value.
+pub(crate) fn one_more(count: u64) -> u64
     ensures rose { Rose count result }
     ensures more { count ≤ result }
 {
     count.saturating_add(1)
 }
 
-// The name that an entry of a directory has in itself; None where there is none.
-fn inline_name(alloc: Global, entry: Dirent) -> Result<Option<Bytes>, NoMemory>
-    ensures some { IfOk result (λ o. IfSome o (λ b. b ≡ take entry.len entry.name)) }
-    ensures len { IfOk result (λ o. IfSome o (λ b. length b ≡ entry.len)) }
-    ensures none { IfOk result (λ o. IfNone o (64 < entry.len)) }
-{
-    let all = entry.name.as_slice();
-    if entry.len as usize > all.len() {
-        return Ok(None);
-    }
-    let (name, _) = all.split_at(entry.len as usize);
-    let bytes = Bytes::from_slice(alloc, name)?;
-    Ok(Some(bytes))
-}
-
 impl Sets for MemorySets {
     ghost use Rattle.std.specs.Prelude.{ℕ};
-    ghost use Rattle.h2_memory_sets.specs.Seen.{forest_of};
+    ghost use Rattle.h2_memory_sets.specs.Seen.{forest_of, beside_seen};
 
-    type Beside = ();
+    type Beside = Option<Inode>;
 
     ghost forest = { forest_of };
 
-    ghost beside = { λ p m. tt };
+    ghost beside = { beside_seen };
 
     ghost later = { λ p q. Unit {0} };
 
@@ -249,7 +346,7 @@ impl Sets for MemorySets {
         let (root, bits) = (x.root, x.bits);
         let old = x.set.copy();
         drop_all(&mut self.nodes, root, bits, &old, &set);
-        self.nodes[at.0 as usize].set = set;
+        give_set(&mut self.nodes[at.0 as usize], set);
     }
 
     fn make(&mut self, at: NodeId, set: Set, split: Split) -> NodeId {
@@ -268,14 +365,7 @@ impl Sets for MemorySets {
         };
         match inline_name(alloc, entry) {
             Ok(Some(name)) => Ok(name),
-            Ok(None) => {
-                self.bad = one_more(self.bad);
-                self.met = Some((r.place, Why::Name));
-                Err(Trouble::Bad {
-                    place: r.place,
-                    why: Why::Name,
-                })
-            }
+            Ok(None) => self.load_name(alloc, r.place, entry.len),
             Err(NoMemory) => Err(Trouble::NoMemory),
         }
     }

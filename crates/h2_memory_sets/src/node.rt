@@ -1,3 +1,4 @@
+use h2_inode::Inode;
 use h2_set::Set;
 
 /// Which keys the leaves of a tree have.
@@ -7,6 +8,23 @@ pub enum KeyClass {
     Low,
     /// Keys of at least 2^63: those of a directory's entries.
     High,
+}
+
+/// The leaf that names the root of an inode.
+#[derive(Clone, Copy)]
+pub(crate) struct Owner {
+    /// The root of the leaf's tree.
+    pub root: u32,
+    pub key: u64,
+}
+
+/// Which leaves a tree may have whose root isn't that of an inode.
+#[derive(Clone, Copy)]
+pub(crate) enum Leaves {
+    /// Every leaf but those that name inodes.
+    Any,
+    /// Those that name inodes, and can be written.
+    Inodes,
 }
 
 /// A node of a forest.
@@ -27,6 +45,14 @@ pub(crate) struct Node {
     pub copies: u64,
     /// Of a root, the keybits of its tree's leaves.
     pub leaf_bits: u8,
+    /// Of the root of an inode, the inode; its set is the node's.
+    pub inode: Option<Inode>,
+    /// Of the root of an inode, the leaf that names it.
+    pub owner: Option<Owner>,
+    /// Whether a root is held.
+    pub held: bool,
+    /// Of a root without an inode, which leaves its tree may have.
+    pub leaves: Leaves,
 }
 
 /// A node's tree and its range.

@@ -1,5 +1,6 @@
 ghost use Rattle.std.specs.Prelude.{◌≡◌};
 ghost use Rattle.std.specs.List.{position};
+ghost use Rattle.h2_memory_sets.specs.Inodes.{is_named};
 ghost use Rattle.h2_memory_sets.specs.View.{is_below, is_child, is_away, is_up};
 
 use crate::node::Node;
@@ -47,4 +48,21 @@ pub(crate) fn find_below(nodes: &[Node], at: u32) -> Option<usize>
     ensures { result ≡ position (is_below at) nodes.now }
 {
     nodes.iter().position(|x| x.loaded && is_up(x.up, at))
+}
+
+// Whether a node is loaded, and a leaf names it.
+fn is_named(x: &Node) -> bool
+    ensures { result ≡ is_named x.now }
+{
+    match x.owner {
+        Some(_) => x.loaded,
+        None => false,
+    }
+}
+
+/// A loaded root that a leaf names.
+pub(crate) fn find_named(nodes: &[Node]) -> Option<usize>
+    ensures { result ≡ position is_named nodes.now }
+{
+    nodes.iter().position(|x| is_named(x))
 }

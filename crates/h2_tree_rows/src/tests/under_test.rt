@@ -1,4 +1,5 @@
 ghost use Rattle.std.specs.Prelude.{◌≡◌, ◌<◌, ◌≤◌, ◌+◌, ◌^◌, false, IfOk, IfSome, IsTrue};
+ghost use Rattle.h2_ref.specs.declared.reference.Kind.TheVariants.{Empty, Inode};
 ghost use Rattle.h2_set.specs.Ranges.{is_indirect};
 ghost use Rattle.h2_memory_sets.specs.Seen.{forest_of};
 ghost use Rattle.h2_tree.specs.Changes.{Takes};
@@ -47,8 +48,7 @@ impl Tree {
         })
     }
 
-    /// The leaf with a key, in one of its versions. None where it can't be one of the tree. It need not be valid: an
-    /// inode's number is at least 1, and yet the tree may have a leaf with key 0.
+    /// The leaf with a key, in one of its versions. None where it can't be one of the tree. It need not be valid.
     pub fn leaf(&self, key: u64, version: u64) -> Option<Ref>
         requires { IsTree self.now.sets self.now.root.0 self.now.keys self.now.leaf_bits }
         ensures { IfSome result (Takes (forest_of self.now.sets) self.now.root.0) }
@@ -127,23 +127,20 @@ impl Tree {
     }
 }
 
-// A leaf that names the block of an inode, or of contents where its range has more keys than one.
+// A leaf that names a block of contents.
 fn block_leaf(key: u64, keybits: u8, version: u64) -> Ref
     ensures leaf { is_indirect result ≡ false }
+    ensures other { result.kind ≡ Inode → ⊥ }
+    ensures some { result.kind ≡ Empty → ⊥ }
     ensures key { result.key ≡ key }
     ensures keybits { result.keybits ≡ keybits }
 {
-    let (kind, radix) = if keybits == 0 {
-        (Kind::Inode, 10)
-    } else {
-        (Kind::Content, 14)
-    };
     Ref {
-        kind,
+        kind: Kind::Content,
         key,
         keybits,
         place: PLACE,
-        radix,
+        radix: 14,
         id: version,
         check: Check::Xx(0),
         dirent: None,
@@ -153,6 +150,8 @@ fn block_leaf(key: u64, keybits: u8, version: u64) -> Ref
 // A leaf that is the entry of a name, which stands in it.
 fn entry_leaf(key: u64, keybits: u8, version: u64) -> Ref
     ensures leaf { is_indirect result ≡ false }
+    ensures other { result.kind ≡ Inode → ⊥ }
+    ensures some { result.kind ≡ Empty → ⊥ }
     ensures key { result.key ≡ key }
     ensures keybits { result.keybits ≡ keybits }
 {

@@ -1,11 +1,11 @@
-use Rattle.std.proofs.Common.{arith}
+use Rattle.std.proofs.Common.{arith, Some}
 use Rattle.std.proofs.lemmas.Option.{slice_get_within}
 use Rattle.h2_memory_sets.specs.View.{FitsBelow}
 use Rattle.h2_memory_sets.proofs.Fitting.{one_more}
 use Rattle.h2_memory_sets.proofs.judging.all_fit.Goals as goal
 
 pub loop-i-preserved : goal.loop-i-preserved
-loop-i-preserved c = one_more (FitsBelow c.args.top.now c.args.leaf_bits) _ _ c.loop-i.invariant _ c.at.ensures (c.fits_below.ensures c.if-not-fits_below.false)
+loop-i-preserved c = one_more (FitsBelow c.args.top.now (Some c.args.root.now)) _ _ c.loop-i.invariant _ c.at.ensures (c.fits_below.ensures c.if-not-fits_below.false)
 
 pub returns : goal.returns
 returns c = λ _. record {

@@ -13,11 +13,10 @@ returns-in-None c =
     let y = c.index-nodes-at.result in
     let found = position-Some (is_away c.args.at c.args.r.now.key) xs k x (sym c.find_away.ensures ∙ c.in_ok-c.was) in
     let node : Node = slice_index_or xs k x in
-    let leaf = c.leaf_bits_of-leaf_bits.ensures ∙ ap (λ (o : Option Node). leaf_bits_of (slice_get xs (root_of o))) (sym (slice_get-get_or xs c.args.at y c.requires.there)) in
     record {
       node = node;
       read = slice_get-get_or xs k x found.0;
       away = found.1;
-      fits = subst (λ (n : ℕ). AllFitBelow c.args.r.now n node.set) leaf (c.all_fit.ensures c.if-not-all_fit.false);
+      fits = subst (λ (o : Option Node). AllFitBelow c.args.r.now o node.set) (sym c.in_ok-root.ensures ∙ ap (λ (o : Option Node). slice_get xs (root_of o)) (sym (slice_get-get_or xs c.args.at y c.requires.there))) (c.all_fit.ensures c.if-not-all_fit.false);
       bare = sym c.find_below.ensures ∙ c.in-None.is;
     }

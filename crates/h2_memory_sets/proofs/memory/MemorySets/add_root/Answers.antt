@@ -1,22 +1,47 @@
-use Rattle.std.proofs.Common.{◌≡◌, ℕ, List, [], ◌∷◌, ◌++◌, length, sym, ap, ◌∙◌, subst}
+use Rattle.std.proofs.Common.{◌≡◌, ℕ, List, [], ◌∷◌, ◌++◌, Option, None, length, slice_get, refl, sym, ap, ◌∙◌, subst}
+use Rattle.h2_set.specs.Forest.{KeepsBeside}
+use Rattle.h2_memory_sets.specs.declared.node.KeyClass.TheVariants.{Low}
+use Rattle.h2_memory_sets.specs.declared.node.Leaves.TheVariants.{Any, Inodes}
 use Rattle.h2_memory_sets.specs.declared.node.Node.{Node}
+use Rattle.h2_memory_sets.specs.Kept.{AreKept}
+use Rattle.h2_memory_sets.specs.Owners.{beside_of}
 use Rattle.h2_memory_sets.specs.View.{AllRooted, forest_with, top_node}
-use Rattle.h2_memory_sets.specs.Roots.{AddsRoot}
-use Rattle.h2_memory_sets.proofs.Rooted.{rooted_push}
-use Rattle.h2_memory_sets.proofs.Rooting.{adds_root}
+use Rattle.h2_memory_sets.specs.Roots.{AddsRoot, AddsSuperRoot}
+use Rattle.h2_memory_sets.proofs.Topped.{topped, adds, adds_super}
 use Rattle.h2_memory_sets.proofs.memory.MemorySets.add_root.Goals as goal
 
 pub invariant_of-self-clause-rooted : goal.invariant_of-self-clause-rooted
 invariant_of-self-clause-rooted c =
     let p = c.args.self.now in
     let xs = p.nodes.items in
-    let items : c.add_top.new.nodes.items ≡ xs ++ top_node (length xs) c.args.keys c.args.leaf_bits ∷ [] = c.add_top.ensures.pushed ∙ ap (λ (l : List Node). l ++ top_node (length l) c.args.keys c.args.leaf_bits ∷ []) c.reserve.ensures.items in
-    subst AllRooted (sym items) (rooted_push xs c.args.keys c.args.leaf_bits p.rooted)
+    let items : c.add_top.new.nodes.items ≡ xs ++ top_node (length xs) c.args.keys c.args.leaf_bits Any ∷ [] = c.add_top.ensures.pushed ∙ ap (λ (l : List Node). l ++ top_node (length l) c.args.keys c.args.leaf_bits Any ∷ []) c.reserve.ensures.items in
+    let number : c.add_top.result ≡ length xs = c.add_top.ensures.number ∙ ap length c.reserve.ensures.items in
+    let it = topped xs c.args.keys c.args.leaf_bits Any p.spare p.epoch p.room p.failed p.bad p.met p.rooted p.kept in
+    subst AllRooted (sym items) it.rooted
+
+pub invariant_of-self-clause-kept : goal.invariant_of-self-clause-kept
+invariant_of-self-clause-kept c =
+    let p = c.args.self.now in
+    let xs = p.nodes.items in
+    let items : c.add_top.new.nodes.items ≡ xs ++ top_node (length xs) c.args.keys c.args.leaf_bits Any ∷ [] = c.add_top.ensures.pushed ∙ ap (λ (l : List Node). l ++ top_node (length l) c.args.keys c.args.leaf_bits Any ∷ []) c.reserve.ensures.items in
+    let number : c.add_top.result ≡ length xs = c.add_top.ensures.number ∙ ap length c.reserve.ensures.items in
+    let it = topped xs c.args.keys c.args.leaf_bits Any p.spare p.epoch p.room p.failed p.bad p.met p.rooted p.kept in
+    subst AreKept (sym items) it.kept
 
 pub returns-in-Ok-clause-added : goal.returns-in-Ok-clause-added
 returns-in-Ok-clause-added c =
     let p = c.args.self.now in
     let xs = p.nodes.items in
-    let items : c.add_top.new.nodes.items ≡ xs ++ top_node (length xs) c.args.keys c.args.leaf_bits ∷ [] = c.add_top.ensures.pushed ∙ ap (λ (l : List Node). l ++ top_node (length l) c.args.keys c.args.leaf_bits ∷ []) c.reserve.ensures.items in
+    let items : c.add_top.new.nodes.items ≡ xs ++ top_node (length xs) c.args.keys c.args.leaf_bits Any ∷ [] = c.add_top.ensures.pushed ∙ ap (λ (l : List Node). l ++ top_node (length l) c.args.keys c.args.leaf_bits Any ∷ []) c.reserve.ensures.items in
     let number : c.add_top.result ≡ length xs = c.add_top.ensures.number ∙ ap length c.reserve.ensures.items in
-    subst (λ (k : ℕ). AddsRoot (forest_with xs p.spare p.epoch p.room p.failed p.bad p.met) (forest_with c.add_top.new.nodes.items p.spare p.epoch p.room p.failed p.bad p.met) k c.args.keys c.args.leaf_bits) (sym number) (subst (λ (ys : List Node). AddsRoot (forest_with xs p.spare p.epoch p.room p.failed p.bad p.met) (forest_with ys p.spare p.epoch p.room p.failed p.bad p.met) (length xs) c.args.keys c.args.leaf_bits) (sym items) (adds_root xs c.args.keys c.args.leaf_bits p.spare p.epoch p.room p.failed p.bad p.met p.rooted c.requires.sound))
+    let it = topped xs c.args.keys c.args.leaf_bits Any p.spare p.epoch p.room p.failed p.bad p.met p.rooted p.kept in
+    subst (λ (k : ℕ). AddsRoot (forest_with xs p.spare p.epoch p.room p.failed p.bad p.met) (forest_with c.add_top.new.nodes.items p.spare p.epoch p.room p.failed p.bad p.met) k c.args.keys c.args.leaf_bits) (sym number) (subst (λ (ys : List Node). AddsRoot (forest_with xs p.spare p.epoch p.room p.failed p.bad p.met) (forest_with ys p.spare p.epoch p.room p.failed p.bad p.met) (length xs) c.args.keys c.args.leaf_bits) (sym items) (adds xs c.args.keys c.args.leaf_bits Any p.spare p.epoch p.room p.failed p.bad p.met p.rooted p.kept c.requires.sound refl))
+
+pub returns-in-Ok-clause-beside : goal.returns-in-Ok-clause-beside
+returns-in-Ok-clause-beside c =
+    let p = c.args.self.now in
+    let xs = p.nodes.items in
+    let items : c.add_top.new.nodes.items ≡ xs ++ top_node (length xs) c.args.keys c.args.leaf_bits Any ∷ [] = c.add_top.ensures.pushed ∙ ap (λ (l : List Node). l ++ top_node (length l) c.args.keys c.args.leaf_bits Any ∷ []) c.reserve.ensures.items in
+    let number : c.add_top.result ≡ length xs = c.add_top.ensures.number ∙ ap length c.reserve.ensures.items in
+    let it = topped xs c.args.keys c.args.leaf_bits Any p.spare p.epoch p.room p.failed p.bad p.met p.rooted p.kept in
+    subst (λ (ys : List Node). KeepsBeside (forest_with xs p.spare p.epoch p.room p.failed p.bad p.met) (forest_with ys p.spare p.epoch p.room p.failed p.bad p.met) (λ m. beside_of (slice_get xs m)) (λ m. beside_of (slice_get ys m))) (sym items) it.beside

@@ -3,10 +3,14 @@ use Rattle.std.proofs.lemmas.Option.{slice_get_read}
 use Rattle.h2_set.specs.Forest.{Alters}
 use Rattle.h2_memory_sets.specs.declared.node.Node.{Node}
 use Rattle.h2_memory_sets.specs.declared.node.Place.{Place}
-use Rattle.h2_memory_sets.specs.View.{AllRooted, forest_with, copies_of, is_above, place_of, marked_all, recounted_all}
+use Rattle.h2_memory_sets.specs.View.{AllRooted, forest_with, copies_of, is_above, is_over, place_of, marked_all, recounted_all}
 use Rattle.h2_memory_sets.proofs.Altered.{alters, written}
 use Rattle.h2_memory_sets.proofs.Nodes.{is_there}
-use Rattle.h2_memory_sets.proofs.Recounting.{rooted_still}
+use Rattle.h2_memory_sets.proofs.Recounting.{rooted_still, kept_still, field}
+use Rattle.h2_memory_sets.proofs.Owned.{are_lower}
+use Rattle.h2_memory_sets.specs.Kept.{AreKept}
+use Rattle.h2_memory_sets.specs.Owners.{beside_of}
+use Rattle.h2_set.specs.Forest.{KeepsBeside}
 use Rattle.h2_memory_sets.proofs.memory.MemorySetsSets.alter.Goals as goal
 
 pub returns-clause-alters : goal.returns-clause-alters
@@ -19,7 +23,7 @@ returns-clause-alters c =
     let items = written recounted_all _ c.deref_mut-2.result.now c.recount_all.new.nodes p.nodes.len (sym (c.recount_all.auto.nodes ∙ c.deref_mut-2.ensures.len)) c.deref_mut-2.ensures.value c.recount_all.ensures ∙ ap recounted_all (one ∙ ap (λ (at : Place). marked_all at xs) c.place_of-place.ensures) in
     let copies : copies_of (slice_get xs c.args.at.0) ≡ x.copies = ap copies_of read in
     let enough = c.requires.room in
-    subst (λ (ys : List Node). Alters (forest_with xs p.spare p.epoch p.room p.failed p.bad p.met) (forest_with ys p.spare p.epoch (p.room - x.copies) p.failed p.bad p.met) c.args.at.0) (sym items) (alters xs c.args.at.0 x read p.spare p.epoch p.room (p.room - x.copies) p.failed p.bad p.met c.requires.sound c.requires.stands (omega (arith, copies, enough)))
+    subst (λ (ys : List Node). Alters (forest_with xs p.spare p.epoch p.room p.failed p.bad p.met) (forest_with ys p.spare p.epoch (p.room - x.copies) p.failed p.bad p.met) c.args.at.0) (sym items) (alters xs c.args.at.0 x read p.spare p.epoch p.room (p.room - x.copies) p.failed p.bad p.met (are_lower xs p.kept) c.requires.sound c.requires.stands (omega (arith, copies, enough)))
 
 pub invariant_of-self-clause-rooted : goal.invariant_of-self-clause-rooted
 invariant_of-self-clause-rooted c =
@@ -29,4 +33,25 @@ invariant_of-self-clause-rooted c =
     let read = slice_get_read xs _ c.args.at.0 x refl (is_there xs c.args.at.0 c.requires.stands) c.index-x.ensures in
     let one = written (marked_all c.place_of-place.result) xs c.deref_mut.result.now c.mark_all.new.nodes p.nodes.len (sym (c.mark_all.auto.nodes ∙ c.deref_mut.ensures.len)) c.deref_mut.ensures.value c.mark_all.ensures in
     let items = written recounted_all _ c.deref_mut-2.result.now c.recount_all.new.nodes p.nodes.len (sym (c.recount_all.auto.nodes ∙ c.deref_mut-2.ensures.len)) c.deref_mut-2.ensures.value c.recount_all.ensures ∙ ap recounted_all (one ∙ ap (λ (at : Place). marked_all at xs) c.place_of-place.ensures) in
-    subst AllRooted (sym items) (rooted_still xs (λ u. u.dirty || is_above (place_of x) u) p.spare p.epoch p.room p.failed p.bad p.met c.requires.sound p.rooted)
+    subst AllRooted (sym items) (rooted_still xs (λ u. u.dirty || (is_above (place_of x) u || is_over xs x.root u)) p.spare p.epoch p.room p.failed p.bad p.met c.requires.sound p.rooted)
+
+pub invariant_of-self-clause-kept : goal.invariant_of-self-clause-kept
+invariant_of-self-clause-kept c =
+    let p = c.args.self.now in
+    let xs = p.nodes.items in
+    let x = c.index-x.result.now in
+    let read = slice_get_read xs _ c.args.at.0 x refl (is_there xs c.args.at.0 c.requires.stands) c.index-x.ensures in
+    let one = written (marked_all c.place_of-place.result) xs c.deref_mut.result.now c.mark_all.new.nodes p.nodes.len (sym (c.mark_all.auto.nodes ∙ c.deref_mut.ensures.len)) c.deref_mut.ensures.value c.mark_all.ensures in
+    let items = written recounted_all _ c.deref_mut-2.result.now c.recount_all.new.nodes p.nodes.len (sym (c.recount_all.auto.nodes ∙ c.deref_mut-2.ensures.len)) c.deref_mut-2.ensures.value c.recount_all.ensures ∙ ap recounted_all (one ∙ ap (λ (at : Place). marked_all at xs) c.place_of-place.ensures) in
+    subst AreKept (sym items) (kept_still xs (λ u. u.dirty || (is_above (place_of x) u || is_over xs x.root u)) p.spare p.epoch p.room p.failed p.bad p.met c.requires.sound p.kept)
+
+pub returns-clause-beside : goal.returns-clause-beside
+returns-clause-beside c =
+    let p = c.args.self.now in
+    let xs = p.nodes.items in
+    let x = c.index-x.result.now in
+    let read = slice_get_read xs _ c.args.at.0 x refl (is_there xs c.args.at.0 c.requires.stands) c.index-x.ensures in
+    let one = written (marked_all c.place_of-place.result) xs c.deref_mut.result.now c.mark_all.new.nodes p.nodes.len (sym (c.mark_all.auto.nodes ∙ c.deref_mut.ensures.len)) c.deref_mut.ensures.value c.mark_all.ensures in
+    let items = written recounted_all _ c.deref_mut-2.result.now c.recount_all.new.nodes p.nodes.len (sym (c.recount_all.auto.nodes ∙ c.deref_mut-2.ensures.len)) c.deref_mut-2.ensures.value c.recount_all.ensures ∙ ap recounted_all (one ∙ ap (λ (at : Place). marked_all at xs) c.place_of-place.ensures) in
+    let new = (λ (u : Node). u.dirty || (is_above (place_of x) u || is_over xs x.root u)) in
+    subst (λ (ys : List Node). KeepsBeside (forest_with xs p.spare p.epoch p.room p.failed p.bad p.met) (forest_with ys p.spare p.epoch (p.room - x.copies) p.failed p.bad p.met) (λ m. beside_of (slice_get xs m)) (λ m. beside_of (slice_get ys m))) (sym items) (record { same = λ m st now. field xs new p.spare p.epoch p.room p.failed p.bad p.met c.requires.sound beside_of (λ b u. refl) (λ n u. refl) m })

@@ -6,7 +6,8 @@ use Rattle.h2_set.specs.StayLaws.{Walks-refl, Unchanged-walks}
 use Rattle.h2_set.specs.Forest.{Loads, loaded}
 use Rattle.h2_memory_sets.specs.View.{forest_with, is_child, link_of}
 use Rattle.h2_memory_sets.proofs.Nodes.{unchanged_nodes, is_there}
-use Rattle.h2_memory_sets.proofs.Bringing.{ref_there, ref_same, loads_nothing, not_loaded, not_told, is_loaded, loadable_in, loadable_within, loadable_away, brings}
+use Rattle.h2_memory_sets.proofs.Bringing.{ref_there, ref_same, loads_nothing, bad_place, not_loaded, not_told, is_loaded, loadable_in, loadable_within, loadable_away, brings}
+use Rattle.h2_memory_sets.proofs.Brought.{kept_bring, beside_bring}
 use Rattle.h2_memory_sets.proofs.Rooted.{rooted_bring, root_not}
 use Rattle.h2_memory_sets.proofs.memory.MemorySetsSets.child.Goals as goal
 
@@ -155,3 +156,36 @@ returns-then-is_due-clause-good c = λ r l read link bad. bad
 
 pub returns-in_default-find_unspoiled-clause-good : goal.returns-in_default-find_unspoiled-clause-good
 returns-in_default-find_unspoiled-clause-good c = λ r l read link bad. not_told c.args.self.now.nodes.items c.args.at.0 r.key l link
+
+pub invariant_of-self-2-clause-kept : goal.invariant_of-self-2-clause-kept
+invariant_of-self-2-clause-kept c =
+    let p = c.args.self.now in
+    let xs = p.nodes.items in
+    let at = c.args.at.0 in
+    let k = c.in-Some-find_unspoiled.c in
+    let q = c.at.result.now in
+    let there = is_there xs at c.requires.stands in
+    let node' = slice_get_read xs _ at c.index-x.result.now refl there c.index-x.ensures in
+    let l = loadable_in _ xs at k q c.deref-2.ensures.value c.in-Some-find_unspoiled.ensures.found in
+    let y = slice_get_read xs _ k c.index_mut.result.now refl (loadable_within xs at k q l) c.index_mut.ensures.value in
+    kept_bring xs at k q c.index-x.result.now c.index_mut.result.now c.bring_in.new.x p.kept l node' y c.bring_in.ensures
+
+pub returns-clause-beside : goal.returns-clause-beside
+returns-clause-beside c =
+    let p = c.args.self.now in
+    let xs = p.nodes.items in
+    let at = c.args.at.0 in
+    let k = c.in-Some-find_unspoiled.c in
+    let q = c.at.result.now in
+    let there = is_there xs at c.requires.stands in
+    let node' = slice_get_read xs _ at c.index-x.result.now refl there c.index-x.ensures in
+    let l = loadable_in _ xs at k q c.deref-2.ensures.value c.in-Some-find_unspoiled.ensures.found in
+    let y = slice_get_read xs _ k c.index_mut.result.now refl (loadable_within xs at k q l) c.index_mut.ensures.value in
+    record { same = λ m st now. beside_bring xs k _ _ _ c.index_mut.result.now c.bring_in.new.x y c.bring_in.ensures m }
+
+pub returns-in_default-find_unspoiled-clause-place : goal.returns-in_default-find_unspoiled-clause-place
+returns-in_default-find_unspoiled-clause-place c = λ r place why read e.
+    let xs = c.args.self.now.nodes.items in
+    let node = slice_get_read xs _ c.args.at.0 c.index.result.now refl (is_there _ _ c.requires.stands) c.index.ensures in
+    let same = ref_same xs c.args.at.0 c.args.i c.index.result.now c.at.result.now node c.at.ensures r read in
+    sym (bad_place _ place _ why e) ∙ ap (λ (q : Ref). q.place) same

@@ -1,14 +1,19 @@
-use Rattle.std.proofs.Common.{◌≡◌, ◌≤◌, ◌+◌, ◌-◌, ℕ, List, length, sym, ap, ◌∙◌, subst, arith}
+use Rattle.std.proofs.Common.{◌≡◌, ◌≤◌, ◌+◌, ◌-◌, ℕ, true, false, refl, List, [], length, slice_get, sym, ap, ◌∙◌, subst, arith}
 use Rattle.std.proofs.lemmas.Option.{slice_get_past}
 use Rattle.h2_set.specs.Ranges.{Rising, put}
 use Rattle.h2_set.specs.RefSet.{RefSet, with_rest}
 use Rattle.h2_set.specs.Forest.{Makes}
 use Rattle.h2_set.specs.MadeLaws.{parts_node}
 use Rattle.h2_memory_sets.specs.declared.node.Node.{Node}
-use Rattle.h2_memory_sets.specs.View.{forest_with, parted, stands_of, AllRooted}
+use Rattle.h2_inode.specs.Nodes.{set_of as set_of_body}
+use Rattle.h2_memory_sets.specs.Kept.{AreKept}
+use Rattle.h2_memory_sets.specs.Owners.{beside_of}
+use Rattle.h2_memory_sets.specs.View.{forest_with, parted, set_of, stands_of, AllRooted}
 use Rattle.h2_memory_sets.proofs.Making.{kept_set, whole_set, makes}
 use Rattle.h2_memory_sets.proofs.Nodes.{is_there}
-use Rattle.h2_memory_sets.proofs.Parting.{item_at}
+use Rattle.h2_memory_sets.proofs.Keeping.{refit_twice}
+use Rattle.h2_memory_sets.proofs.Parted.{kept_part}
+use Rattle.h2_memory_sets.proofs.Parting.{item_at, field}
 use Rattle.h2_memory_sets.proofs.Differing.{differs_by_make}
 use Rattle.h2_memory_sets.proofs.Rooted.{rooted_part, root_not}
 use Rattle.h2_memory_sets.proofs.memory.MemorySetsSets.make.Goals as goal
@@ -73,3 +78,26 @@ invariant_of-self-clause-rooted c =
     let xs = p.nodes.items in
     let it = item_at xs c.args.at.0 (is_there _ _ c.requires.stands) in
     subst AllRooted (sym (c.add_node.ensures.parted it.0 it.1)) (rooted_part xs c.args.at.0 it.0 c.with_one-kept.result c.args.split.moved c.new_reference-r.result p.rooted c.requires.stands it.1)
+
+pub invariant_of-self-clause-kept : goal.invariant_of-self-clause-kept
+invariant_of-self-clause-kept c =
+    let p = c.args.self.now in
+    let xs = p.nodes.items in
+    let it = item_at xs c.args.at.0 (is_there _ _ c.requires.stands) in
+    subst AreKept (sym (c.add_node.ensures.parted it.0 it.1)) (kept_part xs c.args.at.0 it.0 c.with_one-kept.result c.args.split.moved c.new_reference-r.result p.kept it.1 (λ w bytes holds is.
+    let root = p.kept.inode c.args.at.0 it.0 w it.1 holds in
+    let full = c.requires.split.1.full in
+    let empty : set_of (slice_get xs c.args.at.0) ≡ record { refs = []; capacity = 4 } = ap set_of it.1 ∙ root.set ∙ ap set_of_body is in
+    let clash : 0 ≡ 4 = sym (ap (λ (t : RefSet). length t.refs) empty) ∙ full ∙ ap (λ (t : RefSet). t.capacity) empty in
+    absurd (omega (arith, clash))))
+
+pub returns-clause-beside : goal.returns-clause-beside
+returns-clause-beside c =
+    let p = c.args.self.now in
+    let xs = p.nodes.items in
+    let it = item_at xs c.args.at.0 (is_there _ _ c.requires.stands) in
+    record {
+      same = λ m st now.
+          let ne : m ≡ length xs → ⊥ = λ e. (let clash : true ≡ false = sym st ∙ ap (λ z. stands_of (slice_get xs z)) e ∙ ap stands_of (slice_get_past xs (length xs) (omega arith)) in cc) in
+          ap (λ (ys : List Node). beside_of (slice_get ys m)) (c.add_node.ensures.parted it.0 it.1) ∙ field xs c.args.at.0 it.0 c.with_one-kept.result c.args.split.moved c.new_reference-r.result it.1 beside_of (λ y. refl) (refit_twice (it.0).inode c.with_one-kept.result (record { refs = []; capacity = 4 })) m ne;
+    }

@@ -1,0 +1,28 @@
+use Rattle.std.proofs.Common.{◌≡◌, ◌+◌, ◌-◌, ◌≤◌, ◌<◌, ℕ, List, [], ◌∷◌, ◌++◌, Option, Some, None, true, length, slice_get, refl, sym, ap, arith, subst, ◌∙◌}
+use Rattle.h2_ref.specs.declared.faults.Why.{Why}
+use Rattle.h2_set.specs.Forest.{KeepsBeside}
+use Rattle.h2_inode.specs.declared.inode.Inode.{Inode}
+use Rattle.h2_inode.specs.Nodes.{Plants, HasInode, held_by}
+use Rattle.h2_memory_sets.specs.declared.node.Node.{Node}
+use Rattle.h2_memory_sets.specs.declared.node.Owner.{Owner}
+use Rattle.h2_memory_sets.specs.Inodes.{inode_node, fields_seen}
+use Rattle.h2_memory_sets.specs.Kept.{AreKept}
+use Rattle.h2_memory_sets.specs.Owners.{beside_of}
+use Rattle.h2_memory_sets.specs.View.{AllRooted, forest_with}
+use Rattle.h2_memory_sets.proofs.Planted.{Grown, grows}
+use Rattle.h2_memory_sets.proofs.inodes.MemorySetsNodes.plant.Goals as goal
+
+pub invariant_of-self-clause-rooted : goal.invariant_of-self-clause-rooted
+invariant_of-self-clause-rooted c = (let p = c.args.self.now in grows p.nodes.items c.add_inode-c.new.nodes.items p.spare (p.spare - 1) p.epoch p.room p.failed p.bad p.met c.args.root.0 c.args.leaf.now c.add_inode-c.result c.args.inode c.add_inode-c.ensures.pushed c.add_inode-c.ensures.number c.add_inode-c.ensures.set p.rooted p.kept c.requires.sound c.requires.leaf c.requires.unloaded c.requires.number c.requires.plantable (let one = c.requires.spare in omega (arith, one))).rooted
+
+pub invariant_of-self-clause-kept : goal.invariant_of-self-clause-kept
+invariant_of-self-clause-kept c = (let p = c.args.self.now in grows p.nodes.items c.add_inode-c.new.nodes.items p.spare (p.spare - 1) p.epoch p.room p.failed p.bad p.met c.args.root.0 c.args.leaf.now c.add_inode-c.result c.args.inode c.add_inode-c.ensures.pushed c.add_inode-c.ensures.number c.add_inode-c.ensures.set p.rooted p.kept c.requires.sound c.requires.leaf c.requires.unloaded c.requires.number c.requires.plantable (let one = c.requires.spare in omega (arith, one))).kept
+
+pub returns-clause-plants : goal.returns-clause-plants
+returns-clause-plants c = (let p = c.args.self.now in grows p.nodes.items c.add_inode-c.new.nodes.items p.spare (p.spare - 1) p.epoch p.room p.failed p.bad p.met c.args.root.0 c.args.leaf.now c.add_inode-c.result c.args.inode c.add_inode-c.ensures.pushed c.add_inode-c.ensures.number c.add_inode-c.ensures.set p.rooted p.kept c.requires.sound c.requires.leaf c.requires.unloaded c.requires.number c.requires.plantable (let one = c.requires.spare in omega (arith, one))).plants
+
+pub returns-clause-inode : goal.returns-clause-inode
+returns-clause-inode c = (let p = c.args.self.now in grows p.nodes.items c.add_inode-c.new.nodes.items p.spare (p.spare - 1) p.epoch p.room p.failed p.bad p.met c.args.root.0 c.args.leaf.now c.add_inode-c.result c.args.inode c.add_inode-c.ensures.pushed c.add_inode-c.ensures.number c.add_inode-c.ensures.set p.rooted p.kept c.requires.sound c.requires.leaf c.requires.unloaded c.requires.number c.requires.plantable (let one = c.requires.spare in omega (arith, one))).inode
+
+pub returns-clause-beside : goal.returns-clause-beside
+returns-clause-beside c = (let p = c.args.self.now in grows p.nodes.items c.add_inode-c.new.nodes.items p.spare (p.spare - 1) p.epoch p.room p.failed p.bad p.met c.args.root.0 c.args.leaf.now c.add_inode-c.result c.args.inode c.add_inode-c.ensures.pushed c.add_inode-c.ensures.number c.add_inode-c.ensures.set p.rooted p.kept c.requires.sound c.requires.leaf c.requires.unloaded c.requires.number c.requires.plantable (let one = c.requires.spare in omega (arith, one))).beside
