@@ -1,6 +1,6 @@
 -- What a cut below a node is to the node.
 use Rattle.std.proofs.lemmas.Bool.{cases_lt}
-use Rattle.std.proofs.Common.{◌≡◌, ℕ, ◌+◌, ◌-◌, ◌<◌, ◌≤◌, ◌^◌, Bool, true, false, arith, refl, sym, ◌∙◌, ap, List, [], ◌∷◌, ◌++◌, length, Option, Some, None, subst, ◌⊎◌, inl, inr, slice_get, take, suc, zero}
+use Rattle.std.proofs.Common.{◌≡◌, ℕ, ◌+◌, ◌-◌, ◌<◌, ◌≤◌, ◌^◌, Bool, true, false, arith, refl, sym, ◌∙◌, ap, List, [], ◌∷◌, ◌++◌, length, Option, Some, None, subst, ◌⊎◌, inl, inr, slice_get, take, suc}
 use Rattle.std.specs.Prelude.{IfSome}
 use Rattle.std.proofs.lemmas.Nat.{pow_pos, pow_below}
 use Rattle.std.proofs.lemmas.Option.{slice_get_within}
@@ -8,7 +8,7 @@ use Rattle.std.proofs.lemmas.List.{append-nil}
 use Rattle.h2_ref.specs.declared.reference.Ref.{Ref}
 use Rattle.h2_set.specs.Ranges.{Rising, limit, holds, is_indirect, leads_on}
 use Rattle.h2_set.specs.RefSet.{RefSet}
-use Rattle.h2_set.specs.Forest.{Forest, refs, loaded, HasLeaves, done, near, LeavesOf, KeepsLeaves, Alike, IsChild, IsSoundNode, IsSound, InPlace, Stays, Keeps, Renews, Fixed, Walks, Loads, Reaches, nowhere, here, below}
+use Rattle.h2_set.specs.Forest.{Forest, refs, loaded, HasLeaves, done, near, LeavesOf, KeepsLeaves, IsChild, IsSoundNode, IsSound, InPlace, Stays, Keeps, Renews, Fixed, Walks, Loads, Reaches, nowhere, here, below}
 use Rattle.h2_set.specs.StayLaws.{Alike-refl, Fixed-trans, InPlace-trans, Walks-trans, Walks-leaves, Reaches-walks, leaves_stay, stands_below}
 use Rattle.h2_set.specs.LeafLaws.{holds_inside, leaves_rising, outside_holds}
 use Rattle.h2_set.specs.ChangeLaws.{Keeps-Stays, Keeps-trans, leaves_move, same_or_not}
@@ -27,16 +27,18 @@ use Rattle.h2_file.proofs.CutLevels.{Readied, FrontLeft, nothing_left, none_befo
 module _ (f h : Forest) (at i size : ℕ) (r : Ref) (sound : IsSound f) (stands : f.stands at ≡ true) (read : slice_get (refs f at) i ≡ Some r) (ind : is_indirect r ≡ true) (in_r : holds size r ≡ true) (walks : Walks f h) (loads : Loads f h at r.key) where
   pub load_touched : LoadsIn f h at size size
   load_touched = record {
-    touched = record { only = λ m st. elim (loads.new m st) as (λ _. (f.stands m ≡ true) ⊎ ((h.low m ≤ size) × (size < h.low m + 2 ^ h.bits m))) [
-      | inl was ↦ inl was
-      | inr link ↦
-          let node = walks.sound.node at (walks.stays at stands).place.stands in
-          let read_h : slice_get (refs h at) i ≡ Some r = ap (λ (s : RefSet). slice_get s.refs i) (walks.sets at stands) ∙ read in
-          let kid = node.child r.key m link in
-          let bits = node.bits i m r read_h ind link in
-          let it = holds_inside size r in_r in
-          inr (omega (arith, kid.low, it.0), omega (arith, kid.low, ap (λ z. 2 ^ z) bits, it.1))
-    ] };
+    touched = record {
+      only = λ m st. elim (loads.new m st) as (λ _. (f.stands m ≡ true) ⊎ ((h.low m ≤ size) × (size < h.low m + 2 ^ h.bits m))) [
+        | inl was ↦ inl was
+        | inr link ↦
+            let node = walks.sound.node at (walks.stays at stands).place.stands in
+            let read_h : slice_get (refs h at) i ≡ Some r = ap (λ (s : RefSet). slice_get s.refs i) (walks.sets at stands) ∙ read in
+            let kid = node.child r.key m link in
+            let bits = node.bits i m r read_h ind link in
+            let it = holds_inside size r in_r in
+            inr (omega (arith, kid.low, it.0), omega (arith, kid.low, ap (λ z. 2 ^ z) bits, it.1))
+      ];
+    };
     tree = λ m out st. elim (loads.new m st) as (λ _. h.root m ≡ f.root at) [
       | inl was ↦ absurd (let clash : true ≡ false = sym was ∙ out in cc)
       | inr link ↦ let place = (walks.stays at stands).place in ((walks.sound.node at place.stands).child r.key m link).root ∙ place.root
