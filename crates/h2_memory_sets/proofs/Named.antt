@@ -1,6 +1,5 @@
 -- Which leaf names the root of an inode.
-use Rattle.std.proofs.Common.{◌≡◌, ℕ, ◌<◌, Bool, true, false, ◌||◌, arith, refl, sym, ◌∙◌, ap, List, Option, Some, None, subst, ◌⊎◌, inl, inr, slice_get, nat_eq}
-use Rattle.std.specs.Prelude.{◌↔◌}
+use Rattle.std.proofs.Common.{◌≡◌, ℕ, ◌<◌, true, false, ◌||◌, arith, refl, sym, ◌∙◌, ap, List, Option, Some, None, ◌⊎◌, inl, inr, slice_get, nat_eq}
 use Rattle.std.proofs.lemmas.Bool.Decides.{nat_tests}
 use Rattle.h2_ref.specs.declared.faults.Why.{Why}
 use Rattle.h2_set.specs.Forest.{Forest, IsSound}
@@ -8,7 +7,7 @@ use Rattle.h2_inode.specs.Nodes.{IsNamed}
 use Rattle.h2_memory_sets.specs.declared.node.Node.{Node}
 use Rattle.h2_memory_sets.specs.declared.node.Owner.{Owner}
 use Rattle.h2_memory_sets.specs.Owners.{owner_of, is_owner, belongs_to}
-use Rattle.h2_memory_sets.specs.View.{root_of, forest_with}
+use Rattle.h2_memory_sets.specs.View.{forest_with}
 use Rattle.h2_memory_sets.proofs.Owned.{AreLower, belongs_step, belongs_none, belongs_lower, owner_is, or_parts, or_first, or_second}
 
 pub self_owner : (t k : ℕ) → is_owner t k (record { root = t; key = k }) ≡ true
