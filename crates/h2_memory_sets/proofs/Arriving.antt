@@ -1,20 +1,19 @@
 -- The root of an inode that is loaded, or new, and the leaf that names it.
-use Rattle.std.proofs.Common.{◌≡◌, ℕ, ◌+◌, ◌<◌, ◌≤◌, Bool, true, false, ◌&&◌, ◌||◌, arith, refl, cond, sym, ◌∙◌, ap, List, [], ◌∷◌, ◌++◌, length, Option, Some, None, subst, ◌⊎◌, inl, inr, slice_get, slice_set, suc, nat_eq}
+use Rattle.std.proofs.Common.{◌≡◌, ℕ, ◌+◌, ◌<◌, ◌≤◌, Bool, true, false, ◌&&◌, arith, refl, cond, sym, ◌∙◌, ap, List, [], ◌∷◌, ◌++◌, length, Option, Some, None, subst, inl, inr, slice_get, slice_set, suc, nat_eq}
 use Rattle.std.specs.List.{position}
 use Rattle.std.proofs.Math.ListN.{length-set}
 use Rattle.std.proofs.lemmas.Option.{none-some, slice_get_within, slice_get_past}
 use Rattle.h2_ref.specs.declared.faults.Why.{Why}
 use Rattle.h2_ref.specs.declared.reference.Ref.{Ref}
-use Rattle.h2_set.specs.Ranges.{is_indirect}
-use Rattle.h2_set.specs.Forest.{Forest, Link, loaded, told, untold, refs, IsSound}
+use Rattle.h2_set.specs.Forest.{Forest, told, untold, IsSound}
 use Rattle.h2_set.specs.ChangeLaws.{same_or_not}
-use Rattle.h2_inode.specs.Nodes.{IsNamed, IsInodeLeaf, IsUnloaded, Brings, Plants, Seeks}
+use Rattle.h2_inode.specs.Nodes.{IsNamed, IsInodeLeaf, Brings, Plants, Seeks}
 use Rattle.h2_memory_sets.specs.declared.node.Node.{Node}
 use Rattle.h2_memory_sets.specs.declared.node.Owner.{Owner}
 use Rattle.h2_memory_sets.specs.Inodes.{owned_by, is_sought}
 use Rattle.h2_memory_sets.specs.Kept.{AreKept}
 use Rattle.h2_memory_sets.specs.Owners.{owner_of, is_owner, belongs_to}
-use Rattle.h2_memory_sets.specs.View.{stands_of, set_of, root_of, writable_of, is_top, is_up, is_below, is_child, link_to, link_of, forest_with, AllRooted}
+use Rattle.h2_memory_sets.specs.View.{stands_of, root_of, writable_of, is_top, is_up, is_below, is_child, link_to, forest_with, AllRooted}
 use Rattle.h2_memory_sets.proofs.Coming.{Comes, IsFitRoot, HasPath, brings_root, not_fresh, stands, root}
 use Rattle.h2_memory_sets.proofs.Named.{named_by, owner_named, self_owner}
 use Rattle.h2_memory_sets.proofs.Nodes.{get_set, get_set_other, position_same, is_there}

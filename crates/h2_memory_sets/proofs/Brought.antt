@@ -1,7 +1,7 @@
 -- What stands of the nodes of inodes, once a node was loaded.
-use Rattle.std.proofs.Common.{◌≡◌, ℕ, ◌<◌, Bool, true, false, ◌&&◌, arith, refl, sym, ◌∙◌, ap, List, length, Option, Some, None, subst, ◌⊎◌, inl, inr, slice_get, slice_set, nat_eq}
+use Rattle.std.proofs.Common.{◌≡◌, ℕ, true, false, arith, refl, sym, ◌∙◌, ap, List, length, Option, Some, None, subst, ◌⊎◌, inl, inr, slice_get, slice_set, nat_eq}
 use Rattle.std.proofs.Math.ListN.{length-set}
-use Rattle.std.proofs.lemmas.Option.{none-some, slice_get_within}
+use Rattle.std.proofs.lemmas.Option.{slice_get_within}
 use Rattle.h2_ref.specs.declared.reference.Ref.{Ref}
 use Rattle.h2_set.specs.ChangeLaws.{same_or_not}
 use Rattle.h2_inode.specs.declared.inode.Inode.{Inode}

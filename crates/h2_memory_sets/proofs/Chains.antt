@@ -1,5 +1,5 @@
 -- What belongs to what belongs to a leaf belongs to that.
-use Rattle.std.proofs.Common.{◌≡◌, ℕ, ◌<◌, Bool, true, false, ◌||◌, arith, refl, sym, ◌∙◌, ap, List, Option, Some, None, subst, ◌⊎◌, inl, inr, slice_get, suc, zero}
+use Rattle.std.proofs.Common.{◌≡◌, ℕ, ◌<◌, Bool, true, false, ◌||◌, arith, refl, sym, ◌∙◌, ap, List, Option, Some, None, ◌⊎◌, inl, inr, slice_get, suc, zero}
 use Rattle.h2_memory_sets.specs.declared.node.Node.{Node}
 use Rattle.h2_memory_sets.specs.declared.node.Owner.{Owner}
 use Rattle.h2_memory_sets.specs.Owners.{owner_of, is_owner, belongs_to}

@@ -1,13 +1,12 @@
 -- A root that is loaded, or new.
-use Rattle.std.proofs.Common.{◌≡◌, ℕ, ◌+◌, ◌%◌, ◌<◌, ◌≤◌, ◌^◌, Bool, true, false, ◌&&◌, arith, refl, cond, sym, ◌∙◌, ap, List, [], ◌∷◌, length, Option, Some, None, subst, ◌⊎◌, inl, inr, slice_get, suc, zero}
+use Rattle.std.proofs.Common.{◌≡◌, ℕ, ◌+◌, ◌%◌, ◌<◌, ◌≤◌, ◌^◌, Bool, true, false, ◌&&◌, arith, refl, cond, sym, ◌∙◌, ap, List, [], ◌∷◌, Option, Some, None, subst, ◌⊎◌, inl, inr, slice_get, suc}
 use Rattle.std.specs.List.{position}
-use Rattle.std.proofs.lemmas.Option.{none-some}
 use Rattle.h2_ref.specs.declared.faults.Why.{Why}
 use Rattle.h2_ref.specs.declared.reference.Kind.TheVariants.{Inode}
 use Rattle.h2_ref.specs.declared.reference.Ref.{Ref}
-use Rattle.h2_set.specs.Ranges.{Rising, limit, is_indirect}
+use Rattle.h2_set.specs.Ranges.{Rising, limit}
 use Rattle.h2_set.specs.RefSet.{RefSet, IsRefSet}
-use Rattle.h2_set.specs.Forest.{Forest, refs, loaded, untold, IsSound, IsSoundNode, IsChild, Fits, InPlace, Stays, Same, HasParent, HasOwner, Reaches}
+use Rattle.h2_set.specs.Forest.{Forest, refs, loaded, untold, IsSound, IsSoundNode, Same, HasParent, HasOwner, Reaches}
 use Rattle.h2_set.specs.ChangeLaws.{same_or_not}
 use Rattle.h2_set.specs.PathLaws.{reaches_stay}
 use Rattle.h2_set.specs.StayLaws.{stands_below}

@@ -15,7 +15,7 @@ use Rattle.h2_inode.specs.declared.inode.Inode.{Inode}
 use Rattle.h2_set.specs.Forest.{loaded, untold, Loses}
 use Rattle.h2_set.specs.ChangeLaws.{same_or_not}
 use Rattle.h2_memory_sets.specs.declared.node.Node.{Node}
-use Rattle.h2_memory_sets.specs.View.{stands_of, set_of, root_of, low_of, bits_of, writable_of, copies_of, leaf_bits_of, is_up, is_child, is_top, is_bare, names, link_to, link_of, forest_with, any_of, names_same, lacks, loses, goes, is_lost, goes_with, lost, dropped, dropped_all, AllRooted}
+use Rattle.h2_memory_sets.specs.View.{stands_of, set_of, root_of, is_up, is_child, is_top, names, link_to, link_of, forest_with, any_of, names_same, lacks, loses, goes, is_lost, goes_with, lost, dropped, dropped_all, AllRooted}
 use Rattle.h2_memory_sets.specs.Kept.{is_known, AreKept, IsRootOf}
 use Rattle.h2_memory_sets.proofs.Nodes.{get_set, get_set_other}
 use Rattle.h2_memory_sets.proofs.Keeping.{CameFrom, IsPlain, kept_from}

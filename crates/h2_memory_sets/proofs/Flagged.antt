@@ -1,11 +1,10 @@
 -- A root that is held, or no longer.
-use Rattle.std.proofs.Common.{◌≡◌, ℕ, Bool, true, false, ◌&&◌, arith, refl, sym, ◌∙◌, ap, List, length, Option, Some, None, subst, ◌⊎◌, inl, inr, slice_get, slice_set}
+use Rattle.std.proofs.Common.{◌≡◌, ℕ, Bool, true, false, ◌&&◌, arith, refl, sym, ◌∙◌, ap, List, length, Option, Some, subst, ◌⊎◌, inl, inr, slice_get, slice_set}
 use Rattle.std.specs.List.{position}
 use Rattle.std.proofs.Math.ListN.{length-set}
 use Rattle.std.proofs.lemmas.Option.{slice_get_within}
 use Rattle.h2_ref.specs.declared.faults.Why.{Why}
-use Rattle.h2_ref.specs.declared.reference.Ref.{Ref}
-use Rattle.h2_set.specs.Forest.{Forest, loaded, IsSound, IsSoundNode, Same, HasParent, HasOwner, KeepsBeside}
+use Rattle.h2_set.specs.Forest.{Forest, IsSound, Same, KeepsBeside}
 use Rattle.h2_set.specs.ChangeLaws.{same_or_not}
 use Rattle.h2_set.specs.PathLaws.{reaches_stay}
 use Rattle.h2_set.specs.StayLaws.{stands_below}

@@ -1,5 +1,5 @@
 -- The inode of a root, and which leaves its tree may have.
-use Rattle.std.proofs.Common.{◌≡◌, ℕ, Bool, true, false, ◌&&◌, refl, sym, ◌∙◌, ap, List, [], Option, Some, None, subst, inl, inr, slice_get}
+use Rattle.std.proofs.Common.{◌≡◌, ℕ, Bool, true, false, ◌&&◌, refl, sym, ◌∙◌, ap, List, [], Option, Some, None, subst, slice_get}
 use Rattle.std.specs.Prelude.{◌↔◌}
 use Rattle.std.proofs.lemmas.Option.{none-some}
 use Rattle.h2_ref.specs.declared.faults.Why.{Why}
@@ -14,12 +14,12 @@ use Rattle.h2_inode.specs.declared.kind.InodeKind.TheVariants.{Directory, File, 
 use Rattle.h2_inode.specs.declared.inode.Body.{Body}
 use Rattle.h2_inode.specs.declared.inode.Body.TheVariants.{Refs, Bytes}
 use Rattle.h2_inode.specs.declared.inode.Inode.{Inode}
-use Rattle.h2_inode.specs.Nodes.{Fields, fields_of, bytes_of, held_by, leaf_kind, MayHave, HasInode}
+use Rattle.h2_inode.specs.Nodes.{fields_of, bytes_of, held_by, leaf_kind, MayHave, HasInode}
 use Rattle.h2_memory_sets.specs.declared.node.Node.{Node}
 use Rattle.h2_memory_sets.specs.Inodes.{fields_seen}
-use Rattle.h2_memory_sets.specs.Kept.{AreKept, IsRootOf}
-use Rattle.h2_memory_sets.specs.Owners.{is_leaf_of, inode_allows, allowed_by, allows_of, inode_of, beside_of, refit, refit_body}
-use Rattle.h2_memory_sets.specs.View.{stands_of, set_of, root_of, low_of, bits_of, leaf_bits_of, forest_with}
+use Rattle.h2_memory_sets.specs.Kept.{AreKept}
+use Rattle.h2_memory_sets.specs.Owners.{is_leaf_of, inode_allows, allowed_by, allows_of, beside_of, refit, refit_body}
+use Rattle.h2_memory_sets.specs.View.{set_of, root_of, low_of, bits_of, leaf_bits_of, forest_with}
 use Rattle.h2_memory_sets.proofs.Passing.{and_parts}
 
 pub leaf_is : (kind : InodeKind) (k : Kind) → is_leaf_of kind k ≡ true → k ≡ leaf_kind kind
@@ -48,9 +48,10 @@ and_both false b e h = absurd (cc)
 
 -- the leaves of one kind that can be written
 pub kind_allows : (kind : InodeKind) (r : Ref) → ((is_leaf_of kind r.kind && passes_as_held r) ≡ true) ↔ ((r.kind ≡ leaf_kind kind) × IsHeld r)
-kind_allows kind r =
-    ((λ e. let p = and_parts (is_leaf_of kind r.kind) (passes_as_held r) e in (leaf_is kind r.kind p.0, (held-tested r).0 p.1)),
-    (λ h. and_both (is_leaf_of kind r.kind) (passes_as_held r) (is_leaf kind r.kind h.0) ((held-tested r).1 h.1)))
+kind_allows kind r = (
+  (λ e. let p = and_parts (is_leaf_of kind r.kind) (passes_as_held r) e in (leaf_is kind r.kind p.0, (held-tested r).0 p.1)),
+  (λ h. and_both (is_leaf_of kind r.kind) (passes_as_held r) (is_leaf kind r.kind h.0) ((held-tested r).1 h.1)),
+)
 
 pub may_have : (kind : InodeKind) (body : Body) (r : Ref) → (inode_allows kind body r ≡ true) ↔ MayHave kind body r
 may_have kind (Refs s) r = kind_allows kind r

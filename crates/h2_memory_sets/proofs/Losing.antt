@@ -5,23 +5,21 @@ use Rattle.std.proofs.lemmas.Bool.{cases_lt}
 use Rattle.std.proofs.lemmas.Bool.Decides.{nat_tests}
 use Rattle.std.proofs.lemmas.Option.{slice_get_past}
 use Rattle.h2_ref.specs.declared.faults.Why.{Why}
-use Rattle.h2_ref.specs.declared.reference.Ref.{Ref}
 use Rattle.h2_set.specs.RefSet.{RefSet}
 use Rattle.h2_set.specs.Forest.{Forest, untold, Loses, GoesBelow, GoesWith, IsSound}
-use Rattle.h2_set.specs.ChangeLaws.{same_or_not}
 use Rattle.h2_set.specs.PathLaws.{reaches_through}
 use Rattle.h2_inode.specs.declared.inode.Inode.{Inode}
 use Rattle.h2_memory_sets.specs.declared.node.Node.{Node}
 use Rattle.h2_memory_sets.specs.Kept.{AreKept}
 use Rattle.h2_memory_sets.specs.Owners.{owner_of, is_owner, belongs_to, held_of}
-use Rattle.h2_memory_sets.specs.View.{stands_of, set_of, root_of, low_of, bits_of, writable_of, copies_of, leaf_bits_of, is_child, names, link_to, forest_with, loses, goes, is_lost, goes_with, lost, AllRooted}
-use Rattle.h2_memory_sets.proofs.Drops.{given, goes_of, dropped_with, going, at_here, other_field, field, still_field, still_other, there_of, read_other, gone, stays, none_new, first, link_other, loses_is, is_losing, rooted_drop}
+use Rattle.h2_memory_sets.specs.View.{stands_of, set_of, root_of, low_of, bits_of, writable_of, copies_of, leaf_bits_of, is_child, names, link_to, forest_with, loses, goes, is_lost, goes_with, AllRooted}
+use Rattle.h2_memory_sets.proofs.Drops.{given, goes_of, dropped_with, going, at_here, other_field, field, still_field, still_other, there_of, gone, stays, none_new, first, link_other, loses_is, is_losing, rooted_drop}
 use Rattle.h2_memory_sets.proofs.Nesting.{few_bits}
 use Rattle.h2_memory_sets.proofs.Nodes.{KeepsRoots, KeepsNode, loose_of}
-use Rattle.h2_memory_sets.proofs.Owned.{are_lower, chain_found, owner_is}
+use Rattle.h2_memory_sets.proofs.Owned.{chain_found, owner_is}
 use Rattle.h2_memory_sets.proofs.Parting.{alike, item_at}
 use Rattle.h2_memory_sets.proofs.Passing.{and_parts}
-use Rattle.h2_memory_sets.proofs.Storing.{DiffersByStore, tested, not_goes, now_stays, root_now}
+use Rattle.h2_memory_sets.proofs.Storing.{DiffersByStore, tested, now_stays, root_now}
 
 or_parts : (a b : Bool) → (a || b) ≡ true → (a ≡ true) ⊎ (b ≡ true)
 or_parts true b h = inl refl

@@ -1,6 +1,5 @@
 -- Which leaf names the root of an inode.
-use Rattle.std.proofs.Common.{◌≡◌, ℕ, ◌<◌, Bool, true, false, ◌||◌, arith, refl, sym, ◌∙◌, ap, List, Option, Some, None, subst, ◌⊎◌, inl, inr, slice_get, nat_eq}
-use Rattle.std.specs.Prelude.{◌↔◌}
+use Rattle.std.proofs.Common.{◌≡◌, ℕ, ◌<◌, true, false, ◌||◌, arith, refl, sym, ◌∙◌, ap, List, Option, Some, None, ◌⊎◌, inl, inr, slice_get, nat_eq}
 use Rattle.std.proofs.lemmas.Bool.Decides.{nat_tests}
 use Rattle.h2_ref.specs.declared.faults.Why.{Why}
 use Rattle.h2_set.specs.Forest.{Forest, IsSound}
@@ -8,7 +7,7 @@ use Rattle.h2_inode.specs.Nodes.{IsNamed}
 use Rattle.h2_memory_sets.specs.declared.node.Node.{Node}
 use Rattle.h2_memory_sets.specs.declared.node.Owner.{Owner}
 use Rattle.h2_memory_sets.specs.Owners.{owner_of, is_owner, belongs_to}
-use Rattle.h2_memory_sets.specs.View.{root_of, forest_with}
+use Rattle.h2_memory_sets.specs.View.{forest_with}
 use Rattle.h2_memory_sets.proofs.Owned.{AreLower, belongs_step, belongs_none, belongs_lower, owner_is, or_parts, or_first, or_second}
 
 pub self_owner : (t k : ℕ) → is_owner t k (record { root = t; key = k }) ≡ true
@@ -26,11 +25,13 @@ module _ (xs : List Node) (spare epoch room failed bad : ℕ) (met : Option (ℕ
     belongs = λ t k.
         let here : f.belongs c t k ≡ belongs_to xs c t k = ap (λ q. belongs_to xs q t k) own in
         let there : f.belongs top t k ≡ belongs_to xs top t k = ap (λ q. belongs_to xs q t k) top_own in
-        let step = belongs_step xs low c t k (record { root = top; key = key }) owner in
-        ((λ e. elim (or_parts (is_owner t k (record { root = top; key = key })) (belongs_to xs top t k) (sym step ∙ sym here ∙ e)) as (λ _. ((t ≡ top) × (k ≡ key)) ⊎ (f.belongs top t k ≡ true)) [
-          | inl is ↦ let o = owner_is t k (record { root = top; key = key }) is in inl (sym o.0, sym o.1)
-          | inr above ↦ inr (there ∙ above)
-        ]), (λ e. here ∙ step ∙ back t k e there));
+        let step = belongs_step xs low c t k (record { root = top; key = key }) owner in (
+          (λ e. elim (or_parts (is_owner t k (record { root = top; key = key })) (belongs_to xs top t k) (sym step ∙ sym here ∙ e)) as (λ _. ((t ≡ top) × (k ≡ key)) ⊎ (f.belongs top t k ≡ true)) [
+            | inl is ↦ let o = owner_is t k (record { root = top; key = key }) is in inl (sym o.0, sym o.1)
+            | inr above ↦ inr (there ∙ above)
+          ]),
+          (λ e. here ∙ step ∙ back t k e there),
+        );
   }
     where
       back : (t k : ℕ) → ((t ≡ top) × (k ≡ key)) ⊎ (f.belongs top t k ≡ true) → f.belongs top t k ≡ belongs_to xs top t k → (is_owner t k (record { root = top; key = key }) || belongs_to xs top t k) ≡ true

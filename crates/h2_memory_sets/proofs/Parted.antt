@@ -1,5 +1,5 @@
 -- What stands of the nodes of inodes, once a node took over a part of another.
-use Rattle.std.proofs.Common.{◌≡◌, ℕ, ◌<◌, ◌≤◌, Bool, true, false, arith, refl, cond, sym, ◌∙◌, ap, List, [], length, Option, Some, None, subst, ◌⊎◌, inl, inr, slice_get, slice_set, nat_eq}
+use Rattle.std.proofs.Common.{◌≡◌, ℕ, ◌<◌, Bool, true, false, arith, refl, cond, sym, ◌∙◌, ap, List, [], length, Option, Some, None, subst, ◌⊎◌, inl, inr, slice_get, nat_eq}
 use Rattle.std.proofs.lemmas.Bool.{cases_lt}
 use Rattle.std.proofs.lemmas.Option.{none-some, slice_get_within}
 use Rattle.h2_ref.specs.declared.reference.Ref.{Ref}

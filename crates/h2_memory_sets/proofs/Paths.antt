@@ -1,7 +1,7 @@
 -- Loaded paths in a forest of which no set has changed.
-use Rattle.std.proofs.Common.{◌≡◌, ℕ, true, sym, ◌∙◌, ap, List, Option, Some, slice_get}
+use Rattle.std.proofs.Common.{◌≡◌, ℕ, true, sym, ◌∙◌, ap, List, Option, slice_get}
 use Rattle.h2_ref.specs.declared.reference.Ref.{Ref}
-use Rattle.h2_set.specs.Forest.{Forest, refs, loaded, IsSound, HasOwner, Reaches, nowhere, here, below}
+use Rattle.h2_set.specs.Forest.{Forest, refs, IsSound, HasOwner, Reaches, nowhere, here, below}
 
 -- where each node has the same references, and the same below them, its paths lead to the same
 pub reaches_same : (f g : Forest) → IsSound f → ((n : ℕ) → f.stands n ≡ true → refs g n ≡ refs f n) → ((n k : ℕ) → f.stands n ≡ true → g.link n k ≡ f.link n k) → {key at : ℕ} {o : Option Ref} → f.stands at ≡ true → Reaches f key at o → Reaches g key at o

@@ -1,12 +1,12 @@
 -- A new inode that may be planted has references that may stand in its root.
-use Rattle.std.proofs.Common.{◌≡◌, ℕ, ◌+◌, ◌%◌, ◌<◌, ◌≤◌, ◌^◌, Bool, true, false, arith, refl, sym, ◌∙◌, ap, List, [], Option, Some, None, subst, ◌⊎◌, inl, inr, slice_get, length, suc, zero}
+use Rattle.std.proofs.Common.{◌≡◌, ℕ, ◌+◌, ◌%◌, ◌<◌, ◌≤◌, ◌^◌, true, false, arith, refl, sym, ◌∙◌, ap, List, Some, subst, ◌⊎◌, inl, inr, slice_get, suc, zero}
 use Rattle.std.proofs.lemmas.Option.{none-some}
 use Rattle.h2_ref.specs.declared.reference.Kind.{Kind}
 use Rattle.h2_ref.specs.declared.reference.Kind.TheVariants.{Empty, Inode as Inode_kind, Indirect, Content, Dirent, MapNode, MapLeaf}
 use Rattle.h2_ref.specs.declared.reference.Ref.{Ref}
-use Rattle.h2_ref.specs.Ref.{IsValid, FitsRow, method_number}
+use Rattle.h2_ref.specs.Ref.{FitsRow, method_number}
 use Rattle.h2_ref.specs.Table.{row_of}
-use Rattle.h2_set.specs.Ranges.{limit, is_indirect, leads_on, IsAligned}
+use Rattle.h2_set.specs.Ranges.{limit, is_indirect, leads_on}
 use Rattle.h2_set.specs.RefSet.{RefSet, IsRefSet}
 use Rattle.h2_set.specs.SetBytes.{IsHeld}
 use Rattle.h2_set.specs.ValidLaws.{valid_limit}
@@ -19,10 +19,9 @@ use Rattle.h2_inode.specs.declared.inode.Inode.{Inode}
 use Rattle.h2_inode.specs.Block.{refs_of_body}
 use Rattle.h2_inode.specs.Inode.{keys_from, keys_end, IsLeafOf, IsPartOf, IsRootSet, BodyFits}
 use Rattle.h2_inode.specs.Nodes.{leaf_kind, leaf_keybits, set_of as set_of_body, IsPlantable}
-use Rattle.h2_memory_sets.specs.declared.node.Node.{Node}
 use Rattle.h2_memory_sets.specs.declared.node.Owner.{Owner}
 use Rattle.h2_memory_sets.specs.Inodes.{inode_node}
-use Rattle.h2_memory_sets.specs.Owners.{allows_of, inode_allows}
+use Rattle.h2_memory_sets.specs.Owners.{inode_allows}
 use Rattle.h2_memory_sets.specs.View.{FitsBelow, range_of}
 use Rattle.h2_memory_sets.proofs.Coming.{IsFitRoot}
 use Rattle.h2_memory_sets.proofs.Fitting.{read_all}

@@ -1,9 +1,9 @@
 -- A new root of an inode, which a leaf names.
-use Rattle.std.proofs.Common.{◌≡◌, ◌+◌, ◌≤◌, ◌<◌, ℕ, List, [], ◌∷◌, ◌++◌, Option, Some, None, true, false, length, slice_get, refl, sym, ap, arith, subst, inl, inr, ◌∙◌}
+use Rattle.std.proofs.Common.{◌≡◌, ◌+◌, ◌≤◌, ℕ, List, [], ◌∷◌, ◌++◌, Option, Some, true, length, slice_get, refl, sym, ap, arith, subst, ◌∙◌}
 use Rattle.std.proofs.lemmas.List.{length-append}
 use Rattle.h2_ref.specs.declared.faults.Why.{Why}
 use Rattle.h2_ref.specs.declared.reference.Ref.{Ref}
-use Rattle.h2_set.specs.Forest.{Forest, IsSound, KeepsBeside}
+use Rattle.h2_set.specs.Forest.{IsSound, KeepsBeside}
 use Rattle.h2_set.specs.RefSet.{IsRefSet}
 use Rattle.h2_inode.specs.declared.inode.Inode.{Inode}
 use Rattle.h2_inode.specs.Nodes.{IsInodeLeaf, IsUnloaded, IsPlantable, Plants, HasInode, held_by, set_of as set_of_body}
@@ -20,7 +20,6 @@ use Rattle.h2_memory_sets.proofs.Inoded.{has_inode}
 use Rattle.h2_memory_sets.proofs.Named.{named_by}
 use Rattle.h2_memory_sets.proofs.Nodes.{is_there}
 use Rattle.h2_memory_sets.proofs.Owned.{are_lower}
-use Rattle.h2_memory_sets.proofs.Parting.{one_of}
 use Rattle.h2_memory_sets.proofs.Plantable.{planted_fits}
 
 -- what the call that plants an inode does

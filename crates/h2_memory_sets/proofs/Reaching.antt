@@ -1,21 +1,18 @@
 -- The leaves to which nodes belong, once another set is stored, and all that storing leaves.
-use Rattle.std.proofs.Common.{◌≡◌, ℕ, ◌+◌, ◌<◌, ◌≤◌, ◌^◌, Bool, true, false, arith, refl, sym, ◌∙◌, ap, length, Option, Some, None, subst, ◌⊎◌, inl, inr, slice_get, nat_eq}
-use Rattle.std.proofs.lemmas.Bool.{cases_lt}
+use Rattle.std.proofs.Common.{◌≡◌, ℕ, true, false, arith, refl, sym, ◌∙◌, ap, Option, Some, None, subst, ◌⊎◌, inl, inr, slice_get, nat_eq}
 use Rattle.std.proofs.lemmas.Nat.{pow_pos}
 use Rattle.h2_ref.specs.declared.reference.Ref.{Ref}
 use Rattle.h2_ref.specs.declared.reference.Kind.TheVariants.{Inode}
-use Rattle.h2_set.specs.Ranges.{Rising, holds, is_indirect}
-use Rattle.h2_set.specs.RefSet.{RefSet, IsRefSet}
-use Rattle.h2_set.specs.Forest.{Forest, refs, loaded, untold, IsSound, IsSoundNode, IsChild, NamesBelow, HasParent, HasOwner, Fits, Fixed, Same, Loses, GoesBelow, GoesWith, Reaches, nowhere, here, below, Stores}
+use Rattle.h2_set.specs.Ranges.{holds, is_indirect}
+use Rattle.h2_set.specs.RefSet.{RefSet}
+use Rattle.h2_set.specs.Forest.{Forest, refs, loaded, IsSound, IsSoundNode, HasOwner, Fixed, Same, GoesBelow, GoesWith, Reaches, nowhere, here, below, Stores}
 use Rattle.h2_set.specs.ChangeLaws.{same_or_not}
-use Rattle.h2_set.specs.LeafLaws.{holds_inside, place_above}
-use Rattle.h2_set.specs.SplitLaws.{below_high}
-use Rattle.h2_memory_sets.specs.View.{names, names_same, any_of}
-use Rattle.h2_memory_sets.proofs.Lists.{names_below, below_names, same_key}
-use Rattle.h2_memory_sets.proofs.Nesting.{in_holds, same_holder, meet, link_of, clash, one_range, leads_to, few_bits}
+use Rattle.h2_memory_sets.specs.View.{names_same, any_of}
+use Rattle.h2_memory_sets.proofs.Lists.{same_key}
+use Rattle.h2_memory_sets.proofs.Nesting.{in_holds}
 use Rattle.h2_memory_sets.proofs.Parting.{alike, one_of}
 use Rattle.h2_memory_sets.proofs.Passing.{any_true, any_some, and_parts, same_named, one_sort}
-use Rattle.h2_memory_sets.proofs.Settled.{Loose, KeepsRules, stood, child_in, placed, same_node, same_all, same_top, sound_of}
+use Rattle.h2_memory_sets.proofs.Settled.{stood, same_all, same_top, sound_of}
 use Rattle.h2_memory_sets.proofs.Storing.{DiffersByStore, Suits, tested, refs_here, not_goes, at_now, now_stays, kid_stays, link_same, not_below, root_now, near_stays, kept, here_node, other_node, parent_now, held_now}
 
 module _ (f g : Forest) (at : ℕ) (s : RefSet) (d : DiffersByStore f g at s) (sound : IsSound f) (stands : f.stands at ≡ true) (suits : Suits f g at s) where

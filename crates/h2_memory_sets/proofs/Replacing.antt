@@ -1,6 +1,5 @@
 -- What another inode leaves of a root.
-use Rattle.std.proofs.Common.{◌≡◌, ℕ, ◌+◌, ◌<◌, ◌≤◌, ◌^◌, Bool, true, false, ◌&&◌, arith, refl, sym, ◌∙◌, ap, List, [], Option, Some, None, subst, ◌⊎◌, inl, inr, slice_get, slice_set}
-use Rattle.std.specs.Prelude.{◌↔◌}
+use Rattle.std.proofs.Common.{◌≡◌, ℕ, ◌+◌, ◌<◌, ◌≤◌, ◌^◌, true, false, arith, refl, sym, ◌∙◌, ap, List, Option, Some, subst, inl, inr, slice_get, slice_set}
 use Rattle.std.proofs.lemmas.Option.{none-some}
 use Rattle.std.proofs.lemmas.Nat.{pow_pos}
 use Rattle.h2_ref.specs.declared.faults.Why.{Why}
@@ -8,23 +7,21 @@ use Rattle.h2_ref.specs.declared.reference.Kind.TheVariants.{Inode as Inode_kind
 use Rattle.h2_ref.specs.declared.reference.Ref.{Ref}
 use Rattle.h2_set.specs.Ranges.{is_indirect}
 use Rattle.h2_set.specs.RefSet.{RefSet}
-use Rattle.h2_set.specs.Forest.{Forest, refs, IsSound, Fits, GoesBelow}
+use Rattle.h2_set.specs.Forest.{Forest, IsSound, Fits, GoesBelow}
 use Rattle.h2_set.specs.ChangeLaws.{same_or_not}
-use Rattle.h2_inode.specs.declared.kind.InodeKind.{InodeKind}
 use Rattle.h2_inode.specs.declared.inode.Body.{Body}
 use Rattle.h2_inode.specs.declared.inode.Body.TheVariants.{Refs, Bytes}
 use Rattle.h2_inode.specs.declared.inode.Inode.{Inode}
 use Rattle.h2_inode.specs.Inode.{keys_from}
-use Rattle.h2_inode.specs.Nodes.{Fields, fields_of, held_by, leaf_kind, leaf_keybits, set_of as set_of_body, HasInode, FitsIn, MayHave, Replaceable, Replaces, KeepsOthersBeside}
+use Rattle.h2_inode.specs.Nodes.{Fields, fields_of, held_by, leaf_kind, leaf_keybits, set_of as set_of_body, HasInode, MayHave, Replaceable, Replaces, KeepsOthersBeside}
 use Rattle.h2_memory_sets.specs.declared.node.Node.{Node}
-use Rattle.h2_memory_sets.specs.declared.node.Owner.{Owner}
 use Rattle.h2_memory_sets.specs.Inodes.{fields_seen, with_inode}
-use Rattle.h2_memory_sets.specs.Kept.{is_known, AreKept, IsRootOf}
+use Rattle.h2_memory_sets.specs.Kept.{AreKept, IsRootOf}
 use Rattle.h2_memory_sets.specs.Owners.{inode_allows, allowed_by, allows_of, beside_of}
-use Rattle.h2_memory_sets.specs.View.{stands_of, set_of, root_of, low_of, bits_of, leaf_bits_of, forest_with, dropped, dropped_all, AllRooted}
+use Rattle.h2_memory_sets.specs.View.{stands_of, root_of, low_of, bits_of, leaf_bits_of, forest_with, dropped, dropped_all, AllRooted}
 use Rattle.h2_memory_sets.proofs.Drops.{given, dropped_with, at_here, own_stays, kept_drop}
 use Rattle.h2_memory_sets.proofs.Inoded.{emptied, has_inode, inode_there, may_have, fields_kept}
-use Rattle.h2_memory_sets.proofs.Losing.{roots, differs_by_store, rooted_dropped, other_stays}
+use Rattle.h2_memory_sets.proofs.Losing.{differs_by_store, rooted_dropped, other_stays}
 use Rattle.h2_memory_sets.proofs.Nesting.{few_bits, leads_to, in_holds}
 use Rattle.h2_memory_sets.proofs.Parting.{one_of, get_map}
 use Rattle.h2_memory_sets.proofs.Reaching.{still, others, gone}

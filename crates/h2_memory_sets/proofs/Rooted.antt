@@ -1,16 +1,15 @@
 -- The root of each loaded node is loaded, whatever is done.
-use Rattle.std.proofs.Common.{◌≡◌, ℕ, Bool, true, false, ◌&&◌, ◌||◌, nat_eq, arith, refl, sym, ◌∙◌, ap, List, [], ◌∷◌, ◌++◌, length, Option, Some, None, subst, inl, inr, slice_get, slice_set, suc, zero}
+use Rattle.std.proofs.Common.{◌≡◌, ℕ, Bool, true, false, ◌&&◌, ◌||◌, nat_eq, refl, sym, ◌∙◌, ap, List, [], ◌∷◌, ◌++◌, length, Option, Some, None, subst, inl, inr, slice_get, slice_set, suc, zero}
 use Rattle.std.specs.Prelude.{map}
 use Rattle.std.proofs.lemmas.Bool.{cases_lt}
 use Rattle.std.proofs.lemmas.Option.{slice_get_within, slice_get_past}
 use Rattle.h2_ref.specs.declared.reference.Ref.{Ref}
 use Rattle.h2_set.specs.RefSet.{RefSet}
 use Rattle.h2_set.specs.ChangeLaws.{same_or_not}
-use Rattle.h2_memory_sets.specs.declared.node.KeyClass.{KeyClass}
 use Rattle.h2_memory_sets.specs.declared.node.Node.{Node}
-use Rattle.h2_memory_sets.specs.View.{stands_of, root_of, copies_of, is_up, is_bare, is_top, AllRooted, IsLoadable, brought, with_set, moved, moved_up, parted, top_node, unloaded, unloaded_all}
+use Rattle.h2_memory_sets.specs.View.{stands_of, root_of, copies_of, is_up, is_bare, is_top, AllRooted, IsLoadable, brought, with_set, moved, moved_up, parted, unloaded, unloaded_all}
 use Rattle.h2_memory_sets.proofs.Nodes.{get_set, get_set_other, field_stays}
-use Rattle.h2_memory_sets.proofs.Parting.{at_new, at_here, at_other, past, item_at, get_append, get_last, get_none}
+use Rattle.h2_memory_sets.proofs.Parting.{at_new, at_here, at_other, past, item_at, get_append, get_none}
 use Rattle.h2_memory_sets.proofs.Bringing.{away_parts, brought_is}
 
 -- a top stands

@@ -1,18 +1,8 @@
 -- A root that is added.
-use Rattle.std.proofs.Common.{◌≡◌, ℕ, ◌+◌, ◌%◌, ◌≤◌, ◌^◌, true, false, arith, refl, cond, sym, ◌∙◌, ap, List, [], ◌∷◌, ◌++◌, length, Option, Some, subst, inl, inr, slice_get}
-use Rattle.std.proofs.lemmas.Option.{none-some, slice_get_past}
-use Rattle.h2_ref.specs.declared.faults.Why.{Why}
+use Rattle.std.proofs.Common.{◌≡◌, ℕ, ◌+◌, ◌≤◌, true, cond, sym, ◌∙◌, ap}
 use Rattle.h2_ref.specs.declared.reference.Ref.{Ref}
 use Rattle.h2_set.specs.RefSet.{RefSet}
-use Rattle.h2_set.specs.Forest.{Forest, refs, loaded, untold, IsSound, IsSoundNode, Same, HasParent}
-use Rattle.h2_set.specs.ChangeLaws.{same_or_not}
-use Rattle.h2_memory_sets.specs.declared.node.KeyClass.{KeyClass}
-use Rattle.h2_memory_sets.specs.declared.node.KeyClass.TheVariants.{Low, High}
-use Rattle.h2_memory_sets.specs.declared.node.Node.{Node}
-use Rattle.h2_memory_sets.specs.View.{stands_of, set_of, root_of, low_of, bits_of, writable_of, copies_of, leaf_bits_of, is_child, is_top, link_of, forest_with, first_key, top_node, AllRooted}
-use Rattle.h2_memory_sets.specs.Roots.{AddsRoot}
-use Rattle.h2_memory_sets.proofs.Parting.{first_push, get_last}
-use Rattle.h2_memory_sets.proofs.Rooted.{get_push}
+use Rattle.h2_set.specs.Forest.{Forest, refs, loaded, IsSoundNode}
 
 -- what two forests say of a node, but for what is below it
 pub record Places (f g : Forest) (m : ℕ) : Type 0 where

@@ -1,9 +1,9 @@
 -- The root that a leaf names, where it is loaded already, or is loaded now.
-use Rattle.std.proofs.Common.{◌≡◌, ◌+◌, ◌%◌, ◌≤◌, ◌<◌, ◌^◌, ℕ, Bool, ◌&&◌, List, [], ◌∷◌, Option, Some, None, true, false, length, slice_get, slice_set, nat_eq, refl, sym, ap, arith, subst, inl, inr, ◌∙◌}
+use Rattle.std.proofs.Common.{◌≡◌, ◌+◌, ◌%◌, ◌≤◌, ◌^◌, ℕ, ◌&&◌, List, [], ◌∷◌, Option, Some, None, true, false, length, slice_get, slice_set, refl, sym, ap, arith, subst, inr, ◌∙◌}
 use Rattle.std.specs.List.{position}
 use Rattle.std.proofs.Math.ListN.{length-set}
 use Rattle.std.proofs.lemmas.List.Quantifiers.{position-Some}
-use Rattle.std.proofs.lemmas.Option.{slice_get-get_or, slice_get_within}
+use Rattle.std.proofs.lemmas.Option.{slice_get-get_or}
 use Rattle.h2_ref.specs.declared.faults.Why.{Why}
 use Rattle.h2_ref.specs.declared.reference.Ref.{Ref}
 use Rattle.h2_set.specs.Forest.{Forest, IsSound, KeepsBeside, Same}
@@ -11,13 +11,13 @@ use Rattle.h2_set.specs.StayLaws.{InPlace-refl}
 use Rattle.h2_inode.specs.declared.inode.Inode.{Inode}
 use Rattle.h2_inode.specs.Inode.{IsInode}
 use Rattle.h2_inode.specs.NamedLaws.{inode_one}
-use Rattle.h2_inode.specs.Nodes.{IsInodeLeaf, IsUnloaded, IsNamed, Seeks, HasInode, held_by, Fields}
+use Rattle.h2_inode.specs.Nodes.{IsInodeLeaf, IsUnloaded, IsNamed, Seeks, HasInode, held_by}
 use Rattle.h2_memory_sets.specs.declared.node.Node.{Node}
 use Rattle.h2_memory_sets.specs.declared.node.Owner.{Owner}
-use Rattle.h2_memory_sets.specs.Inodes.{owned_by, is_sought, sought, fields_seen, IsSought, IsRootNode}
-use Rattle.h2_memory_sets.specs.Kept.{AreKept, IsRootOf, IsNamedRoot, is_known}
+use Rattle.h2_memory_sets.specs.Inodes.{owned_by, is_sought, sought, fields_seen, IsSought}
+use Rattle.h2_memory_sets.specs.Kept.{AreKept, IsRootOf, is_known}
 use Rattle.h2_memory_sets.specs.Owners.{beside_of, owner_of}
-use Rattle.h2_memory_sets.specs.View.{AllRooted, forest_with, stands_of, root_of, FitsBelow, range_of}
+use Rattle.h2_memory_sets.specs.View.{AllRooted, forest_with, stands_of, root_of}
 use Rattle.h2_memory_sets.proofs.Arrived.{rooted_arrives, kept_arrives, beside_arrives}
 use Rattle.h2_memory_sets.proofs.Arriving.{loaded_root, seeks, none_named}
 use Rattle.h2_memory_sets.proofs.Coming.{Comes, IsFitRoot}

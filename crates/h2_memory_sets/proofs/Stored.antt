@@ -1,12 +1,12 @@
 -- What storing a set leaves.
-use Rattle.std.proofs.Common.{◌≡◌, ℕ, ◌<◌, Bool, true, false, ◌&&◌, arith, refl, sym, ◌∙◌, ap, List, [], ◌∷◌, Option, Some, None, subst, slice_get, slice_set}
+use Rattle.std.proofs.Common.{◌≡◌, ℕ, Bool, true, false, arith, refl, sym, ◌∙◌, ap, List, [], ◌∷◌, Option, Some, None, subst, slice_get, slice_set}
 use Rattle.h2_ref.specs.declared.faults.Why.{Why}
 use Rattle.h2_ref.specs.declared.reference.Kind.{Kind}
 use Rattle.h2_ref.specs.declared.reference.Kind.TheVariants.{Empty, Inode as Inode_kind, Indirect, Content, Dirent, MapNode, MapLeaf}
 use Rattle.h2_ref.specs.declared.reference.Ref.{Ref}
 use Rattle.h2_set.specs.Ranges.{is_indirect}
 use Rattle.h2_set.specs.RefSet.{RefSet}
-use Rattle.h2_set.specs.Forest.{Forest, refs, Fixed, IsSound, KeepsBeside, Reaches, nowhere, here, below, Storable, Stores}
+use Rattle.h2_set.specs.Forest.{Forest, Fixed, IsSound, KeepsBeside, Reaches, nowhere, here, below, Storable, Stores}
 use Rattle.h2_inode.specs.declared.kind.InodeKind.{InodeKind}
 use Rattle.h2_inode.specs.declared.kind.InodeKind.TheVariants.{Directory, File, Pfs}
 use Rattle.h2_inode.specs.declared.inode.Body.{Body}
@@ -19,7 +19,7 @@ use Rattle.h2_memory_sets.specs.declared.node.Node.{Node}
 use Rattle.h2_memory_sets.specs.Kept.{AreKept, IsRootOf}
 use Rattle.h2_memory_sets.specs.Owners.{is_leaf_of, is_plain, inode_allows, allowed_by, allows_of, beside_of, refit}
 use Rattle.h2_memory_sets.specs.View.{stands_of, set_of, root_of, with_set, forest_with, dropped, dropped_all, AllRooted}
-use Rattle.h2_memory_sets.proofs.Drops.{given, dropped_with, own_stays, kept_drop}
+use Rattle.h2_memory_sets.proofs.Drops.{dropped_with, own_stays, kept_drop}
 use Rattle.h2_memory_sets.proofs.Keeping.{refit_allows, refit_twice, refit_known, refit_root}
 use Rattle.h2_memory_sets.proofs.Losing.{roots, differs_by_store, rooted_dropped, stays_field}
 use Rattle.h2_memory_sets.proofs.Nodes.{fixed_of}

@@ -1,21 +1,19 @@
 -- Another set in one node, and what is below references that it lacks gone.
-use Rattle.std.proofs.Common.{◌≡◌, ℕ, ◌+◌, ◌<◌, ◌≤◌, ◌^◌, Bool, true, false, arith, refl, sym, ◌∙◌, ap, length, Option, Some, None, subst, ◌⊎◌, inl, inr, slice_get, nat_eq}
+use Rattle.std.proofs.Common.{◌≡◌, ℕ, ◌+◌, ◌<◌, ◌≤◌, ◌^◌, Bool, true, false, arith, refl, sym, ◌∙◌, ap, length, Some, subst, ◌⊎◌, inl, inr, slice_get}
 use Rattle.std.proofs.lemmas.Bool.{cases_lt}
 use Rattle.std.proofs.lemmas.Nat.{pow_pos}
 use Rattle.h2_ref.specs.declared.reference.Ref.{Ref}
 use Rattle.h2_ref.specs.declared.reference.Kind.TheVariants.{Inode}
 use Rattle.h2_set.specs.Ranges.{Rising, holds, is_indirect}
 use Rattle.h2_set.specs.RefSet.{RefSet, IsRefSet}
-use Rattle.h2_set.specs.Forest.{Forest, refs, loaded, untold, IsSound, IsSoundNode, IsChild, NamesBelow, HasParent, HasOwner, Fits, Fixed, Same, Loses, GoesBelow, GoesWith, Reaches, nowhere, here, below, Stores}
+use Rattle.h2_set.specs.Forest.{Forest, refs, loaded, untold, IsSound, IsSoundNode, NamesBelow, HasParent, Fits, Loses, GoesBelow, GoesWith}
 use Rattle.h2_set.specs.ChangeLaws.{same_or_not}
 use Rattle.h2_set.specs.LeafLaws.{holds_inside, place_above}
 use Rattle.h2_set.specs.SplitLaws.{below_high}
-use Rattle.h2_memory_sets.specs.View.{names, names_same, any_of}
-use Rattle.h2_memory_sets.proofs.Lists.{names_below, below_names, same_key}
+use Rattle.h2_memory_sets.specs.View.{names}
+use Rattle.h2_memory_sets.proofs.Lists.{names_below, below_names}
 use Rattle.h2_memory_sets.proofs.Nesting.{in_holds, same_holder, meet, link_of, clash, one_range, leads_to, few_bits}
-use Rattle.h2_memory_sets.proofs.Parting.{alike, one_of}
-use Rattle.h2_memory_sets.proofs.Passing.{any_true, any_some, and_parts, same_named, one_sort}
-use Rattle.h2_memory_sets.proofs.Settled.{Loose, KeepsRules, child_in, placed, same_node, same_all, same_top, sound_of}
+use Rattle.h2_memory_sets.proofs.Settled.{Loose, KeepsRules, child_in, placed, same_node}
 
 -- Two forests that differ in the set of one node, and in nodes that stand no longer. A node belongs to what its root
 -- belongs to, and to what that does which the leaf is in.
@@ -217,12 +215,12 @@ module _ (f g : Forest) (at : ℕ) (s : RefSet) (d : DiffersByStore f g at s) (s
         not_goes c kid.stands (λ why. elim why as (λ _. ⊥) [
           | inr w ↦ w.other kid.root
           | inl goes ↦
-        let old = suits.stood i r read ind in
-        let pos = pow_pos r.keybits in
-        let low : f.low c ≡ r.key = kid.low in
-        let in_r = in_holds (f.low c) r (omega (arith, low)) (omega (arith, low, pos)) in
-        let same = same_holder _ _ (refs f at) old.0 goes.loses.place (f.low c) r goes.loses.lost node.inside old.1 goes.loses.was in_r goes.loses.held in
-        goes.loses.lacks i r read (ap (λ (z : Ref). z.key) same) (ap (λ (z : Ref). is_indirect z) same)
+              let old = suits.stood i r read ind in
+              let pos = pow_pos r.keybits in
+              let low : f.low c ≡ r.key = kid.low in
+              let in_r = in_holds (f.low c) r (omega (arith, low)) (omega (arith, low, pos)) in
+              let same = same_holder _ _ (refs f at) old.0 goes.loses.place (f.low c) r goes.loses.lost node.inside old.1 goes.loses.was in_r goes.loses.held in
+              goes.loses.lacks i r read (ap (λ (z : Ref). z.key) same) (ap (λ (z : Ref). is_indirect z) same)
         ])
 
     -- what is below a reference that stays

@@ -1,14 +1,12 @@
 -- The root of a tree without an inode, at the end of a vector.
-use Rattle.std.proofs.Common.{◌≡◌, ℕ, ◌+◌, ◌%◌, ◌<◌, ◌≤◌, ◌^◌, Bool, true, false, not, arith, refl, cond, sym, ◌∙◌, ap, List, [], ◌∷◌, ◌++◌, length, Option, Some, None, subst, ◌⊎◌, inl, inr, slice_get}
+use Rattle.std.proofs.Common.{◌≡◌, ℕ, ◌+◌, ◌%◌, ◌≤◌, ◌^◌, true, false, arith, refl, sym, ◌∙◌, ap, List, [], ◌∷◌, ◌++◌, length, Option, None, subst, inl, slice_get}
 use Rattle.std.specs.Prelude.{◌↔◌}
 use Rattle.std.proofs.lemmas.List.{length-append}
 use Rattle.std.proofs.lemmas.Option.{none-some, slice_get_past}
 use Rattle.h2_ref.specs.declared.faults.Why.{Why}
 use Rattle.h2_ref.specs.declared.reference.Kind.{Kind}
 use Rattle.h2_ref.specs.declared.reference.Kind.TheVariants.{Empty, Inode as Inode_kind, Indirect, Content, Dirent, MapNode, MapLeaf}
-use Rattle.h2_ref.specs.declared.reference.Ref.{Ref}
 use Rattle.h2_set.specs.Forest.{Forest, IsSound, KeepsBeside}
-use Rattle.h2_set.specs.ChangeLaws.{same_or_not}
 use Rattle.h2_set.specs.SetBytes.{IsHeld}
 use Rattle.h2_inode.specs.declared.kind.InodeKind.TheVariants.{Pfs}
 use Rattle.h2_memory_sets.specs.declared.node.KeyClass.{KeyClass}
@@ -19,11 +17,11 @@ use Rattle.h2_memory_sets.specs.declared.node.Node.{Node}
 use Rattle.h2_memory_sets.specs.Kept.{AreKept}
 use Rattle.h2_memory_sets.specs.Owners.{owner_of, belongs_to, beside_of, held_of, allows_of, tree_allows, is_plain}
 use Rattle.h2_memory_sets.specs.Roots.{IsTreeRoot, AddsRoot, AddsSuperRoot}
-use Rattle.h2_memory_sets.specs.View.{stands_of, set_of, root_of, low_of, bits_of, writable_of, copies_of, leaf_bits_of, forest_with, first_key, top_node, AllRooted}
+use Rattle.h2_memory_sets.specs.View.{stands_of, set_of, root_of, low_of, bits_of, writable_of, leaf_bits_of, forest_with, first_key, top_node, AllRooted}
 use Rattle.h2_memory_sets.proofs.Arrived.{rooted_arrives, kept_plain, beside_arrives}
 use Rattle.h2_memory_sets.proofs.Arriving.{pushed}
-use Rattle.h2_memory_sets.proofs.Coming.{Comes, IsFitRoot, HasPath, sound_now, same, held, link_here, stands, root}
-use Rattle.h2_memory_sets.proofs.Inoded.{kind_allows, leaf_is}
+use Rattle.h2_memory_sets.proofs.Coming.{Comes, IsFitRoot, HasPath, sound_now, same, held, link_here}
+use Rattle.h2_memory_sets.proofs.Inoded.{kind_allows}
 use Rattle.h2_memory_sets.proofs.Owned.{are_lower, belongs_none}
 
 keys_aligned : (keys : KeyClass) → first_key keys % 2 ^ 63 ≡ 0

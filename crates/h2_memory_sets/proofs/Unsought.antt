@@ -1,12 +1,11 @@
 -- Nodes whose tree a leaf names, once they are unloaded.
-use Rattle.std.proofs.Common.{◌≡◌, ℕ, ◌<◌, ◌≤◌, Bool, true, false, ◌&&◌, ◌||◌, arith, refl, cond, sym, ◌∙◌, ap, List, [], ◌∷◌, length, Option, Some, None, subst, ◌⊎◌, inl, inr, slice_get, suc, zero, nat_eq}
+use Rattle.std.proofs.Common.{◌≡◌, ℕ, Bool, true, false, ◌&&◌, ◌||◌, arith, refl, sym, ◌∙◌, ap, List, [], ◌∷◌, Option, Some, None, slice_get, suc, zero, nat_eq}
 use Rattle.std.specs.Prelude.{map}
 use Rattle.std.specs.List.{position}
 use Rattle.std.proofs.lemmas.Bool.Decides.{nat_tests}
 use Rattle.std.proofs.lemmas.List.{length-map}
 use Rattle.h2_ref.specs.declared.faults.Why.{Why}
-use Rattle.h2_ref.specs.declared.reference.Ref.{Ref}
-use Rattle.h2_set.specs.Forest.{Forest, loaded, IsSound, InPlace, Same, HasParent}
+use Rattle.h2_set.specs.Forest.{Forest, loaded, IsSound, Same}
 use Rattle.h2_set.specs.StayLaws.{Fixed-refl}
 use Rattle.h2_memory_sets.specs.declared.node.Node.{Node}
 use Rattle.h2_memory_sets.specs.declared.node.Owner.{Owner}

@@ -16,7 +16,7 @@ use Rattle.h2_memory_sets.specs.declared.node.KeyClass.TheVariants.{Low, High}
 use Rattle.h2_memory_sets.specs.declared.node.Leaves.{Leaves}
 use Rattle.h2_memory_sets.specs.declared.node.Leaves.TheVariants.{Any}
 use Rattle.h2_memory_sets.specs.declared.node.Owner.{Owner}
-use Rattle.h2_memory_sets.specs.Owners.{owner_of, on_chain, belongs_to, refit, allows_of, held_of}
+use Rattle.h2_memory_sets.specs.Owners.{on_chain, belongs_to, refit, allows_of, held_of}
 
 -- the fields of a node, or what stands for them where there is none
 abbrev pub stands_of : Option Node → Bool

@@ -65,8 +65,7 @@ fn is_dropped(nodes: &[Node], i: usize, root: u32, bits: u8, old: &Set, new: &Se
     ensures { (x : Node) → slice_get nodes.now i ≡ Some x → result ≡ (goes root bits old.now.refs new.now.refs x || goes_with nodes.now root old.now.refs new.now.refs x.root) }
 {
     let x = &nodes[i];
-    goes(x, root, bits, old, new)
-        || is_over_lost(nodes, x.root as u64 + 1, x.root, root, old, new)
+    goes(x, root, bits, old, new) || is_over_lost(nodes, x.root as u64 + 1, x.root, root, old, new)
 }
 
 // Lets a node stand no longer, nor be loaded again, where it is dropped.

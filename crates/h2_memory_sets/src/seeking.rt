@@ -6,10 +6,10 @@ ghost use Rattle.h2_memory_sets.specs.View.{FitsBelow, range_of};
 ghost use Rattle.h2_set.specs.RefSet.{IsRefSet};
 ghost use Rattle.h2_memory_sets.specs.Inodes.{owned_by, is_sought, sought, IsSought, IsRootNode};
 
+use crate::altering::range_of;
 use crate::judging::{fits_below, is_due};
 use crate::node::Node;
 use crate::roots::ROOT_CAPACITY;
-use crate::altering::range_of;
 use crate::searching::find_below;
 use crate::spelling::is_inode;
 use h2_inode::Inode;

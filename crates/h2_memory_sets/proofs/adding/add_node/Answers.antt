@@ -2,7 +2,7 @@ use Rattle.std.proofs.Common.{List, [], ◌∷◌, ◌++◌, length, take, drop,
 use Rattle.std.proofs.Math.Seq.{take-append_seam}
 use Rattle.std.proofs.lemmas.Option.{slice_get_read}
 use Rattle.h2_memory_sets.specs.declared.node.Node.{Node}
-use Rattle.h2_memory_sets.specs.View.{moved_all, with_set, new_node}
+use Rattle.h2_memory_sets.specs.View.{moved_all, new_node}
 use Rattle.h2_memory_sets.proofs.Nodes.{parted_is}
 use Rattle.h2_memory_sets.proofs.adding.add_node.Goals as goal
 

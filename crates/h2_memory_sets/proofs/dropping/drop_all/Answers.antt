@@ -1,4 +1,4 @@
-use Rattle.std.proofs.Common.{◌≡◌, ◌<◌, ◌||◌, ℕ, Bool, true, false, Some, arith, cond, length, slice_get, List, slice_set, refl, sym, ap, suc, ◌∙◌}
+use Rattle.std.proofs.Common.{◌≡◌, ◌<◌, ◌||◌, arith, cond, length, List, slice_set, refl, sym, ap, suc, ◌∙◌}
 use Rattle.std.proofs.lemmas.List.Edits.{map_over_more}
 use Rattle.std.proofs.lemmas.Option.{slice_get_read}
 use Rattle.h2_set.specs.RefSet.{RefSet}

@@ -1,8 +1,8 @@
-use Rattle.std.proofs.Common.{ℕ, slice_get, sym, ap, ◌∙◌, subst, Option, slice_index_or}
+use Rattle.std.proofs.Common.{slice_get, sym, ap, ◌∙◌, subst, Option, slice_index_or}
 use Rattle.std.proofs.lemmas.Option.{slice_get-get_or}
 use Rattle.std.proofs.lemmas.List.Quantifiers.{position-Some}
 use Rattle.h2_memory_sets.specs.declared.node.Node.{Node}
-use Rattle.h2_memory_sets.specs.View.{AllFitBelow, is_away, leaf_bits_of, root_of}
+use Rattle.h2_memory_sets.specs.View.{AllFitBelow, is_away, root_of}
 use Rattle.h2_memory_sets.proofs.judging.find_loadable.Goals as goal
 
 pub returns-in-None : goal.returns-in-None

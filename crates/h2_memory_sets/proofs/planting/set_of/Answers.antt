@@ -1,4 +1,4 @@
-use Rattle.std.proofs.Common.{◌≡◌, arith, refl, sym, subst, inl}
+use Rattle.std.proofs.Common.{arith, refl, sym, subst, inl}
 use Rattle.h2_set.specs.RefSet.{RefSet, IsRefSet}
 use Rattle.h2_memory_sets.proofs.planting.set_of.Goals as goal
 

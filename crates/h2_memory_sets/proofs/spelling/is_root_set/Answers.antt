@@ -1,10 +1,9 @@
-use Rattle.std.proofs.Common.{◌≡◌, ◌<◌, ℕ, arith, List, [], ◌∷◌, Some, slice_get, length, refl, suc}
-use Rattle.std.specs.Prelude.{All}
+use Rattle.std.proofs.Common.{◌≡◌, ℕ, arith, Some, slice_get}
 use Rattle.std.proofs.lemmas.Option.{slice_get_within}
 use Rattle.h2_ref.specs.declared.reference.Ref.{Ref}
 use Rattle.h2_set.specs.RefSet.{RefSet}
 use Rattle.h2_set.specs.SetBytes.{IsHeld}
-use Rattle.h2_inode.specs.Inode.{IsPartOf, IsRootSet}
+use Rattle.h2_inode.specs.Inode.{IsPartOf}
 use Rattle.h2_memory_sets.proofs.Fitting.{one_more}
 use Rattle.h2_memory_sets.proofs.Fitting.{all_read}
 use Rattle.h2_memory_sets.proofs.spelling.is_root_set.Goals as goal

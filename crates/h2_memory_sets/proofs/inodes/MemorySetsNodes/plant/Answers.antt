@@ -1,15 +1,5 @@
-use Rattle.std.proofs.Common.{◌≡◌, ◌+◌, ◌-◌, ◌≤◌, ◌<◌, ℕ, List, [], ◌∷◌, ◌++◌, Option, Some, None, true, length, slice_get, refl, sym, ap, arith, subst, ◌∙◌}
-use Rattle.h2_ref.specs.declared.faults.Why.{Why}
-use Rattle.h2_set.specs.Forest.{KeepsBeside}
-use Rattle.h2_inode.specs.declared.inode.Inode.{Inode}
-use Rattle.h2_inode.specs.Nodes.{Plants, HasInode, held_by}
-use Rattle.h2_memory_sets.specs.declared.node.Node.{Node}
-use Rattle.h2_memory_sets.specs.declared.node.Owner.{Owner}
-use Rattle.h2_memory_sets.specs.Inodes.{inode_node, fields_seen}
-use Rattle.h2_memory_sets.specs.Kept.{AreKept}
-use Rattle.h2_memory_sets.specs.Owners.{beside_of}
-use Rattle.h2_memory_sets.specs.View.{AllRooted, forest_with}
-use Rattle.h2_memory_sets.proofs.Planted.{Grown, grows}
+use Rattle.std.proofs.Common.{◌-◌, arith}
+use Rattle.h2_memory_sets.proofs.Planted.{grows}
 use Rattle.h2_memory_sets.proofs.inodes.MemorySetsNodes.plant.Goals as goal
 
 pub invariant_of-self-clause-rooted : goal.invariant_of-self-clause-rooted

@@ -1,4 +1,4 @@
-use Rattle.std.proofs.Common.{◌≡◌, ◌≤◌, ◌<◌, ℕ, List, Option, Some, None, true, false, length, slice_get, slice_set, refl, sym, ap, arith, subst, ◌∙◌}
+use Rattle.std.proofs.Common.{◌≡◌, List, None, refl, sym, ap, arith, subst, ◌∙◌}
 use Rattle.std.specs.List.{position}
 use Rattle.std.proofs.lemmas.Option.{slice_get_read, slice_get_within}
 use Rattle.h2_memory_sets.specs.declared.node.Node.{Node}
@@ -13,16 +13,19 @@ returns-in-Some-clause-ok c =
     let xs = p.nodes.items in
     let it = there_already xs p.spare p.epoch p.room p.failed p.bad p.met c.args.root.0 c.args.leaf.now p.rooted p.kept c.requires.sound c.requires.leaf c.in-Some.c (ap (position (is_sought c.args.root.0 c.args.leaf.now.key)) (sym c.deref.ensures.value) ∙ sym c.find_root.ensures ∙ c.in-Some.is) in
     it.seeks
+
 pub returns-in-Some-clause-inode : goal.returns-in-Some-clause-inode
 returns-in-Some-clause-inode c =
     let p = c.args.self.now in
     let xs = p.nodes.items in
     let it = there_already xs p.spare p.epoch p.room p.failed p.bad p.met c.args.root.0 c.args.leaf.now p.rooted p.kept c.requires.sound c.requires.leaf c.in-Some.c (ap (position (is_sought c.args.root.0 c.args.leaf.now.key)) (sym c.deref.ensures.value) ∙ sym c.find_root.ensures ∙ c.in-Some.is) in
     it.inode
+
 pub returns-then-is_due-clause-same : goal.returns-then-is_due-clause-same
 returns-then-is_due-clause-same c =
     let p = c.args.self.now in
     unchanged_nodes p.nodes.items p.spare p.epoch p.room p.failed c.one_more-self.result p.bad p.bad p.met p.met c.one_more-self.ensures.more (omega arith) c.requires.sound
+
 pub returns-then-is_due-clause-unloaded : goal.returns-then-is_due-clause-unloaded
 returns-then-is_due-clause-unloaded c =
     let p = c.args.self.now in
@@ -32,6 +35,7 @@ pub returns-in_default-find_sought-clause-same : goal.returns-in_default-find_so
 returns-in_default-find_sought-clause-same c =
     let p = c.args.self.now in
     unchanged_nodes p.nodes.items p.spare p.epoch p.room p.failed p.failed p.bad c.one_more-self-in_default-find_sought.result p.met _ (omega arith) c.one_more-self-in_default-find_sought.ensures.more c.requires.sound
+
 pub returns-in_default-find_sought-clause-unloaded : goal.returns-in_default-find_sought-clause-unloaded
 returns-in_default-find_sought-clause-unloaded c =
     let p = c.args.self.now in
@@ -44,6 +48,7 @@ index_mut-requires c =
     let lt = slice_get_within xs c.in-Some-find_sought.c l.node l.read in
     let len = c.args.self.now.nodes.ok.0 in
     omega (arith, lt, len)
+
 pub invariant_of-self-2-clause-rooted : goal.invariant_of-self-2-clause-rooted
 invariant_of-self-2-clause-rooted c =
     let p = c.args.self.now in
@@ -55,6 +60,7 @@ invariant_of-self-2-clause-rooted c =
     let items = sought_is xs c.args.root.0 c.args.leaf.now.key k l c.index_mut.result.now c.bring_root.new.x y c.bring_root.ensures in
     let it = subst (λ (zs : List Node). Found xs zs p.spare p.epoch p.room p.failed p.bad p.met c.args.root.0 c.args.leaf.now.key k) items (loads_root xs p.spare p.epoch p.room p.failed p.bad p.met c.args.root.0 c.args.leaf.now p.rooted p.kept c.requires.sound c.requires.leaf k l none) in
     it.rooted
+
 pub invariant_of-self-2-clause-kept : goal.invariant_of-self-2-clause-kept
 invariant_of-self-2-clause-kept c =
     let p = c.args.self.now in
@@ -66,6 +72,7 @@ invariant_of-self-2-clause-kept c =
     let items = sought_is xs c.args.root.0 c.args.leaf.now.key k l c.index_mut.result.now c.bring_root.new.x y c.bring_root.ensures in
     let it = subst (λ (zs : List Node). Found xs zs p.spare p.epoch p.room p.failed p.bad p.met c.args.root.0 c.args.leaf.now.key k) items (loads_root xs p.spare p.epoch p.room p.failed p.bad p.met c.args.root.0 c.args.leaf.now p.rooted p.kept c.requires.sound c.requires.leaf k l none) in
     it.kept
+
 pub returns-clause-ok : goal.returns-clause-ok
 returns-clause-ok c =
     let p = c.args.self.now in
@@ -77,6 +84,7 @@ returns-clause-ok c =
     let items = sought_is xs c.args.root.0 c.args.leaf.now.key k l c.index_mut.result.now c.bring_root.new.x y c.bring_root.ensures in
     let it = subst (λ (zs : List Node). Found xs zs p.spare p.epoch p.room p.failed p.bad p.met c.args.root.0 c.args.leaf.now.key k) items (loads_root xs p.spare p.epoch p.room p.failed p.bad p.met c.args.root.0 c.args.leaf.now p.rooted p.kept c.requires.sound c.requires.leaf k l none) in
     it.seeks
+
 pub returns-clause-inode : goal.returns-clause-inode
 returns-clause-inode c =
     let p = c.args.self.now in
@@ -88,6 +96,7 @@ returns-clause-inode c =
     let items = sought_is xs c.args.root.0 c.args.leaf.now.key k l c.index_mut.result.now c.bring_root.new.x y c.bring_root.ensures in
     let it = subst (λ (zs : List Node). Found xs zs p.spare p.epoch p.room p.failed p.bad p.met c.args.root.0 c.args.leaf.now.key k) items (loads_root xs p.spare p.epoch p.room p.failed p.bad p.met c.args.root.0 c.args.leaf.now p.rooted p.kept c.requires.sound c.requires.leaf k l none) in
     it.inode
+
 pub returns-clause-spelled : goal.returns-clause-spelled
 returns-clause-spelled c =
     let p = c.args.self.now in
@@ -99,6 +108,7 @@ returns-clause-spelled c =
     let items = sought_is xs c.args.root.0 c.args.leaf.now.key k l c.index_mut.result.now c.bring_root.new.x y c.bring_root.ensures in
     let it = subst (λ (zs : List Node). Found xs zs p.spare p.epoch p.room p.failed p.bad p.met c.args.root.0 c.args.leaf.now.key k) items (loads_root xs p.spare p.epoch p.room p.failed p.bad p.met c.args.root.0 c.args.leaf.now p.rooted p.kept c.requires.sound c.requires.leaf k l none) in
     it.spelled
+
 pub returns-clause-beside : goal.returns-clause-beside
 returns-clause-beside c =
     let p = c.args.self.now in

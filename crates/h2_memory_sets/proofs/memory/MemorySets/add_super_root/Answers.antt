@@ -1,13 +1,13 @@
-use Rattle.std.proofs.Common.{◌≡◌, ℕ, List, [], ◌∷◌, ◌++◌, Option, None, length, slice_get, refl, sym, ap, ◌∙◌, subst}
+use Rattle.std.proofs.Common.{◌≡◌, ℕ, List, [], ◌∷◌, ◌++◌, None, length, slice_get, refl, sym, ap, ◌∙◌, subst}
 use Rattle.h2_set.specs.Forest.{KeepsBeside}
 use Rattle.h2_memory_sets.specs.declared.node.KeyClass.TheVariants.{Low}
-use Rattle.h2_memory_sets.specs.declared.node.Leaves.TheVariants.{Any, Inodes}
+use Rattle.h2_memory_sets.specs.declared.node.Leaves.TheVariants.{Inodes}
 use Rattle.h2_memory_sets.specs.declared.node.Node.{Node}
 use Rattle.h2_memory_sets.specs.Kept.{AreKept}
 use Rattle.h2_memory_sets.specs.Owners.{beside_of}
 use Rattle.h2_memory_sets.specs.View.{AllRooted, forest_with, top_node}
-use Rattle.h2_memory_sets.specs.Roots.{AddsRoot, AddsSuperRoot}
-use Rattle.h2_memory_sets.proofs.Topped.{topped, adds, adds_super}
+use Rattle.h2_memory_sets.specs.Roots.{AddsSuperRoot}
+use Rattle.h2_memory_sets.proofs.Topped.{topped, adds_super}
 use Rattle.h2_memory_sets.proofs.memory.MemorySets.add_super_root.Goals as goal
 
 pub invariant_of-self-clause-rooted : goal.invariant_of-self-clause-rooted

@@ -1,4 +1,4 @@
-use Rattle.std.proofs.Common.{List, refl, slice_get, sym, ap, ◌∙◌, subst}
+use Rattle.std.proofs.Common.{List, slice_get, sym, ap, ◌∙◌, subst}
 use Rattle.h2_memory_sets.specs.declared.node.Node.{Node}
 use Rattle.h2_memory_sets.specs.Inodes.{unsought_all}
 use Rattle.h2_memory_sets.specs.Kept.{AreKept}
