@@ -1,5 +1,5 @@
 -- A tree in memory, and which leaves it may have.
-use Rattle.std.specs.Prelude.{◌≡◌, true, ℕ, ◌+◌, ◌%◌, ◌^◌, ◌≤◌, ◌<◌, ◌⊎◌}
+use Rattle.std.specs.Prelude.{◌≡◌, true, false, ℕ, ◌+◌, ◌%◌, ◌^◌, ◌≤◌, ◌<◌, ◌⊎◌}
 use Rattle.h2_ref.specs.declared.reference.Kind.TheVariants.{Empty, Inode}
 use Rattle.h2_ref.specs.declared.reference.Ref.{Ref}
 use Rattle.h2_set.specs.Forest.{Forest}
@@ -20,6 +20,8 @@ pub record IsLeafKey (keys : KeyClass) (key bits : ℕ) : Type 0 where
 -- names something but an inode
 pub record IsPlainTree (f : Forest) (root : ℕ) (keys : KeyClass) (bits : ℕ) : Type 0 where
   pub top : IsTreeRoot f root keys bits
+  -- no root is held
+  pub free : (m : ℕ) → f.held m ≡ false
   pub allows : (r : Ref) → (r.kind ≡ Inode → ⊥) → (r.kind ≡ Empty → ⊥) → f.allows root r ≡ true
 
 abbrev pub IsTree : MemorySets → ℕ → KeyClass → ℕ → Type 0

@@ -35,6 +35,7 @@ pub(super) struct Tree {
 
 impl Tree {
     /// An empty tree.
+    #[tactic(auto, using(crate::proofs::Rooted::fresh))]
     pub fn new(alloc: Global, keys: KeyClass, leaf_bits: u8) -> Result<Tree, NoMemory>
         ensures { IfOk result (λ t. IsTree t.sets t.root.0 t.keys t.leaf_bits) }
     {
