@@ -10,6 +10,8 @@ pub mod Renewed
 pub mod Others
 pub mod Areas
 pub mod Walked
+pub mod Alike
+pub mod Loading
 pub mod Listed
 pub mod Ordered
 pub mod Told
