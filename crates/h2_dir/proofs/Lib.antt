@@ -1,9 +1,6 @@
 pub mod Unchanging
 pub mod Scanning
 pub mod Paths
-pub mod Members
-pub mod Held
-pub mod Agreeing
 pub mod Searched
 pub mod Spotting
 pub mod Leaf
@@ -13,6 +10,8 @@ pub mod Renewed
 pub mod Others
 pub mod Areas
 pub mod Walked
+pub mod Alike
+pub mod Loading
 pub mod Listed
 pub mod Ordered
 pub mod Told

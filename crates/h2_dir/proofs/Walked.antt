@@ -65,7 +65,7 @@ pfs_leaf f holds pfs number leaf sound root path =
 pub pfs_stays : {B : Type 0} (fields : B → Option Fields) (f g : Forest) (old new : ℕ → B) (pfs : ℕ) → Visits f g → KeepsBeside f g old new → IsPfsRoot f (held_by fields old) pfs → IsPfsRoot g (held_by fields new) pfs
 pfs_stays fields f g old new pfs v beside is = record { inode = is.inode; has = visits_inode fields f g old new pfs is.inode v beside is.has; kind = is.kind }
 
-member_stays : {B : Type 0} (fields : B → Option Fields) (f g : Forest) (old new : ℕ → B) (pfs number root : ℕ) (inode : Inode) → IsSound f → Visits f g → KeepsBeside f g old new → IsMember f (held_by fields old) pfs number root inode → IsMember g (held_by fields new) pfs number root inode
+pub member_stays : {B : Type 0} (fields : B → Option Fields) (f g : Forest) (old new : ℕ → B) (pfs number root : ℕ) (inode : Inode) → IsSound f → Visits f g → KeepsBeside f g old new → IsMember f (held_by fields old) pfs number root inode → IsMember g (held_by fields new) pfs number root inode
 member_stays fields f g old new pfs number root inode sound v beside is = record {
   leaf = is.leaf;
   is_leaf = visits_leaf f g pfs is.leaf sound v is.is_leaf;
@@ -74,7 +74,7 @@ member_stays fields f g old new pfs number root inode sound v beside is = record
   has = visits_inode fields f g old new root inode v beside is.has;
 }
 
-found_stays : (f g : Forest) (dir : ℕ) (name : List ℕ) (key : ℕ) (entry : Dirent) → IsSound f → Visits f g → f.stands dir ≡ true → IsFound f dir name key entry → IsFound g dir name key entry
+pub found_stays : (f g : Forest) (dir : ℕ) (name : List ℕ) (key : ℕ) (entry : Dirent) → IsSound f → Visits f g → f.stands dir ≡ true → IsFound f dir name key entry → IsFound g dir name key entry
 found_stays f g dir name key entry sound v stands is = record {
   leaf = is.leaf;
   path = visits_path sound v stands is.path;

@@ -1,5 +1,9 @@
 pub mod Names
 pub mod Finding
+pub mod Members
+pub mod Held
+pub mod Agreeing
+pub mod FoundLaws
 pub mod Placing
 pub mod Changing
 pub mod Others

@@ -1,5 +1,5 @@
 -- Where names lead from inode to inode of a PFS.
-use Rattle.std.specs.Prelude.{◌≡◌, ◌⊎◌, ℕ, false, List, [], ◌∷◌, Option, None, Result, Ok, Err}
+use Rattle.std.specs.Prelude.{◌≡◌, ◌⊎◌, ◌≤◌, ◌<◌, ◌+◌, ◌^◌, ℕ, true, false, List, [], ◌∷◌, Option, None, Result, Ok, Err}
 use Rattle.h2_ref.specs.declared.reference.Dirent.{Dirent}
 use Rattle.h2_ref.specs.declared.reference.Ref.{Ref}
 use Rattle.h2_ref.specs.declared.faults.Trouble.TheVariants.{NoMemory}
@@ -64,6 +64,37 @@ StepEnds f g holds pfs number name (Err fault.NoEntry) = (root : ℕ) × (inode 
 StepEnds f g holds pfs number name (Err fault.Exists) = ⊥
 StepEnds f g holds pfs number name (Err fault.NotDir) = Reaches g number pfs None ⊎ ((root : ℕ) × (inode : Inode) × IsMember g holds pfs number root inode × (inode.kind ≡ Directory → ⊥))
 StepEnds f g holds pfs number name (Err (fault.Trouble e)) = HasCause f g e × ((e ≡ NoMemory) ⊎ StepLoads f g holds pfs number name)
+
+-- Which nodes a walk loads
+
+-- none
+abbrev pub LoadsNone : Forest → Forest → Type 0
+LoadsNone f g = (m : ℕ) → g.stands m ≡ true → f.stands m ≡ true
+
+-- the range of node m has a key from `from` to `to`
+abbrev pub HasKeyOf : Forest → ℕ → ℕ → ℕ → Type 0
+HasKeyOf f m from to = (f.low m ≤ to) × (from < f.low m + 2 ^ f.bits m)
+
+-- Node m is one that a step needs, from the inode with this number by the name: of the PFS's tree, with the number in
+-- its range; the root of that inode; or, where that is a directory, of its tree, with a key of the name in its range.
+pub data StepNode (f : Forest) (holds : ℕ → Option Fields) (pfs number : ℕ) (name : List ℕ) (m : ℕ) : Type 0 where
+  on_path : f.root m ≡ pfs → HasKeyOf f m number number → StepNode f holds pfs number name m
+  its_inode : (inode : Inode) → IsMember f holds pfs number m inode → StepNode f holds pfs number name m
+  in_search : (dir : ℕ) (inode : Inode) → IsMember f holds pfs number dir inode → inode.kind ≡ Directory → f.root m ≡ dir → HasKeyOf f m (least_key name) (last_key name) → StepNode f holds pfs number name m
+
+-- each node that was loaded is one that the step needs
+pub record LoadsStep (f g : Forest) (holds : ℕ → Option Fields) (pfs number : ℕ) (name : List ℕ) : Type 0 where
+  pub only : (m : ℕ) → f.stands m ≡ false → g.stands m ≡ true → StepNode g holds pfs number name m
+
+-- node m is one that the names from an inode on need: in the first step, or, where that leads on, in a later one
+pub data WalkNode (f : Forest) (holds : ℕ → Option Fields) (pfs : ℕ) : ℕ → List (List ℕ) → ℕ → Type 0 where
+  first_step : {number m : ℕ} {name : List ℕ} {names : List (List ℕ)} → StepNode f holds pfs number name m → WalkNode f holds pfs number (name ∷ names) m
+  later_step : {number m : ℕ} {name : List ℕ} {names : List (List ℕ)} → (root key : ℕ) (inode : Inode) (entry : Dirent) → IsMember f holds pfs number root inode → inode.kind ≡ Directory → IsFound f root name key entry
+      → WalkNode f holds pfs entry.number names m → WalkNode f holds pfs number (name ∷ names) m
+
+-- each node that was loaded is one that the names need
+pub record LoadsWalk (f g : Forest) (holds : ℕ → Option Fields) (pfs number : ℕ) (names : List (List ℕ)) : Type 0 where
+  pub only : (m : ℕ) → f.stands m ≡ false → g.stands m ≡ true → WalkNode g holds pfs number names m
 
 -- root pfs is that of a PFS's inode
 pub record IsPfsRoot (f : Forest) (holds : ℕ → Option Fields) (pfs : ℕ) : Type 0 where

@@ -1,18 +1,41 @@
-ghost use Rattle.std.specs.Prelude.{drop};
-ghost use Rattle.h2_set.specs.Forest.{IsSound, KeepsBeside};
+ghost use Rattle.std.specs.Prelude.{◌≡◌, true, drop, IfOk, IfErr, OnErr};
+ghost use Rattle.h2_set.specs.Forest.{IsSound, Walks, HasCause, Reaches, KeepsBeside};
+ghost use Rattle.h2_tree.specs.Changes.{LoadsIn, PathUnloaded};
 ghost use Rattle.h2_inode.specs.Nodes.{held_by, Visits};
-ghost use Rattle.h2_dir.specs.Walking.{IsPfsRoot, WalkEnds, StepEnds};
+ghost use Rattle.h2_inode.specs.Loaded.{StandsAlike, view_of};
+ghost use Rattle.h2_dir.specs.Walking.{IsPfsRoot, LoadsStep, LoadsWalk, WalkEnds, StepEnds};
 
 use crate::fault::DirFault;
 use crate::finding::find;
 use h2_inode::Nodes;
 use h2_num::{Name, Names};
+use h2_ref::{Ref, Trouble};
 use h2_set::NodeId;
 use h2_tree::lookup;
 use std::alloc::Global;
 
 /// The number of the root directory of each PFS.
 const ROOT_DIRECTORY: u64 = 1;
+
+// The leaf of a PFS's tree that has the number. Only the path of the number is loaded.
+fn leaf_of<N: Nodes>(
+    alloc: Global,
+    n: &mut N,
+    pfs: NodeId,
+    number: u64,
+) -> Result<Option<Ref>, Trouble>
+    requires sound { IsSound (N.forest n.old) }
+    requires stands { let f = N.forest n.old in f.stands pfs.0 ≡ true }
+    ensures walks { Walks (N.forest n.old) (N.forest n.new) }
+    ensures path { IfOk result (Reaches (N.forest n.new) number pfs.0) }
+    ensures tree { LoadsIn (N.forest n.old) (N.forest n.new) pfs.0 number number }
+    ensures err { IfErr result (HasCause (N.forest n.old) (N.forest n.new)) }
+    ensures unloaded { OnErr result (PathUnloaded (N.forest n.old) pfs.0 number) }
+    ensures beside { KeepsBeside (N.forest n.old) (N.forest n.new) (N.beside n.old) (N.beside n.new) }
+    ensures later { N.later n.old n.new }
+{
+    lookup(alloc, n, pfs, number)
+}
 
 // The number of the inode that a name leads to in the inode with this number.
 fn step<N: Nodes>(
@@ -26,10 +49,12 @@ fn step<N: Nodes>(
     requires pfs { IsPfsRoot (N.forest n.old) (held_by N.fields (N.beside n.old)) pfs.0 }
     ensures visits { Visits (N.forest n.old) (N.forest n.new) }
     ensures ends { StepEnds (N.forest n.old) (N.forest n.new) (held_by N.fields (N.beside n.new)) pfs.0 number name.now result }
+    ensures loads { LoadsStep (N.forest n.old) (N.forest n.new) (held_by N.fields (N.beside n.new)) pfs.0 number name.now }
+    ensures alike { StandsAlike (view_of N.fields (N.forest n.old) (N.beside n.old) (N.told n.old)) (view_of N.fields (N.forest n.new) (N.beside n.new) (N.told n.new)) }
     ensures beside { KeepsBeside (N.forest n.old) (N.forest n.new) (N.beside n.old) (N.beside n.new) }
     ensures later { N.later n.old n.new }
 {
-    let found = lookup(alloc, n, pfs, number)?;
+    let found = leaf_of(alloc, n, pfs, number)?;
     let Some(leaf) = found else {
         return Err(DirFault::NotDir);
     };
@@ -53,6 +78,8 @@ fn walk_on<N: Nodes>(
     requires pfs { IsPfsRoot (N.forest n.old) (held_by N.fields (N.beside n.old)) pfs.0 }
     ensures visits { Visits (N.forest n.old) (N.forest n.new) }
     ensures ends { WalkEnds (N.forest n.old) (N.forest n.new) (held_by N.fields (N.beside n.new)) pfs.0 number (drop i names.now) result }
+    ensures loads { LoadsWalk (N.forest n.old) (N.forest n.new) (held_by N.fields (N.beside n.new)) pfs.0 number (drop i names.now) }
+    ensures alike { StandsAlike (view_of N.fields (N.forest n.old) (N.beside n.old) (N.told n.old)) (view_of N.fields (N.forest n.new) (N.beside n.new) (N.told n.new)) }
     ensures beside { KeepsBeside (N.forest n.old) (N.forest n.new) (N.beside n.old) (N.beside n.new) }
     ensures later { N.later n.old n.new }
 {
@@ -70,13 +97,18 @@ fn walk_on<N: Nodes>(
 /// Names are looked up from left to right: NoEntry exactly where one is missing in its directory, NotDir exactly where
 /// one is looked up in what isn't a directory: in a file, or in a number that the PFS has no inode of, which no sound
 /// volume has. Never Exists. Trouble only where a node on the path of a number, an inode on the way or a node that a
-/// search for a name needs isn't loaded, or a name of more than 64 bytes was to be read, or for want of memory. Nothing
-/// but loads took place then.
+/// search for a name needs isn't loaded, or a name of more than 64 bytes was to be read, or for want of memory.
+///
+/// Nothing but loads takes place, whatever is answered, and all trees stand for what they stood for. No node is loaded
+/// but those on the paths of the numbers on the way, the roots of the inodes with these numbers, and in a directory on
+/// the way those whose ranges have a key of the next name.
 pub fn walk<N: Nodes>(alloc: Global, n: &mut N, pfs: NodeId, names: &Names) -> Result<u64, DirFault>
     requires sound { IsSound (N.forest n.old) }
     requires pfs { IsPfsRoot (N.forest n.old) (held_by N.fields (N.beside n.old)) pfs.0 }
     ensures visits { Visits (N.forest n.old) (N.forest n.new) }
     ensures ends { WalkEnds (N.forest n.old) (N.forest n.new) (held_by N.fields (N.beside n.new)) pfs.0 1 names.now result }
+    ensures loads { LoadsWalk (N.forest n.old) (N.forest n.new) (held_by N.fields (N.beside n.new)) pfs.0 1 names.now }
+    ensures alike { StandsAlike (view_of N.fields (N.forest n.old) (N.beside n.old) (N.told n.old)) (view_of N.fields (N.forest n.new) (N.beside n.new) (N.told n.new)) }
     ensures beside { KeepsBeside (N.forest n.old) (N.forest n.new) (N.beside n.old) (N.beside n.new) }
     ensures later { N.later n.old n.new }
 {

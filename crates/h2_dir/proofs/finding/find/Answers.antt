@@ -4,7 +4,7 @@ use Rattle.h2_ref.specs.declared.reference.Ref.{Ref}
 use Rattle.h2_set.specs.StayLaws.{Walks-refl}
 use Rattle.h2_dirkey.specs.NameLaws.{no_fault}
 use Rattle.h2_dir.specs.Names.{Scanned, NoneNamed, IsPlaceOfName}
-use Rattle.h2_dir.proofs.Agreeing.{found_between, missing_between, missing_agrees}
+use Rattle.h2_dir.specs.Agreeing.{found_between, missing_between, missing_agrees}
 use Rattle.h2_dir.proofs.Searched.{found_there, missing_there, scanned_stays, loads_none}
 use Rattle.h2_dir.proofs.finding.find.Goals as goal
 
@@ -53,3 +53,18 @@ returns-then-not-is_directory-clause-touched g c = loads_none _ _ _ _
 
 pub returns-in_default-clause-touched : goal.returns-in_default-clause-touched
 returns-in_default-clause-touched g c = loads_none _ _ _ _
+
+pub returns-then-not-is_directory-clause-none : goal.returns-then-not-is_directory-clause-none
+returns-then-not-is_directory-clause-none g c i h not m stands = stands
+
+pub returns-in_default-clause-none : goal.returns-in_default-clause-none
+returns-in_default-clause-none g c i h not m stands = stands
+
+pub returns-in_err-candidates-clause-none : goal.returns-in_err-candidates-clause-none
+returns-in_err-candidates-clause-none g c i h not = absurd (not ((c.is_directory.ensures i h).0 c.if-not-is_directory.false))
+
+pub returns-in-Some-clause-none : goal.returns-in-Some-clause-none
+returns-in-Some-clause-none g c i h not = absurd (not ((c.is_directory.ensures i h).0 c.if-not-is_directory.false))
+
+pub returns-clause-none : goal.returns-clause-none
+returns-clause-none g c i h not = absurd (not ((c.is_directory.ensures i h).0 c.if-not-is_directory.false))

@@ -6,7 +6,7 @@ use Rattle.h2_inode.specs.VisitLaws.{walks_visit, visits_inode}
 use Rattle.h2_dirkey.specs.Key.{IsPicked}
 use Rattle.h2_dirkey.specs.NameLaws.{no_fault}
 use Rattle.h2_dir.specs.Names.{Scanned, NoneNamed, IsPlaceOfName}
-use Rattle.h2_dir.proofs.Agreeing.{found_between, missing_between}
+use Rattle.h2_dir.specs.Agreeing.{found_between, missing_between}
 use Rattle.h2_dir.proofs.Searched.{scanned_stays, loads_none}
 use Rattle.h2_dir.proofs.Spotting.{spot_there, taken_there, is_some}
 use Rattle.h2_dir.proofs.placing.spot.Goals as goal

@@ -2,8 +2,11 @@ use Rattle.std.proofs.Common.{◌≡◌, ◌+◌, ℕ, List, ◌∷◌, sym, sub
 use Rattle.std.specs.Prelude.{drop}
 use Rattle.h2_inode.specs.Nodes.{held_by}
 use Rattle.h2_inode.specs.VisitLaws.{visits_trans}
-use Rattle.h2_dir.specs.Walking.{Leads, arrived, WalkEnds}
+use Rattle.h2_dir.specs.Walking.{Leads, arrived, WalkEnds, LoadsWalk}
 use Rattle.h2_dir.proofs.Unchanging.{beside_visits, visits_refl}
+use Rattle.h2_inode.specs.Loaded.{as_before}
+use Rattle.h2_inode.specs.LoadedLaws.{alike_trans}
+use Rattle.h2_dir.proofs.Loading.{no_loads, step_alone, steps_load}
 use Rattle.h2_dir.proofs.Walked.{pfs_stays, names_at, names_end, ends_err, ends_on}
 use Rattle.h2_dir.proofs.walking.+walk_on.Goals as goal
 
@@ -45,3 +48,28 @@ returns-in-Ok-clause-beside g t c = beside_visits _ _ _ _ _ _ c.in-Ok.ensures.vi
 
 pub returns-in-Ok-clause-later : goal.returns-in-Ok-clause-later
 returns-in-Ok-clause-later g t c = g.met.N.Sets.later_later _ _ _ c.in-Ok.ensures.later c.walk_on.ensures.later
+
+pub returns-then-i-names-clause-loads : goal.returns-then-i-names-clause-loads
+returns-then-i-names-clause-loads g t c = no_loads (g.N.Sets.forest c.args.n.now) (held_by g.N.Nodes.fields (g.N.Sets.beside c.args.n.now)) c.args.pfs.0 c.args.number (drop c.args.i c.args.names.now)
+
+pub returns-then-i-names-clause-alike : goal.returns-then-i-names-clause-alike
+returns-then-i-names-clause-alike g t c = as_before
+
+pub returns-in-Err-clause-loads : goal.returns-in-Err-clause-loads
+returns-in-Err-clause-loads g t c =
+    let name = c.as_slice.result.now in
+    let at : drop c.args.i c.args.names.now ≡ name ∷ drop (c.args.i + 1) c.args.names.now = names_at c.args.names.now c.args.i name c.if-i-names.false (subst (λ (x : List ℕ). get_or c.args.names.now c.args.i x ≡ x) (sym c.as_slice.ensures) (sym c.index-names-i.is)) in
+    subst (λ (xs : List (List ℕ)). LoadsWalk (g.N.Sets.forest c.args.n.now) (g.N.Sets.forest c.step.new.n) (held_by g.N.Nodes.fields (g.N.Sets.beside c.step.new.n)) c.args.pfs.0 c.args.number xs) (sym at)
+    (step_alone (g.N.Sets.forest c.args.n.now) (g.N.Sets.forest c.step.new.n) (held_by g.N.Nodes.fields (g.N.Sets.beside c.step.new.n)) c.args.pfs.0 c.args.number name (drop (c.args.i + 1) c.args.names.now) c.in-Err.ensures.loads)
+
+pub returns-in-Ok-clause-loads : goal.returns-in-Ok-clause-loads
+returns-in-Ok-clause-loads g t c =
+    let step = c.in-Ok.ensures in
+    let rest = c.walk_on.ensures in
+    let name = c.as_slice.result.now in
+    let at : drop c.args.i c.args.names.now ≡ name ∷ drop (c.args.i + 1) c.args.names.now = names_at c.args.names.now c.args.i name c.if-i-names.false (subst (λ (x : List ℕ). get_or c.args.names.now c.args.i x ≡ x) (sym c.as_slice.ensures) (sym c.index-names-i.is)) in
+    subst (λ (xs : List (List ℕ)). LoadsWalk (g.N.Sets.forest c.args.n.now) (g.N.Sets.forest c.walk_on.new.n) (held_by g.N.Nodes.fields (g.N.Sets.beside c.walk_on.new.n)) c.args.pfs.0 c.args.number xs) (sym at)
+    (steps_load g.N.Nodes.fields (g.N.Sets.forest c.args.n.now) (g.N.Sets.forest c.step.new.n) (g.N.Sets.forest c.walk_on.new.n) _ _ c.args.pfs.0 c.args.number c.in-Ok.next name (drop (c.args.i + 1) c.args.names.now) step.visits.sound rest.visits rest.beside step.ends step.loads rest.loads)
+
+pub returns-in-Ok-clause-alike : goal.returns-in-Ok-clause-alike
+returns-in-Ok-clause-alike g t c = alike_trans c.in-Ok.ensures.alike c.walk_on.ensures.alike

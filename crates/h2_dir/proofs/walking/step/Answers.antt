@@ -1,26 +1,31 @@
 use Rattle.std.proofs.Common.{Some, Err, subst, Option, inl, inr}
 use Rattle.h2_ref.specs.declared.reference.Ref.{Ref}
 use Rattle.h2_set.specs.Forest.{Reaches}
-use Rattle.h2_inode.specs.Nodes.{held_by, IsNamed, IsUnloaded}
+use Rattle.h2_inode.specs.Nodes.{held_by, IsNamed, IsUnloaded, Seeks}
 use Rattle.h2_inode.specs.VisitLaws.{walks_visit, seeks_visit, unchanged_visits, visits_trans, visits_leaf}
 use Rattle.h2_dir.specs.declared.fault.DirFault.TheVariants as fault
-use Rattle.h2_dir.specs.Walking.{IsMember, StepEnds, by_inode}
+use Rattle.h2_dir.specs.Walking.{IsMember, StepEnds, LoadsStep, by_inode}
+use Rattle.h2_inode.specs.Loaded.{StandsAlike, view_of}
+use Rattle.h2_inode.specs.LoadedLaws.{alike_trans}
 use Rattle.h2_dir.proofs.Unchanging.{beside_visits}
+use Rattle.h2_dir.proofs.Searched.{loads_same}
+use Rattle.h2_dir.proofs.Alike.{walks_alike, unchanged_alike, seeks_alike}
+use Rattle.h2_dir.proofs.Loading.{path_loads, inode_loads, search_loads, failed_loads}
 use Rattle.h2_dir.proofs.Walked.{cause_earlier, inode_before, pfs_leaf, pfs_stays, step_found, step_fails, step_trouble}
 use Rattle.h2_dir.proofs.walking.step.Goals as goal
 
-pub lookup-requires-clause-stands : goal.lookup-requires-clause-stands
-lookup-requires-clause-stands g c = c.requires.pfs.has.stands
+pub leaf_of-requires-clause-stands : goal.leaf_of-requires-clause-stands
+leaf_of-requires-clause-stands g c = c.requires.pfs.has.stands
 
 pub returns-in_default-clause-visits : goal.returns-in_default-clause-visits
 returns-in_default-clause-visits g c = walks_visit _ _ c.in_ok-found.ensures.walks
 
 pub returns-in_default-clause-ends : goal.returns-in_default-clause-ends
-returns-in_default-clause-ends g c = inl (subst (λ (o : Option Ref). Reaches (g.N.Sets.forest c.lookup.new.n) c.args.number c.args.pfs.0 o) c.in_default.is c.in_ok-found.ensures.path)
+returns-in_default-clause-ends g c = inl (subst (λ (o : Option Ref). Reaches (g.N.Sets.forest c.leaf_of.new.n) c.args.number c.args.pfs.0 o) c.in_default.is c.in_ok-found.ensures.path)
 
 pub seek-requires-clause-leaf : goal.seek-requires-clause-leaf
 seek-requires-clause-leaf g c =
-    let h = g.N.Sets.forest c.lookup.new.n in
+    let h = g.N.Sets.forest c.leaf_of.new.n in
     let walks = c.in_ok-found.ensures.walks in
     let root = pfs_stays g.N.Nodes.fields _ h _ _ c.args.pfs.0 (walks_visit _ h walks) c.in_ok-found.ensures.beside c.requires.pfs in
     let path : Reaches h c.args.number c.args.pfs.0 (Some c.in-Some.leaf) = subst (λ (o : Option Ref). Reaches h c.args.number c.args.pfs.0 o) c.in-Some.is c.in_ok-found.ensures.path in
@@ -55,7 +60,7 @@ returns-in-Err-clause-later g c = g.met.N.Sets.later_later _ _ _ (g.met.N.Sets.l
 
 pub returns-in-Ok-clause-ends : goal.returns-in-Ok-clause-ends
 returns-in-Ok-clause-ends g c =
-    let h = g.N.Sets.forest c.lookup.new.n in
+    let h = g.N.Sets.forest c.leaf_of.new.n in
     let k = g.N.Sets.forest c.seek.new.self in
     let walks = c.in_ok-found.ensures.walks in
     let root = pfs_stays g.N.Nodes.fields _ h _ _ c.args.pfs.0 (walks_visit _ h walks) c.in_ok-found.ensures.beside c.requires.pfs in
@@ -75,7 +80,7 @@ returns-in-Ok-clause-ends g c =
 
 pub returns-in-Err-clause-ends : goal.returns-in-Err-clause-ends
 returns-in-Err-clause-ends g c =
-    let h = g.N.Sets.forest c.lookup.new.n in
+    let h = g.N.Sets.forest c.leaf_of.new.n in
     let k = g.N.Sets.forest c.seek.new.self in
     let walks = c.in_ok-found.ensures.walks in
     let root = pfs_stays g.N.Nodes.fields _ h _ _ c.args.pfs.0 (walks_visit _ h walks) c.in_ok-found.ensures.beside c.requires.pfs in
@@ -99,7 +104,7 @@ returns-in_err-found-clause-visits g c = walks_visit _ _ c.in_err-found.ensures.
 pub returns-in_err-dir-clause-ends : goal.returns-in_err-dir-clause-ends
 returns-in_err-dir-clause-ends g c =
     let f = g.N.Sets.forest c.args.n.now in
-    let h = g.N.Sets.forest c.lookup.new.n in
+    let h = g.N.Sets.forest c.leaf_of.new.n in
     let k = g.N.Sets.forest c.seek.new.self in
     let walks = c.in_ok-found.ensures.walks in
     let root = pfs_stays g.N.Nodes.fields _ h _ _ c.args.pfs.0 (walks_visit _ h walks) c.in_ok-found.ensures.beside c.requires.pfs in
@@ -111,3 +116,100 @@ returns-in_err-dir-clause-ends g c =
     let loads = by_inode c.in-Some.leaf (visits_leaf h k c.args.pfs.0 c.in-Some.leaf walks.sound same there.0) there.1 (inode_before f h c.args.pfs.0 c.args.number (walks_visit f h walks) c.requires.pfs.has.stands unloaded) in
     let ends : StepEnds f k (held_by g.N.Nodes.fields (g.N.Sets.beside c.seek.new.self)) c.args.pfs.0 c.args.number c.args.name.now (Err (fault.Trouble c.in_err-dir.field-0.0)) = (cause, inr loads) in
     step_trouble f k _ c.args.pfs.0 c.args.number c.args.name.now c.in_err-dir.field-0.0 c.from_residual-in_err-dir.result c.from_residual-in_err-dir.ensures.1 ends
+
+-- what all trees stand for
+
+pub returns-in_err-found-clause-alike : goal.returns-in_err-found-clause-alike
+returns-in_err-found-clause-alike g c = walks_alike g.N.Nodes.fields _ _ _ _ _ _ c.requires.sound c.in_err-found.ensures.walks c.in_err-found.ensures.beside (g.met.N.Nodes.told_later _ _ c.in_err-found.ensures.later)
+
+pub returns-in_default-clause-alike : goal.returns-in_default-clause-alike
+returns-in_default-clause-alike g c = walks_alike g.N.Nodes.fields _ _ _ _ _ _ c.requires.sound c.in_ok-found.ensures.walks c.in_ok-found.ensures.beside (g.met.N.Nodes.told_later _ _ c.in_ok-found.ensures.later)
+
+pub returns-in_err-dir-clause-alike : goal.returns-in_err-dir-clause-alike
+returns-in_err-dir-clause-alike g c =
+    let walks = c.in_ok-found.ensures.walks in
+    let first = walks_alike g.N.Nodes.fields _ _ _ _ _ _ c.requires.sound walks c.in_ok-found.ensures.beside (g.met.N.Nodes.told_later _ _ c.in_ok-found.ensures.later) in
+    alike_trans first (unchanged_alike g.N.Nodes.fields _ _ _ _ _ _ walks.sound c.in_err-dir.ensures.same c.in_err-dir.ensures.beside (g.met.N.Nodes.told_later _ _ c.in_err-dir.ensures.later))
+
+pub returns-in-Ok-clause-alike : goal.returns-in-Ok-clause-alike
+returns-in-Ok-clause-alike g c =
+    let h = g.N.Sets.forest c.leaf_of.new.n in
+    let k = g.N.Sets.forest c.seek.new.self in
+    let walks = c.in_ok-found.ensures.walks in
+    let root = pfs_stays g.N.Nodes.fields _ h _ _ c.args.pfs.0 (walks_visit _ h walks) c.in_ok-found.ensures.beside c.requires.pfs in
+    let path : Reaches h c.args.number c.args.pfs.0 (Some c.in-Some.leaf) = subst (λ (o : Option Ref). Reaches h c.args.number c.args.pfs.0 o) c.in-Some.is c.in_ok-found.ensures.path in
+    let there = pfs_leaf h _ c.args.pfs.0 c.args.number c.in-Some.leaf walks.sound root path in
+    let first = walks_alike g.N.Nodes.fields _ _ _ _ _ _ c.requires.sound walks c.in_ok-found.ensures.beside (g.met.N.Nodes.told_later _ _ c.in_ok-found.ensures.later) in
+    let second = seeks_alike g.N.Nodes.fields _ _ _ _ _ _ c.args.pfs.0 c.in_ok-dir.dir.0 c.in-Some.leaf walks.sound there.0 c.in_ok-dir.ensures.ok c.in_ok-dir.ensures.beside (g.met.N.Nodes.told_later _ _ c.in_ok-dir.ensures.later) c.in_ok-dir.ensures.told in
+    alike_trans first (alike_trans second (walks_alike g.N.Nodes.fields _ _ _ _ _ _ c.in_ok-dir.ensures.ok.brings.sound c.in-Ok.ensures.walks c.in-Ok.ensures.beside (g.met.N.Nodes.told_later _ _ c.in-Ok.ensures.later)))
+
+pub returns-in-Err-clause-alike : goal.returns-in-Err-clause-alike
+returns-in-Err-clause-alike g c =
+    let h = g.N.Sets.forest c.leaf_of.new.n in
+    let k = g.N.Sets.forest c.seek.new.self in
+    let walks = c.in_ok-found.ensures.walks in
+    let root = pfs_stays g.N.Nodes.fields _ h _ _ c.args.pfs.0 (walks_visit _ h walks) c.in_ok-found.ensures.beside c.requires.pfs in
+    let path : Reaches h c.args.number c.args.pfs.0 (Some c.in-Some.leaf) = subst (λ (o : Option Ref). Reaches h c.args.number c.args.pfs.0 o) c.in-Some.is c.in_ok-found.ensures.path in
+    let there = pfs_leaf h _ c.args.pfs.0 c.args.number c.in-Some.leaf walks.sound root path in
+    let first = walks_alike g.N.Nodes.fields _ _ _ _ _ _ c.requires.sound walks c.in_ok-found.ensures.beside (g.met.N.Nodes.told_later _ _ c.in_ok-found.ensures.later) in
+    let second = seeks_alike g.N.Nodes.fields _ _ _ _ _ _ c.args.pfs.0 c.in_ok-dir.dir.0 c.in-Some.leaf walks.sound there.0 c.in_ok-dir.ensures.ok c.in_ok-dir.ensures.beside (g.met.N.Nodes.told_later _ _ c.in_ok-dir.ensures.later) c.in_ok-dir.ensures.told in
+    alike_trans first (alike_trans second (walks_alike g.N.Nodes.fields _ _ _ _ _ _ c.in_ok-dir.ensures.ok.brings.sound c.in-Err.ensures.walks c.in-Err.ensures.beside (g.met.N.Nodes.told_later _ _ c.in-Err.ensures.later)))
+
+-- which nodes are loaded
+
+pub returns-in_err-found-clause-loads : goal.returns-in_err-found-clause-loads
+returns-in_err-found-clause-loads g c = path_loads (g.N.Sets.forest c.args.n.now) (g.N.Sets.forest c.leaf_of.new.n) _ c.args.pfs.0 c.args.number c.args.name.now c.requires.pfs.has.root c.in_err-found.ensures.tree
+
+pub returns-in_default-clause-loads : goal.returns-in_default-clause-loads
+returns-in_default-clause-loads g c = path_loads (g.N.Sets.forest c.args.n.now) (g.N.Sets.forest c.leaf_of.new.n) _ c.args.pfs.0 c.args.number c.args.name.now c.requires.pfs.has.root c.in_ok-found.ensures.tree
+
+pub returns-in_err-dir-clause-loads : goal.returns-in_err-dir-clause-loads
+returns-in_err-dir-clause-loads g c = path_loads (g.N.Sets.forest c.args.n.now) (g.N.Sets.forest c.seek.new.self) _ c.args.pfs.0 c.args.number c.args.name.now c.requires.pfs.has.root (loads_same _ _ _ _ _ _ c.in_ok-found.ensures.tree c.in_err-dir.ensures.same)
+
+pub returns-in-Ok-clause-loads : goal.returns-in-Ok-clause-loads
+returns-in-Ok-clause-loads g c =
+    let h = g.N.Sets.forest c.leaf_of.new.n in
+    let k = g.N.Sets.forest c.seek.new.self in
+    let walks = c.in_ok-found.ensures.walks in
+    let root = pfs_stays g.N.Nodes.fields _ h _ _ c.args.pfs.0 (walks_visit _ h walks) c.in_ok-found.ensures.beside c.requires.pfs in
+    let path : Reaches h c.args.number c.args.pfs.0 (Some c.in-Some.leaf) = subst (λ (o : Option Ref). Reaches h c.args.number c.args.pfs.0 o) c.in-Some.is c.in_ok-found.ensures.path in
+    let there = pfs_leaf h _ c.args.pfs.0 c.args.number c.in-Some.leaf walks.sound root path in
+    let seeks = c.in_ok-dir.ensures.ok in
+    let inode = c.in_ok-dir.ensures.inode.0 in
+    let has = c.in_ok-dir.ensures.inode.1 in
+    let member : IsMember k (held_by g.N.Nodes.fields (g.N.Sets.beside c.seek.new.self)) c.args.pfs.0 c.args.number c.in_ok-dir.dir.0 inode = record {
+      leaf = c.in-Some.leaf;
+      is_leaf = visits_leaf h k c.args.pfs.0 c.in-Some.leaf walks.sound (seeks_visit _ _ _ _ _ seeks) there.0;
+      key_is = there.1;
+      named = subst (λ n. IsNamed k c.args.pfs.0 n c.in_ok-dir.dir.0) there.1 seeks.named;
+      has = has;
+    } in
+    let f = g.N.Sets.forest c.args.n.now in
+    let first : LoadsStep f h (held_by g.N.Nodes.fields (g.N.Sets.beside c.leaf_of.new.n)) c.args.pfs.0 c.args.number c.args.name.now = path_loads f h (held_by g.N.Nodes.fields (g.N.Sets.beside c.leaf_of.new.n)) c.args.pfs.0 c.args.number c.args.name.now c.requires.pfs.has.root c.in_ok-found.ensures.tree in
+    let sought = subst (λ n. Seeks h k c.args.pfs.0 n c.in_ok-dir.dir.0) there.1 seeks in
+    let second = inode_loads g.N.Nodes.fields f h k _ _ c.args.pfs.0 c.args.number c.in_ok-dir.dir.0 inode c.args.name.now walks.sound c.in_ok-dir.ensures.beside (seeks_visit _ _ _ _ _ seeks) sought member first in
+    search_loads g.N.Nodes.fields f k (g.N.Sets.forest c.find.new.n) _ _ c.args.pfs.0 c.args.number c.in_ok-dir.dir.0 inode c.args.name.now seeks.brings.sound (walks_visit _ _ c.in-Ok.ensures.walks) c.in-Ok.ensures.beside member c.in-Ok.ensures.touched second (c.in-Ok.ensures.kind inode has)
+
+pub returns-in-Err-clause-loads : goal.returns-in-Err-clause-loads
+returns-in-Err-clause-loads g c =
+    let h = g.N.Sets.forest c.leaf_of.new.n in
+    let k = g.N.Sets.forest c.seek.new.self in
+    let walks = c.in_ok-found.ensures.walks in
+    let root = pfs_stays g.N.Nodes.fields _ h _ _ c.args.pfs.0 (walks_visit _ h walks) c.in_ok-found.ensures.beside c.requires.pfs in
+    let path : Reaches h c.args.number c.args.pfs.0 (Some c.in-Some.leaf) = subst (λ (o : Option Ref). Reaches h c.args.number c.args.pfs.0 o) c.in-Some.is c.in_ok-found.ensures.path in
+    let there = pfs_leaf h _ c.args.pfs.0 c.args.number c.in-Some.leaf walks.sound root path in
+    let seeks = c.in_ok-dir.ensures.ok in
+    let inode = c.in_ok-dir.ensures.inode.0 in
+    let has = c.in_ok-dir.ensures.inode.1 in
+    let member : IsMember k (held_by g.N.Nodes.fields (g.N.Sets.beside c.seek.new.self)) c.args.pfs.0 c.args.number c.in_ok-dir.dir.0 inode = record {
+      leaf = c.in-Some.leaf;
+      is_leaf = visits_leaf h k c.args.pfs.0 c.in-Some.leaf walks.sound (seeks_visit _ _ _ _ _ seeks) there.0;
+      key_is = there.1;
+      named = subst (λ n. IsNamed k c.args.pfs.0 n c.in_ok-dir.dir.0) there.1 seeks.named;
+      has = has;
+    } in
+    let f = g.N.Sets.forest c.args.n.now in
+    let first : LoadsStep f h (held_by g.N.Nodes.fields (g.N.Sets.beside c.leaf_of.new.n)) c.args.pfs.0 c.args.number c.args.name.now = path_loads f h (held_by g.N.Nodes.fields (g.N.Sets.beside c.leaf_of.new.n)) c.args.pfs.0 c.args.number c.args.name.now c.requires.pfs.has.root c.in_ok-found.ensures.tree in
+    let sought = subst (λ n. Seeks h k c.args.pfs.0 n c.in_ok-dir.dir.0) there.1 seeks in
+    let second = inode_loads g.N.Nodes.fields f h k _ _ c.args.pfs.0 c.args.number c.in_ok-dir.dir.0 inode c.args.name.now walks.sound c.in_ok-dir.ensures.beside (seeks_visit _ _ _ _ _ seeks) sought member first in
+    failed_loads g.N.Nodes.fields f k (g.N.Sets.forest c.find.new.n) _ _ c.args.pfs.0 c.args.number c.in_ok-dir.dir.0 inode c.args.name.now seeks.brings.sound (walks_visit _ _ c.in-Err.ensures.walks) c.in-Err.ensures.beside member c.in-Err.ensures.touched second c.in-Err.fault (c.in-Err.ensures.err inode has) (c.in-Err.ensures.none inode has)

@@ -11,7 +11,7 @@ use Rattle.std.specs.Cmp.{IsTotalOrder, eq_by_cmp_equiv}
 use Rattle.std.specs.Cmp.Lexicographic.{slice_cmp, nat_list_cmp_total}
 use Rattle.std.specs.FinMap.{IsAntisymmetric, nat_cmp-IsAntisymmetric, slice_cmp-IsAntisymmetric, find, get, from_entries, get-from_entries}
 use Rattle.h2_inode.specs.Access.{OneByOne}
-use Rattle.h2_dir.proofs.Members.{first, behind}
+use Rattle.h2_dir.specs.Members.{first, behind}
 
 tied : (r : Ordering) → is_eq r ≡ true → r ≡ Equal
 tied Less e = absurd (cc)

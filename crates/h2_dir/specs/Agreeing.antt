@@ -13,9 +13,9 @@ use Rattle.h2_inode.specs.Loaded.{at_root, loaded_nodes, no_content}
 use Rattle.h2_inode.specs.Directory.{Entries, IsEntry}
 use Rattle.h2_dir.specs.Names.{IsNamed, MayBeNamed, NoneNamed}
 use Rattle.h2_dir.specs.Finding.{HoldsEntries, last_key}
-use Rattle.h2_dir.proofs.Members.{at_place, has_place, kept, keeps}
+use Rattle.h2_dir.specs.Members.{at_place, has_place, kept, keeps}
 use Rattle.std.proofs.lemmas.Bool.Decides.{nat_tests}
-use Rattle.h2_dir.proofs.Held.{held_in, held_by, exact_names, names_total}
+use Rattle.h2_dir.specs.Held.{held_in, held_by, exact_names, names_total}
 
 pub between : (low high : ℕ) (leaf : Ref) → low ≤ leaf.key → leaf.key ≤ high → is_between low high leaf ≡ true
 between low high leaf from to = grind (arith, nat_tests)
