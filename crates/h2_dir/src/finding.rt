@@ -40,12 +40,11 @@ fn entry_at(leaves: &[Ref], i: usize) -> (u64, Dirent)
 }
 
 /// The entry of a directory that has the name, with its key. Afterwards the paths of all keys that the name may have
-/// are loaded; no node is loaded of another tree, or whose range has none of them, and only the names of entries under
-/// these keys are read, those of more than 64 bytes and of this length.
-///
-/// NoEntry exactly where there is none, as for a name that no entry may have; NotDir exactly where the inode isn't
-/// that of a directory, and then nothing is loaded; never Exists. Trouble only where one of these nodes isn't loaded or such a name was to be
-/// read, or for want of memory.
+/// are loaded; no node is loaded of another tree, or whose range has none of them, and only the names of entries
+/// under these keys are read, those of more than 64 bytes and of this length. NoEntry exactly where there is none,
+/// as for a name that no entry may have; NotDir exactly where the inode isn't that of a directory, and then nothing
+/// is loaded; never Exists. Trouble only where one of these nodes isn't loaded or such a name was to be read, or for
+/// want of memory.
 pub fn find<N: Nodes>(
     alloc: Global,
     n: &mut N,
