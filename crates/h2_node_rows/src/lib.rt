@@ -1,0 +1,6 @@
+//! Inodes at work, as tests of [`Nodes`](h2_inode::Nodes) over sets in memory. They show what no contract says: that
+//! ample memory is enough, that what was unloaded is found again, and which load fails how.
+#![tactic(auto)]
+
+#[cfg(test)]
+mod tests;
