@@ -11,7 +11,7 @@ use Rattle.h2_inode.specs.Nodes.{Fields, IsUnloaded, Brings, Replaces, set_of}
 use Rattle.h2_inode.specs.PathLaws.{refit_place, refit_path}
 use Rattle.h2_memory_sets.specs.Roots.{AddsSuperRoot, HoldsRoot}
 use Rattle.h2_tree.specs.Changes.{Inserts}
-use Rattle.h2_node_rows.specs.VolumeUnderTest.{IsEmpty, IsLeaf, IsVolume, IsWorked, IsEmptyDirectory}
+use Rattle.h2_node_rows.specs.VolumeUnderTest.{IsTop, IsLeaf, IsVolume, IsWorked, IsEmptyDirectory}
 
 -- nothing has changed of the nodes that belong to nothing
 abbrev pub Unmoved : Forest → Forest → Type 0
@@ -38,17 +38,12 @@ still f g root leaf is sound same held =
     }
 
 -- the first root of a forest without nodes
-pub fresh : (f g : Forest) (c : ℕ) → IsSound f → ((m : ℕ) → f.stands m ≡ false) → AddsSuperRoot f g c → IsEmpty g c
+pub fresh : (f g : Forest) (c : ℕ) → IsSound f → ((m : ℕ) → f.stands m ≡ false) → AddsSuperRoot f g c → IsTop g c
 fresh f g c sound empty added =
     let t = added.top in
     record {
       sound = t.sound;
-      stands = t.stands;
-      own = t.root;
-      low = t.low;
-      bits = t.bits;
-      leaf_bits = t.leaf_bits;
-      allows = λ r kind held. (added.allows r).1 (kind, held);
+      super_root = record { stands = t.stands; root = t.root; low = t.low; bits = t.bits; leaf_bits = t.leaf_bits; allows = added.allows };
       unowned = added.belongs;
       free = λ m. added.others_held m ∙ none m (f.held m) refl;
     }
@@ -57,30 +52,14 @@ fresh f g c sound empty added =
     none m false e = e
     none m true e = let clash : true ≡ false = sym (sound.held m e).0 ∙ empty m in absurd (cc)
 
-pub readied : (f g : Forest) (c : ℕ) → IsEmpty f c → ReadiesOnly f g → IsEmpty g c
-readied f g c is ready =
-    let place = (ready.same c is.stands).place in
-    let fixed = ready.fixed in
-    record {
-      sound = ready.sound;
-      stands = place.stands;
-      own = place.root ∙ is.own;
-      low = place.low ∙ is.low;
-      bits = place.bits ∙ is.bits;
-      leaf_bits = fixed.leaf_bits c is.stands place.stands ∙ is.leaf_bits;
-      allows = λ r kind held. fixed.allows c r is.stands place.stands ∙ is.allows r kind held;
-      unowned = λ t k. place.belongs t k ∙ is.unowned t k;
-      free = λ m. fixed.held m ∙ is.free m;
-    }
-
 -- once the super-root has the leaf
-pub leafed : (f g : Forest) (c : ℕ) (leaf : Ref) (old : Option Ref) → IsEmpty f c → IsLeaf leaf → Inserts f g c leaf old → Reaches g leaf.key c (Some leaf) → IsVolume g c leaf
+pub leafed : (f g : Forest) (c : ℕ) (leaf : Ref) (old : Option Ref) → IsTop f c → IsLeaf leaf → Inserts f g c leaf old → Reaches g leaf.key c (Some leaf) → IsVolume g c leaf
 leafed f g c leaf old is l ins path =
     let place = ins.place in
     let fixed = ins.fixed in
     record {
       sound = ins.sound;
-      named = record { stands = place.stands; root = place.root ∙ is.own; kind = l.kind; path = path };
+      named = record { stands = place.stands; root = place.root ∙ is.super_root.root; kind = l.kind; path = path };
       number = l.number;
       unowned = λ t k. place.belongs t k ∙ is.unowned t k;
       free = λ m. fixed.held m ∙ is.free m;

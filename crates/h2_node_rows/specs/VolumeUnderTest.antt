@@ -5,21 +5,17 @@ use Rattle.h2_ref.specs.declared.reference.Ref.{Ref}
 use Rattle.h2_set.specs.SetBytes.{IsHeld}
 use Rattle.h2_set.specs.Forest.{Forest, IsSound}
 use Rattle.h2_inode.specs.declared.inode.Inode.{Inode}
-use Rattle.h2_inode.specs.declared.kind.InodeKind.TheVariants.{Directory}
+use Rattle.h2_inode.specs.declared.kind.InodeKind.TheVariants.{Directory, Pfs}
 use Rattle.h2_inode.specs.Nodes.{Fields, held_by, set_of, HasInode, IsInodeLeaf, IsPlantable}
 use Rattle.h2_memory_sets.specs.declared.memory.MemorySets.{MemorySets}
 use Rattle.h2_memory_sets.specs.Seen.{beside_seen}
 use Rattle.h2_memory_sets.specs.Inodes.{fields_seen}
+use Rattle.h2_pfs.specs.SuperRoot.{IsSuperRoot}
 
 -- a super-root that belongs to nothing, where nothing is held
-pub record IsEmpty (f : Forest) (root : ℕ) : Type 0 where
+pub record IsTop (f : Forest) (root : ℕ) : Type 0 where
   pub sound : IsSound f
-  pub stands : f.stands root ≡ true
-  pub own : f.root root ≡ root
-  pub low : f.low root ≡ 0
-  pub bits : f.bits root ≡ 63
-  pub leaf_bits : f.leaf_bits root ≡ 0
-  pub allows : (r : Ref) → r.kind ≡ Inode_kind → IsHeld r → f.allows root r ≡ true
+  pub super_root : IsSuperRoot f root
   pub unowned : (t k : ℕ) → f.belongs root t k ≡ false
   pub free : (m : ℕ) → f.held m ≡ false
 
@@ -47,6 +43,12 @@ pub record IsEmptyDirectory (i : Inode) : Type 0 where
   pub kind : i.kind ≡ Directory
   pub number : i.number ≡ 1
   pub empty : set_of i.body ≡ record { refs = []; capacity = 4 }
+  pub plantable : IsPlantable i
+
+-- PFS 1, with a tree without leaves
+pub record IsEmptyPfs (i : Inode) : Type 0 where
+  pub kind : i.kind ≡ Pfs
+  pub number : i.number ≡ 1
   pub plantable : IsPlantable i
 
 -- node c is the writable root of such a directory

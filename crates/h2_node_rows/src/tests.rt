@@ -1,2 +1,3 @@
+mod pfss;
 mod rows;
 mod under_test;

@@ -3,7 +3,7 @@ ghost use Rattle.h2_ref.specs.declared.reference.Ref.{Ref};
 ghost use Rattle.h2_inode.specs.declared.inode.Inode.{Inode};
 ghost use Rattle.h2_inode.specs.Nodes.{HasInode, IsUnloaded};
 ghost use Rattle.h2_memory_sets.specs.Seen.{forest_of};
-ghost use Rattle.h2_node_rows.specs.VolumeUnderTest.{IsEmpty, IsLeaf, IsVolume, IsEmptyDirectory, IsWorked, holds_of};
+ghost use Rattle.h2_node_rows.specs.VolumeUnderTest.{IsTop, IsLeaf, IsVolume, IsEmptyDirectory, IsWorked, holds_of};
 
 use h2_inode::{Body, Inode, InodeKind, Nodes, PfsName};
 use h2_memory_sets::MemorySets;
@@ -137,9 +137,9 @@ impl Volume {
     }
 }
 
-// A super-root without a leaf, and nodes to spare.
-fn empty(alloc: Global) -> Result<(MemorySets, NodeId), NoMemory>
-    ensures { IfOk result (λ p. let c = p.1 in IsEmpty (forest_of p.0) c.0) }
+/// A super-root without a leaf, and nodes to spare.
+pub(super) fn empty(alloc: Global) -> Result<(MemorySets, NodeId), NoMemory>
+    ensures { IfOk result (λ p. let c = p.1 in IsTop (forest_of p.0) c.0) }
 {
     let mut nodes = MemorySets::new(alloc, EPOCH, ROOM);
     let root = nodes.add_super_root()?;
@@ -149,7 +149,7 @@ fn empty(alloc: Global) -> Result<(MemorySets, NodeId), NoMemory>
 
 // Adds the leaf.
 fn with_leaf(alloc: Global, mut nodes: MemorySets, root: NodeId, leaf: Ref) -> Result<Volume, Fail>
-    requires empty { IsEmpty (forest_of nodes) root.0 }
+    requires empty { IsTop (forest_of nodes) root.0 }
     requires leaf { IsLeaf leaf }
     ensures volume { IfOk result (λ v. IsVolume (forest_of v.nodes) v.root.0 v.leaf) }
     ensures unloaded { IfOk result (λ v. let r : Ref = v.leaf in IsUnloaded (forest_of v.nodes) v.root.0 r.key) }
@@ -164,8 +164,8 @@ fn with_leaf(alloc: Global, mut nodes: MemorySets, root: NodeId, leaf: Ref) -> R
     Ok(Volume { nodes, root, leaf })
 }
 
-// The leaf of the directory.
-fn inode_leaf() -> Option<Ref>
+/// The leaf of inode 1.
+pub(super) fn inode_leaf() -> Option<Ref>
     ensures { IfSome result IsLeaf }
 {
     let leaf = Ref {

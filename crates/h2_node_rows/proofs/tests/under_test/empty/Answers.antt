@@ -1,4 +1,5 @@
-use Rattle.h2_node_rows.proofs.Kept.{fresh, readied}
+use Rattle.h2_node_rows.proofs.Kept.{fresh}
+use Rattle.h2_node_rows.proofs.Topped.{readied}
 use Rattle.h2_node_rows.proofs.tests.under_test.empty.Goals as goal
 
 pub returns : goal.returns

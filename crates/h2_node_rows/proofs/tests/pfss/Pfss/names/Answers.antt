@@ -1,0 +1,5 @@
+use Rattle.h2_node_rows.proofs.Topped.{visited}
+use Rattle.h2_node_rows.proofs.tests.pfss.Pfss.names.Goals as goal
+
+pub returns : goal.returns
+returns c = visited _ _ _ c.requires c.pfs_names.ensures.visits

@@ -1,0 +1,12 @@
+use Rattle.h2_inode.specs.VisitLaws.{walks_visit}
+use Rattle.h2_node_rows.proofs.Topped.{visited}
+use Rattle.h2_node_rows.proofs.tests.pfss.Pfss.test_free_id.Goals as goal
+
+pub returns-in_err-lookup-clause-top : goal.returns-in_err-lookup-clause-top
+returns-in_err-lookup-clause-top c = visited _ _ _ c.requires (walks_visit _ _ c.lookup.ensures.walks)
+
+pub returns-in-Some-clause-top : goal.returns-in-Some-clause-top
+returns-in-Some-clause-top c = visited _ _ _ c.requires (walks_visit _ _ c.lookup.ensures.walks)
+
+pub returns-in-None-clause-top : goal.returns-in-None-clause-top
+returns-in-None-clause-top c = visited _ _ _ c.requires (walks_visit _ _ c.lookup.ensures.walks)
