@@ -1,6 +1,5 @@
 ghost use Rattle.std.specs.Prelude.{◌≡◌};
 ghost use Rattle.h2_ref.specs.Fault.{kind_of};
-ghost use Rattle.h2_ref.specs.Ref.{kind_number};
 ghost use Rattle.h2_ref.specs.Table.{block_row, inline_row, map_row, row_of};
 
 use crate::flags::RefFlags;
@@ -108,7 +107,7 @@ const LONG_NAMES: Span = Span {
 /// The methods of blocks of files and directories.
 const BLOCK_METHODS: Methods = Methods::One(Method::Xxhash64);
 
-/// The kinds that have rows.
+/// The kinds that have rows, in the order of their numbers.
 const KINDS: [Kind; 7] = [
     Kind::Empty,
     Kind::Inode,
@@ -180,19 +179,9 @@ pub fn row_of(kind: Kind, method: u8) -> Row
     }
 }
 
-/// The number of a kind: it stands in each row of the kind.
-fn kind_number(kind: Kind) -> u8
-    ensures { result ≡ kind_number kind }
-{
-    row_of(kind, 0).number
-}
-
 /// The kind with the number; None where there is none.
 pub fn kind_of(number: u8) -> Option<Kind>
     ensures { result ≡ kind_of number }
 {
-    KINDS
-        .iter()
-        .copied()
-        .find(|kind| kind_number(*kind) == number)
+    KINDS.get(usize::from(number)).copied()
 }
