@@ -1,6 +1,6 @@
 -- How the trees of a forest of inodes are read: from its loaded nodes, and from what is told of blocks that aren't.
 use Rattle.std.specs.Prelude.{◌≡◌, ◌⊎◌, ℕ, true, false, List, Contains, Option, Some}
-use Rattle.h2_num.specs.Places.{Places}
+use Rattle.h2_num.specs.Places.{Places, SameBelow}
 use Rattle.h2_ref.specs.declared.reference.Ref.{Ref}
 use Rattle.h2_set.specs.Forest.{Forest, LeavesOf, KeepsLeaves}
 use Rattle.h2_inode.specs.declared.inode.Inode.{Inode}
@@ -46,6 +46,10 @@ loaded_nodes f holds tells Content = record {
 -- no block of content is read: enough for directories and lists of PFSs
 abbrev pub no_content : Ref → Places → Type 0
 no_content r block = ⊥
+
+-- each reference has the bytes of one block at most
+abbrev pub BlocksOne : (Ref → Places → Type 0) → Type 0
+BlocksOne Content = (r : Ref) (x y : Places) → Content r x → Content r y → SameBelow 16384 x y
 
 -- each leaf names one root at most
 abbrev pub NamesOne : Forest → Type 0

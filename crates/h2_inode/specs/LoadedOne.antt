@@ -1,9 +1,9 @@
 -- Where each leaf names one root at most, the reading of loaded nodes gives one answer at most.
-use Rattle.std.specs.Prelude.{◌≡◌, ℕ, true, false, List, ◌∷◌, ◌++◌, None, refl}
+use Rattle.std.specs.Prelude.{◌≡◌, ℕ, true, false, List, ◌∷◌, ◌++◌, Option, Some, None, refl}
 use Rattle.std.proofs.Common.{ap, sym, ◌∙◌, inl, inr, subst}
 use Rattle.std.proofs.lemmas.Bool.{cases_Bool, cases_eq}
 use Rattle.std.proofs.lemmas.Option.{same_Some}
-use Rattle.h2_num.specs.Places.{Places, SameBelow}
+use Rattle.h2_num.specs.Places.{Places}
 use Rattle.h2_ref.specs.declared.reference.Ref.{Ref}
 use Rattle.h2_set.specs.Forest.{Link, loaded, told, untold, Forest, refs, HasLeaves, done, one, near, far, IsSound, InPlace, Walks, ReadiesOnly, Alters, Stores, Makes}
 use Rattle.h2_set.specs.RefSet.{RefSet}
@@ -13,7 +13,7 @@ use Rattle.h2_inode.specs.Nodes.{Told, HasInode, IsNamed, Brings, Replaces}
 use Rattle.h2_inode.specs.NodeLaws.{named_back}
 use Rattle.h2_inode.specs.Single.{IsSingle}
 use Rattle.h2_inode.specs.NamedLaws.{inode_one, brings_bare}
-use Rattle.h2_inode.specs.Loaded.{Tree, at_root, of_leaves, HasAsLeaves, IsTold, NamesInode, View, reading, NamesOne}
+use Rattle.h2_inode.specs.Loaded.{Tree, at_root, of_leaves, HasAsLeaves, IsTold, NamesInode, View, reading, BlocksOne, NamesOne}
 
 abbrev loaded_node : ℕ → Link → ℕ
 loaded_node d (loaded c) = c
@@ -55,6 +55,10 @@ known_once (far {below = b} ind link inside rest) (far {below = e} ind' link' in
     let right = known_once rest rest' in
     λ i. left i ++ right i
 
+-- where at most one block is told for each reference
+pub told_blocks_one : (block : Ref → Option Places) → BlocksOne (λ r b. block r ≡ Some b)
+told_blocks_one block r x y p q = λ k less. ap (λ (b : Places). b k) (same_Some y x (sym q ∙ p))
+
 module _ (u : View) (one_root : NamesOne u.forest) where
   leaves_once : (t : Tree) (l m : List Ref) → HasAsLeaves u.forest t l → HasAsLeaves u.forest t m → m ≡ l
   leaves_once (at_root at) l m p q = known_once p q
@@ -75,7 +79,7 @@ module _ (u : View) (one_root : NamesOne u.forest) where
   inode_once (at_root top) r i j c d (inr p) (inr q) = told_once r i j c d p.1 q.1
   inode_once (of_leaves l) r i j c d p q = told_once r i j c d p q
 
-  pub loaded_single : (Content : Ref → Places → Type 0) → ((r : Ref) (x y : Places) → Content r x → Content r y → SameBelow 16384 x y) → IsSingle (reading u Content)
+  pub loaded_single : (Content : Ref → Places → Type 0) → BlocksOne Content → IsSingle (reading u Content)
   loaded_single Content single = record {
     leaves = leaves_once;
     inode = inode_once;

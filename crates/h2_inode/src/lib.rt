@@ -16,6 +16,7 @@
 
 mod arrangement;
 mod block_check;
+mod bytes_laws;
 mod contents;
 mod decoding;
 mod encoding;
@@ -32,6 +33,7 @@ mod nodes;
 mod pfs_name;
 
 pub use block_check::check_of;
+pub use bytes_laws::bytes_law;
 pub use decoding::decode_inode;
 pub use encoding::encode_inode;
 pub use fault::InodeFault;
