@@ -33,5 +33,9 @@ pub mod NamedLaws
 pub mod LoadedLaws
 pub mod PathLaws
 pub mod LoadedExample
+pub mod NamesOneLaws
 pub mod LoadedOne
+pub mod Others
+pub mod OthersLaws
+pub mod ContentsApart
 pub mod LeafReading

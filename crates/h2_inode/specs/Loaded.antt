@@ -51,10 +51,6 @@ no_content r block = ⊥
 abbrev pub BlocksOne : (Ref → Places → Type 0) → Type 0
 BlocksOne Content = (r : Ref) (x y : Places) → Content r x → Content r y → SameBelow 16384 x y
 
--- each leaf names one root at most
-abbrev pub NamesOne : Forest → Type 0
-NamesOne f = (top key c d : ℕ) → IsNamed f top key c → IsNamed f top key d → d ≡ c
-
 -- What is seen of a forest of inodes, and what trees stand for while it is loaded
 
 -- what a reading is made of, but for contents

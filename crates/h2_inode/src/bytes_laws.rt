@@ -2,8 +2,9 @@ ghost use Rattle.std.specs.Prelude.{◌≡◌, ◌≤◌, ℕ, List, length, tak
 ghost use Rattle.h2_num.specs.Places.{Places};
 ghost use Rattle.h2_ref.specs.declared.reference.Ref.{Ref};
 ghost use Rattle.h2_inode.specs.declared.inode.Body.{Body};
+ghost use Rattle.h2_inode.specs.Nodes.{NamesOne};
 ghost use Rattle.h2_inode.specs.Embedded.{EmbedsBytes, HasBytes};
-ghost use Rattle.h2_inode.specs.Loaded.{Tree, View, reading, NamesOne};
+ghost use Rattle.h2_inode.specs.Loaded.{Tree, View, reading};
 
 /// A law of the bytes of a file: a body that is long enough embeds its first bytes and no other ones. Where each leaf
 /// names one root at most and blocks have one contents at most, a body has one list of bytes at most.
