@@ -6,7 +6,7 @@ use Rattle.h2_geom.specs.Geometry.{segment_chunks, segment_of}
 use Rattle.h2_codes.specs.declared.code.Code.{Code}
 use Rattle.h2_codes.specs.declared.code.Code.TheVariants.{Free, Reserved, Staged, Used}
 use Rattle.h2_codes.specs.Codes.{code_at}
-use Rattle.h2_codes.specs.Cursor as cursor
+use Rattle.h2_codes.specs.Cursor.{unless_free as unless_code_free}
 use Rattle.h2_ledger.specs.declared.shared_size.SharedSize.{SharedSize}
 use Rattle.h2_ledger.specs.declared.shared_size.SharedSize.TheVariants.{Small, Middle}
 use Rattle.h2_codes.specs.declared.cursor.Cursor.{Cursor}
@@ -17,13 +17,13 @@ use Rattle.h2_plain_ledger.specs.Steps.{IsAppliedNext, MakesApply}
 same : (blocks : List Block) → Same has blocks blocks
 same blocks b = (λ i. i, λ i. i)
 
-kept_at : (code : Code) (at : Cursor) → code ≢ Free → cursor.unless_free code at ≡ Some at
+kept_at : (code : Code) (at : Cursor) → code ≢ Free → unless_code_free code at ≡ Some at
 kept_at Free at ne = absurd (ne refl)
 kept_at Reserved at ne = refl
 kept_at Staged at ne = refl
 kept_at Used at ne = refl
 
-left_at : (code : Code) (at new : Cursor) → cursor.unless_free code at ≡ Some new → (at ≡ new) × (code ≢ Free)
+left_at : (code : Code) (at new : Cursor) → unless_code_free code at ≡ Some new → (at ≡ new) × (code ≢ Free)
 left_at Free at new e = cc
 left_at Reserved at new e = (cc, λ f. cc)
 left_at Staged at new e = (cc, λ f. cc)

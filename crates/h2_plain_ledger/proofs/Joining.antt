@@ -9,6 +9,7 @@ use Rattle.h2_geom.specs.Geometry.{chunk_bytes}
 use Rattle.h2_codes.specs.declared.code.Code.{Code}
 use Rattle.h2_codes.specs.declared.code.Code.TheVariants.{Reserved, Used}
 use Rattle.h2_codes.specs.Codes.{code_at}
+use Rattle.h2_codes.specs.Free.{IsLowestFree}
 use Rattle.h2_ledger.specs.declared.shared_size.SharedSize.{SharedSize}
 use Rattle.h2_ledger.specs.declared.shared_size.SharedSize.TheVariants.{Small, Middle}
 use Rattle.h2_codes.specs.declared.cursor.Cursor.{Cursor}

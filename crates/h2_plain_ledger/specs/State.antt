@@ -7,7 +7,7 @@ use Rattle.h2_codes.specs.declared.code.Code.{Code}
 use Rattle.h2_codes.specs.declared.code.Code.TheVariants.{Free, Reserved, Staged, Used}
 use Rattle.h2_codes.specs.Codes.{code_at}
 use Rattle.h2_codes.specs.Bulkfree.{seen_code, unseen_code}
-use Rattle.h2_codes.specs.Cursor as cursor
+use Rattle.h2_codes.specs.Cursor.{unless_free as unless_code_free}
 use Rattle.h2_codes.specs.Free.{IsLowestFree}
 use Rattle.h2_ledger.specs.declared.shared_size.SharedSize.{SharedSize}
 use Rattle.h2_ledger.specs.declared.shared_size.SharedSize.TheVariants.{Small, Middle}
@@ -39,7 +39,7 @@ IsFilledAt size (Some at) = chunk_bytes < at.used + 2 ^ radix_of size
 -- the cursor, unless its chunk is free
 abbrev pub unless_free : List Code → Option Cursor → Option Cursor
 unless_free codes None = None
-unless_free codes (Some at) = cursor.unless_free (code_at codes at.chunk) at
+unless_free codes (Some at) = unless_code_free (code_at codes at.chunk) at
 
 -- what is kept, in lists
 pub record State : Type 0 where

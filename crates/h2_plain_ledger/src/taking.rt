@@ -3,9 +3,8 @@ use crate::buying::{Payment, buy};
 use crate::cursors::{bytes_of, is_filled, radix_of, room_at};
 use crate::ledger::PlainLedger;
 use crate::sharing::may_share;
-use h2_codes::Code;
+use h2_codes::{Code, Cursor};
 use h2_geom::{CHUNK_BYTES, chunk_place};
-use h2_codes::Cursor;
 use h2_ledger::SharedSize;
 use h2_num::{Block, NoMemory};
 

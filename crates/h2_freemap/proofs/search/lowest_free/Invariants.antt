@@ -1,5 +1,6 @@
 use Rattle.std.proofs.Common.{◌*◌}
 use Rattle.h2_codes.specs.Free.{NoneFreeBelow}
+use Rattle.h2_freemap.specs.Space.{code_in}
 use Rattle.h2_freemap.proofs.search.lowest_free.Given as goal
 
 abbrev pub invariant-loop-s : goal.invariant-loop-s

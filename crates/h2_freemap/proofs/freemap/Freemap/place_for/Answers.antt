@@ -1,7 +1,7 @@
 use Rattle.std.proofs.Common.{◌≤◌, ◌*◌, List, length, ap, sym, ◌∙◌, subst}
 use Rattle.std.specs.Option.{MatchOption}
 use Rattle.h2_codes.specs.declared.code.Code.{Code}
-use Rattle.h2_freemap.specs.Space.{Space, cursor_of}
+use Rattle.h2_freemap.specs.Space.{Space, code_in, cursor_of}
 use Rattle.h2_freemap.specs.Free.{free_of}
 use Rattle.h2_freemap.specs.Need.{need_of_one}
 use Rattle.h2_codes.specs.Free.{NoneFreeBelow, IsLowestFree}
