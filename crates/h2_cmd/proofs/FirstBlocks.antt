@@ -6,9 +6,10 @@ use Rattle.h2_num.specs.declared.block.Block.{Block}
 use Rattle.h2_geom.specs.Geometry.{IsReserved, chunks_of}
 use Rattle.h2_codes.specs.declared.code.Code.TheVariants.{Free, Reserved, Used}
 use Rattle.h2_freemap.specs.declared.size.Size.TheVariants.{Small}
-use Rattle.h2_freemap.specs.declared.cursor.Cursor.{Cursor}
+use Rattle.h2_codes.specs.declared.cursor.Cursor.{Cursor}
 use Rattle.h2_freemap.specs.Space.{Space, chunk_count, code_of}
-use Rattle.h2_freemap.specs.Free.{free_of, IsLowestFree}
+use Rattle.h2_codes.specs.Free.{IsLowestFree}
+use Rattle.h2_freemap.specs.Free.{free_of}
 use Rattle.h2_freemap.specs.Taking.{HasNoRoom, GoesTo, at_cursor, at_lowest, Takes}
 use Rattle.h2_freemap.specs.Need.{blocks_left, need_of_one}
 use Rattle.h2_freemap.specs.Made.{IsFresh}
@@ -16,7 +17,7 @@ use Rattle.h2_freemap.specs.Consistent.{IsConsistent}
 use Rattle.h2_image.specs.NewVolume.{inode_chunk, directory_place, pfs_place, IsNewCode, AreNewSegments}
 
 -- the lowest free chunk of a new volume is the one behind its first reserved segment
-lowest_is : (zones : ℕ) (x : Space) (c : ℕ) → 4 ≤ zones → IsFresh zones x → IsLowestFree x c → c ≡ 256
+lowest_is : (zones : ℕ) (x : Space) (c : ℕ) → 4 ≤ zones → IsFresh zones x → IsLowestFree (code_of x) (chunk_count x) c → c ≡ 256
 lowest_is zones x c some fresh lowest = split (cases_lt c 256) (cases_lt 256 c)
   where
     in' : c < 2048 * zones

@@ -1,4 +1,6 @@
 pub mod Codes
+pub mod Free
+pub mod Cursor
 pub mod Seen
 pub mod Bulkfree
 pub mod Layout

@@ -11,9 +11,10 @@ use Rattle.h2_codes.specs.declared.code.Code.TheVariants.{Free, Used}
 use Rattle.h2_codes.specs.Codes.{IsSegment, tally, count_of}
 use Rattle.h2_freemap.specs.declared.size.Size.{Size}
 use Rattle.h2_freemap.specs.declared.size.Size.TheVariants.{Small, Middle, Whole}
-use Rattle.h2_freemap.specs.declared.cursor.Cursor.{Cursor}
+use Rattle.h2_codes.specs.declared.cursor.Cursor.{Cursor}
 use Rattle.h2_freemap.specs.Space.{Space, chunk_count, code_in, code_of, cursor_of, ChangesCode}
-use Rattle.h2_freemap.specs.Free.{free_below, free_of}
+use Rattle.h2_codes.specs.Free.{free_below}
+use Rattle.h2_freemap.specs.Free.{free_of}
 use Rattle.h2_freemap.specs.Search.{with_code}
 use Rattle.h2_freemap.specs.Taking.{with_cursor}
 use Rattle.h2_freemap.specs.Sweeping.{kept_cursor}

@@ -4,7 +4,7 @@ use Rattle.std.proofs.lemmas.Bool.{cases_eq}
 use Rattle.h2_codes.specs.declared.code.Code.{Code}
 use Rattle.h2_codes.specs.declared.code.Code.TheVariants.{Free, Reserved, Staged, Used}
 use Rattle.h2_codes.specs.Codes.{tally}
-use Rattle.h2_freemap.specs.Free.{free_below}
+use Rattle.h2_codes.specs.Free.{free_below}
 
 -- a code that isn't that of a free chunk counts nothing
 pub not_free : (code : Code) → code ≢ Free → tally Free code ≡ 0

@@ -9,7 +9,8 @@ use Rattle.h2_codes.specs.declared.code.Code.{Code}
 use Rattle.h2_codes.specs.declared.code.Code.TheVariants.{Free, Reserved}
 use Rattle.h2_codes.specs.Codes.{IsSegment, code_at, count_of}
 use Rattle.h2_freemap.specs.Space.{Space, code_in, code_of}
-use Rattle.h2_freemap.specs.Free.{free_below, free_of}
+use Rattle.h2_codes.specs.Free.{free_below}
+use Rattle.h2_freemap.specs.Free.{free_of}
 use Rattle.h2_freemap.specs.Made.{fresh_segment, AreFresh, IsOpened, IsFresh}
 use Rattle.h2_freemap.proofs.SegmentCodes.{count_more}
 

@@ -6,7 +6,7 @@ use Rattle.h2_geom.specs.Geometry.{chunk_bytes}
 use Rattle.h2_codes.specs.declared.code.Code.TheVariants.{Used}
 use Rattle.h2_freemap.specs.declared.size.Size.{Size}
 use Rattle.h2_freemap.specs.declared.size.Size.TheVariants.{Small, Middle, Whole}
-use Rattle.h2_freemap.specs.declared.cursor.Cursor.{Cursor}
+use Rattle.h2_codes.specs.declared.cursor.Cursor.{Cursor}
 use Rattle.h2_freemap.specs.Space.{Space, code_of}
 use Rattle.h2_freemap.specs.Free.{free_of}
 use Rattle.h2_freemap.specs.Taking.{HasNoRoom, GoesTo, at_cursor, at_lowest, Takes}

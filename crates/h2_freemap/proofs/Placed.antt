@@ -5,10 +5,10 @@ use Rattle.h2_geom.specs.Geometry.{chunk_bytes, segments_of, chunk_place}
 use Rattle.h2_codes.specs.declared.code.Code.TheVariants.{Used}
 use Rattle.h2_freemap.specs.declared.size.Size.{Size}
 use Rattle.h2_freemap.specs.declared.size.Size.TheVariants.{Small, Middle, Whole}
-use Rattle.h2_freemap.specs.declared.cursor.Cursor.{Cursor}
+use Rattle.h2_codes.specs.declared.cursor.Cursor.{Cursor}
 use Rattle.h2_freemap.specs.Space.{Space, chunk_count, code_of, cursor_of, ChangesCode}
 use Rattle.h2_freemap.specs.Free.{free_of}
-use Rattle.h2_freemap.specs.Search.{NoneFreeIn, IsLowestIn}
+use Rattle.h2_codes.specs.Free.{NoneFreeBelow, IsLowestFree}
 use Rattle.h2_freemap.specs.Taking.{bytes_of, HasNoRoom, GoesTo, at_cursor, at_lowest, with_cursor}
 use Rattle.h2_freemap.specs.Need.{blocks_left, need_of_one, HasCursorsInUse}
 use Rattle.h2_freemap.specs.Consistent.{IsCursor, IsConsistent}
@@ -32,7 +32,7 @@ no_room_need Whole x none = omega arith
 
 -- and then there is one
 pub found : (size : Size) (x : Space) (result : Option ℕ) → IsConsistent x → HasNoRoom size (cursor_of x size) → need_of_one size x ≤ free_of x
-    → MatchOption result (NoneFreeIn (256 * length x.segments) x.segments) (IsLowestIn x.segments) → IsSome result
+    → MatchOption result (NoneFreeBelow (code_of x) (256 * length x.segments)) (IsLowestFree (code_of x) (256 * length x.segments)) → IsSome result
 found size x (Some chunk) ok none enough is = search rules
 found size x None ok none enough is =
     let one : need_of_one size x ≡ 1 = no_room_need size x none in

@@ -9,8 +9,8 @@ use Rattle.h2_codes.specs.declared.code.Code.{Code}
 use Rattle.h2_codes.specs.declared.code.Code.TheVariants.{Free, Reserved, Staged, Used}
 use Rattle.h2_codes.specs.Codes.{IsSegment, code_at, tally, count_of}
 use Rattle.h2_freemap.specs.Space.{code_in}
-use Rattle.h2_freemap.specs.Free.{free_below}
-use Rattle.h2_freemap.specs.Search.{NoneFreeIn, with_code}
+use Rattle.h2_codes.specs.Free.{free_below, NoneFreeBelow}
+use Rattle.h2_freemap.specs.Search.{with_code}
 use Rattle.h2_freemap.proofs.Counting.{not_free}
 
 -- a chunk by its segment and its number there
@@ -21,7 +21,7 @@ code_here segments s k lt =
     ap (λ (i : ℕ). code_at (slice_index_or segments i []) (in_segment (256 * s + k))) a ∙ ap (λ (i : ℕ). code_at (slice_index_or segments s []) i) b
 
 -- a segment more without a free chunk
-pub none_more : (segments : List (List Code)) (s : ℕ) → NoneFreeIn (256 * s) segments → ((k : ℕ) → k < 256 → code_at (slice_index_or segments s []) k ≢ Free) → NoneFreeIn (256 * (s + 1)) segments
+pub none_more : (segments : List (List Code)) (s : ℕ) → NoneFreeBelow (code_in segments) (256 * s) → ((k : ℕ) → k < 256 → code_at (slice_index_or segments s []) k ≢ Free) → NoneFreeBelow (code_in segments) (256 * (s + 1))
 none_more segments s below here c lt free = split (cases_lt c (256 * s))
   where
     split : (c < 256 * s) ⊎ (256 * s ≤ c) → ⊥

@@ -7,9 +7,10 @@ use Rattle.h2_codes.specs.declared.code.Code.TheVariants.{Free, Used}
 use Rattle.h2_codes.specs.Codes.{tally}
 use Rattle.h2_freemap.specs.declared.size.Size.{Size}
 use Rattle.h2_freemap.specs.declared.size.Size.TheVariants.{Small, Middle, Whole}
-use Rattle.h2_freemap.specs.declared.cursor.Cursor.{Cursor}
+use Rattle.h2_codes.specs.declared.cursor.Cursor.{Cursor}
 use Rattle.h2_freemap.specs.Space.{Space, chunk_count, code_of, cursor_of, ChangesCode}
-use Rattle.h2_freemap.specs.Free.{free_below, free_of, IsLowestFree}
+use Rattle.h2_codes.specs.Free.{free_below, IsLowestFree}
+use Rattle.h2_freemap.specs.Free.{free_of}
 use Rattle.h2_freemap.specs.Taking.{GoesTo, at_cursor, at_lowest, cursor_behind, Takes}
 use Rattle.h2_freemap.specs.Need.{HasCursorsInUse}
 use Rattle.h2_freemap.proofs.Counting.{not_free, free_same, free_taken}
@@ -29,7 +30,7 @@ used_again x y chunk in_use c =
     at d (inr ne) = ap (tally Free) (sym (c.others d ne))
 
 -- a free chunk becomes used: one less is free
-used_first : (x y : Space) (chunk : ℕ) → IsLowestFree x chunk → ChangesCode chunk Used x y → free_of x ≡ free_of y + 1
+used_first : (x y : Space) (chunk : ℕ) → IsLowestFree (code_of x) (chunk_count x) chunk → ChangesCode chunk Used x y → free_of x ≡ free_of y + 1
 used_first x y chunk lowest c =
     free_taken (code_of x) (code_of y) chunk lowest.free c.changed c.others (chunk_count x) lowest.in_volume ∙ ap (λ (zones : ℕ). free_below (code_of y) (chunks_of zones) + 1) (sym c.zones)
 

@@ -5,7 +5,7 @@ use Rattle.h2_geom.specs.Geometry.{IsZoneCount, segments_of, chunk_bytes}
 use Rattle.h2_codes.specs.declared.code.Code.TheVariants.{Free}
 use Rattle.h2_codes.specs.Codes.{IsSegment}
 use Rattle.h2_freemap.specs.declared.size.Size.{Size}
-use Rattle.h2_freemap.specs.declared.cursor.Cursor.{Cursor}
+use Rattle.h2_codes.specs.declared.cursor.Cursor.{Cursor}
 use Rattle.h2_freemap.specs.Space.{Space, chunk_count, code_of, cursor_of, InVolume}
 use Rattle.h2_freemap.specs.Taking.{bytes_of}
 

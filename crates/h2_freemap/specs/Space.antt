@@ -6,7 +6,7 @@ use Rattle.h2_codes.specs.declared.code.Code.{Code}
 use Rattle.h2_codes.specs.declared.code.Code.TheVariants.{Reserved}
 use Rattle.h2_freemap.specs.declared.size.Size.{Size}
 use Rattle.h2_freemap.specs.declared.size.Size.TheVariants.{Small, Middle, Whole}
-use Rattle.h2_freemap.specs.declared.cursor.Cursor.{Cursor}
+use Rattle.h2_codes.specs.declared.cursor.Cursor.{Cursor}
 
 -- the zones of the volume, the codes of its segments in order, the cursors of the sizes that share a chunk, the pinned
 -- blocks, and how many more pins have room

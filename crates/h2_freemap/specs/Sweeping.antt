@@ -2,23 +2,16 @@
 use Rattle.std.specs.Prelude.{◌≡◌, ◌≢◌, ℕ, List, [], Bool, Option, Some, None, slice_index_or}
 use Rattle.h2_geom.specs.Geometry.{segment_of, in_segment}
 use Rattle.h2_codes.specs.declared.code.Code.{Code}
-use Rattle.h2_codes.specs.declared.code.Code.TheVariants.{Free, Reserved, Staged, Used}
 use Rattle.h2_codes.specs.Seen.{has_chunk}
 use Rattle.h2_codes.specs.Bulkfree.{swept_code}
+use Rattle.h2_codes.specs.Cursor.{unless_free}
 use Rattle.h2_freemap.specs.declared.size.Size.{Size}
-use Rattle.h2_freemap.specs.declared.cursor.Cursor.{Cursor}
+use Rattle.h2_codes.specs.declared.cursor.Cursor.{Cursor}
 use Rattle.h2_freemap.specs.Space.{Space, code_in, code_of, cursor_of, KeepsPins}
 
 -- the codes of a segment
 abbrev pub segment_at : Space → ℕ → List Code
 segment_at x segment = slice_index_or x.segments segment []
-
--- a cursor is kept but where its chunk is free
-abbrev pub unless_free : Code → Cursor → Option Cursor
-unless_free Free cursor = None
-unless_free Reserved cursor = Some cursor
-unless_free Staged cursor = Some cursor
-unless_free Used cursor = Some cursor
 
 -- the cursor that is left, by the codes of the segments afterwards
 abbrev pub kept_cursor : List (List Code) → Option Cursor → Option Cursor

@@ -2,9 +2,10 @@
 use Rattle.std.proofs.Common.{◌≡◌, ◌≢◌, List, Option, Some, None, refl, sym, ap, ◌∙◌}
 use Rattle.h2_codes.specs.declared.code.Code.{Code}
 use Rattle.h2_codes.specs.declared.code.Code.TheVariants.{Free, Reserved, Staged, Used}
-use Rattle.h2_freemap.specs.declared.cursor.Cursor.{Cursor}
+use Rattle.h2_codes.specs.declared.cursor.Cursor.{Cursor}
 use Rattle.h2_freemap.specs.Space.{code_in}
-use Rattle.h2_freemap.specs.Sweeping.{unless_free, kept_cursor}
+use Rattle.h2_codes.specs.Cursor.{unless_free}
+use Rattle.h2_freemap.specs.Sweeping.{kept_cursor}
 
 -- a cursor that is there afterwards was there before, and its chunk isn't free
 pub kept_is : (segments : List (List Code)) (cursor : Option Cursor) (at : Cursor) → kept_cursor segments cursor ≡ Some at → (cursor ≡ Some at) × (code_in segments at.chunk ≢ Free)

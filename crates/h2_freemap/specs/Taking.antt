@@ -5,9 +5,9 @@ use Rattle.h2_geom.specs.Geometry.{chunk_bytes, chunk_place}
 use Rattle.h2_codes.specs.declared.code.Code.TheVariants.{Used}
 use Rattle.h2_freemap.specs.declared.size.Size.{Size}
 use Rattle.h2_freemap.specs.declared.size.Size.TheVariants.{Small, Middle, Whole}
-use Rattle.h2_freemap.specs.declared.cursor.Cursor.{Cursor}
-use Rattle.h2_freemap.specs.Space.{Space, cursor_of, ChangesCode, KeepsPins}
-use Rattle.h2_freemap.specs.Free.{IsLowestFree}
+use Rattle.h2_codes.specs.declared.cursor.Cursor.{Cursor}
+use Rattle.h2_freemap.specs.Space.{Space, chunk_count, code_of, cursor_of, ChangesCode, KeepsPins}
+use Rattle.h2_codes.specs.Free.{IsLowestFree}
 
 -- the bytes of a block of a size
 abbrev pub bytes_of : Size → ℕ
@@ -33,7 +33,7 @@ HasNoRoom size (Some cursor) = chunk_bytes < cursor.used + bytes_of size
 -- where a block of the size goes: to its cursor, or where that has no room to the start of the lowest free chunk
 pub data GoesTo (size : Size) (x : Space) (at : Cursor) : Type 0 where
   at_cursor : cursor_of x size ≡ Some at → HasRoom size at → GoesTo size x at
-  at_lowest : HasNoRoom size (cursor_of x size) → at.used ≡ 0 → IsLowestFree x at.chunk → GoesTo size x at
+  at_lowest : HasNoRoom size (cursor_of x size) → at.used ≡ 0 → IsLowestFree (code_of x) (chunk_count x) at.chunk → GoesTo size x at
 
 -- the cursor behind the block
 abbrev pub cursor_behind : Size → Cursor → Option Cursor

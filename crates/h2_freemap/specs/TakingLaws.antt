@@ -5,9 +5,9 @@ use Rattle.h2_geom.specs.Geometry.{chunk_bytes, chunk_of, chunk_place}
 use Rattle.h2_codes.specs.declared.code.Code.TheVariants.{Used}
 use Rattle.h2_freemap.specs.declared.size.Size.{Size}
 use Rattle.h2_freemap.specs.declared.size.Size.TheVariants.{Small, Middle, Whole}
-use Rattle.h2_freemap.specs.declared.cursor.Cursor.{Cursor}
-use Rattle.h2_freemap.specs.Space.{Space, cursor_of, ChangesCode}
-use Rattle.h2_freemap.specs.Free.{IsLowestFree}
+use Rattle.h2_codes.specs.declared.cursor.Cursor.{Cursor}
+use Rattle.h2_freemap.specs.Space.{Space, chunk_count, code_of, cursor_of, ChangesCode}
+use Rattle.h2_codes.specs.Free.{IsLowestFree}
 use Rattle.h2_freemap.specs.Taking.{bytes_of, radix_of, HasRoom, HasNoRoom, GoesTo, at_cursor, at_lowest, Takes}
 
 -- the bytes of a size by its radix
@@ -44,15 +44,15 @@ taken_code size x y b t = subst (λ (c : ℕ). ChangesCode c Used x y) (sym (tak
 
 -- at a cursor with room, or at the start of the lowest free chunk
 pub taken_place : (size : Size) (x y : Space) (b : Block) → Takes size x y b
-    → ((at : Cursor) × (cursor_of x size ≡ Some at) × HasRoom size at × (b.place ≡ chunk_place at.chunk + at.used)) ⊎ (HasNoRoom size (cursor_of x size) × (b.place ≡ chunk_place (chunk_of b.place)) × IsLowestFree x (chunk_of b.place))
+    → ((at : Cursor) × (cursor_of x size ≡ Some at) × HasRoom size at × (b.place ≡ chunk_place at.chunk + at.used)) ⊎ (HasNoRoom size (cursor_of x size) × (b.place ≡ chunk_place (chunk_of b.place)) × IsLowestFree (code_of x) (chunk_count x) (chunk_of b.place))
 taken_place size x y b t = split t.goes_to
   where
     chunk : t.at.chunk ≡ chunk_of b.place
     chunk = sym (taken_chunk size x y b t)
 
-    split : GoesTo size x t.at → ((at : Cursor) × (cursor_of x size ≡ Some at) × HasRoom size at × (b.place ≡ chunk_place at.chunk + at.used)) ⊎ (HasNoRoom size (cursor_of x size) × (b.place ≡ chunk_place (chunk_of b.place)) × IsLowestFree x (chunk_of b.place))
+    split : GoesTo size x t.at → ((at : Cursor) × (cursor_of x size ≡ Some at) × HasRoom size at × (b.place ≡ chunk_place at.chunk + at.used)) ⊎ (HasNoRoom size (cursor_of x size) × (b.place ≡ chunk_place (chunk_of b.place)) × IsLowestFree (code_of x) (chunk_count x) (chunk_of b.place))
     split (at_cursor is room) = inl (t.at, is, room, t.place)
     split (at_lowest none start lowest) =
         let place : b.place ≡ chunk_place t.at.chunk + t.at.used = t.place in
         let at : t.at.chunk ≡ chunk_of b.place = chunk in
-        inr (none, omega arith, subst (IsLowestFree x) chunk lowest)
+        inr (none, omega arith, subst (IsLowestFree (code_of x) (chunk_count x)) chunk lowest)

@@ -5,17 +5,8 @@ ghost use Rattle.h2_freemap.specs.Taking.{HasRoom, HasNoRoom};
 ghost use Rattle.h2_freemap.specs.Sweeping.{kept_cursor};
 
 use crate::size::Size;
-use h2_codes::{Code, Segment};
+use h2_codes::{Code, Cursor, Segment};
 use h2_geom::{CHUNK_BYTES, SEGMENT_CHUNKS};
-
-/// Where the next block of a size that shares a chunk goes.
-#[derive(Clone, Copy, Debug, PartialEq, Eq)]
-pub struct Cursor {
-    /// The chunk.
-    pub chunk: u32,
-    /// The bytes of the chunk that are taken, from its start on.
-    pub used: u32,
-}
 
 /// How many blocks of a size the cursor's chunk has room for; none where there is no cursor.
 pub(crate) fn blocks_left(cursor: Option<Cursor>, size: Size) -> u32

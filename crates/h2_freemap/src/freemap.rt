@@ -9,10 +9,9 @@ mod pinning;
 mod sweeping;
 mod taking;
 
-use crate::cursor::Cursor;
 use crate::making::fresh_segments;
 use crate::search::count_free;
-use h2_codes::{Code, Segment};
+use h2_codes::{Code, Cursor, Segment};
 use h2_geom::{Geometry, SEGMENT_CHUNKS};
 use h2_num::{Block, NoMemory};
 use std::alloc::Global;

@@ -14,7 +14,6 @@ mod making;
 mod search;
 mod size;
 
-pub use cursor::Cursor;
 pub use freemap::Freemap;
 pub use laws::need_law;
 pub use size::Size;

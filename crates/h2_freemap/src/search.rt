@@ -2,8 +2,7 @@ ghost use Rattle.std.specs.Prelude.{◌≡◌, ◌≢◌, ◌<◌, ◌≤◌, �
 ghost use Rattle.h2_codes.specs.Codes.{IsSegment, tally};
 ghost use Rattle.h2_codes.specs.declared.code.Code.TheVariants.{Free};
 ghost use Rattle.h2_freemap.specs.Space.{code_in};
-ghost use Rattle.h2_freemap.specs.Search.{IsLowestIn, NoneFreeIn};
-ghost use Rattle.h2_freemap.specs.Free.{free_below};
+ghost use Rattle.h2_codes.specs.Free.{NoneFreeBelow, IsLowestFree, free_below};
 
 use h2_codes::{Code, Segment};
 use h2_geom::SEGMENT_CHUNKS;
@@ -13,7 +12,7 @@ use h2_num::Block;
 /// is passed over by its count.
 pub(crate) fn lowest_free(segments: &[Segment]) -> Option<u32>
     requires { length segments.now ≤ 4096 }
-    ensures { MatchOption result (NoneFreeIn (256 * length segments.now) segments.now) (IsLowestIn segments.now) }
+    ensures { MatchOption result (NoneFreeBelow (code_in segments.now) (256 * length segments.now)) (IsLowestFree (code_in segments.now) (256 * length segments.now)) }
 {
     for (s, segment) in segments.iter().enumerate() {
         if segment.free() > 0 {

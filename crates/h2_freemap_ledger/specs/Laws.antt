@@ -10,8 +10,8 @@ use Rattle.h2_freemap.specs.Need.{need_of_one, need_of_all, TakesAll}
 use Rattle.h2_freemap.specs.Pins.{is_in_use}
 use Rattle.h2_freemap.specs.Pins as pinning
 use Rattle.h2_freemap.specs.Sweeping.{Sweeps}
-use Rattle.h2_ledger.specs.declared.cursor.SharedSize.{SharedSize}
-use Rattle.h2_ledger.specs.declared.cursor.Cursor.{Cursor}
+use Rattle.h2_ledger.specs.declared.shared_size.SharedSize.{SharedSize}
+use Rattle.h2_codes.specs.declared.cursor.Cursor.{Cursor}
 use Rattle.h2_ledger.specs.Ledger.{Ledger, LiesInOneChunk, block_chunk}
 use Rattle.h2_ledger.specs.Moves.{Move, adopt, apply, Makes, Within, WithinAnd, IsGranted}
 use Rattle.h2_ledger.specs.Sound.{IsSound}

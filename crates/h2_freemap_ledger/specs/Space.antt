@@ -1,28 +1,22 @@
 -- A ledger that has the codes and cursors of a freemap, and what else is done to it beside the freemap's part of a move.
-use Rattle.std.specs.Prelude.{ℕ, suc, Bool, IsTrue, ◌≡◌, ◌⊎◌, ◌↔◌, ◌+◌, ◌*◌, ◌<◌, ◌≤◌, List, Option, Some, None}
+use Rattle.std.specs.Prelude.{ℕ, suc, Bool, IsTrue, ◌≡◌, ◌⊎◌, ◌↔◌, ◌+◌, ◌*◌, ◌<◌, ◌≤◌, List}
 use Rattle.h2_num.specs.declared.block.Block.{Block}
 use Rattle.h2_geom.specs.Geometry.{segment_of, in_segment, segment_chunks}
 use Rattle.h2_codes.specs.Seen.{has_chunk}
 use Rattle.h2_freemap.specs.declared.size.Size.{Size}
 use Rattle.h2_freemap.specs.declared.size.Size.TheVariants as sizes
-use Rattle.h2_freemap.specs.declared.cursor.Cursor as map
 use Rattle.h2_freemap.specs.Space.{Space, chunk_count, code_of, cursor_of}
-use Rattle.h2_ledger.specs.declared.cursor.SharedSize.{SharedSize}
-use Rattle.h2_ledger.specs.declared.cursor.SharedSize.TheVariants.{Small, Middle}
-use Rattle.h2_ledger.specs.declared.cursor.Cursor.{Cursor}
+use Rattle.h2_ledger.specs.declared.shared_size.SharedSize.{SharedSize}
+use Rattle.h2_ledger.specs.declared.shared_size.SharedSize.TheVariants.{Small, Middle}
 use Rattle.h2_ledger.specs.declared.pass.Pass.TheVariants.{Idle, Scanning}
-use Rattle.h2_ledger.specs.Ledger.{Ledger, free_below, HasBlockIn}
+use Rattle.h2_codes.specs.Free.{free_below}
+use Rattle.h2_ledger.specs.Ledger.{Ledger, HasBlockIn}
 use Rattle.h2_ledger.specs.Moves.{Move, take_next, take_first, take_whole, Same, WithinAnd, RootsStay, PassStays, UsesLessen}
 
 -- a shared size as a size of the freemap
 abbrev pub size_of : SharedSize → Size
 size_of Small = sizes.Small
 size_of Middle = sizes.Middle
-
--- a cursor of the freemap as one of the ledger
-abbrev pub as_cursor : Option map.Cursor → Option Cursor
-as_cursor None = None
-as_cursor (Some at) = Some (record { chunk = at.chunk; used = at.used })
 
 -- the move takes this block of this size
 abbrev pub IsTakeOf : Size → Block → Move → Type 0
@@ -36,7 +30,7 @@ module _ {Set : Type 0} (◌∈◌ : Block → Set → Type 0) where
   pub record HasSpace (s : Space) (l : Ledger Set) : Type 0 where
     pub chunks : l.chunks ≡ chunk_count s
     pub codes : (c : ℕ) → l.code c ≡ code_of s c
-    pub cursors : (k : SharedSize) → l.cursor k ≡ as_cursor (cursor_of s (size_of k))
+    pub cursors : (k : SharedSize) → l.cursor k ≡ cursor_of s (size_of k)
 
   -- so many free chunks are paid for: they were reserved, or they are free beyond all that is reserved
   abbrev pub PaysFor : ℕ → Ledger Set → Ledger Set → Type 0

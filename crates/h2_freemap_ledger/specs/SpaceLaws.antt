@@ -5,41 +5,27 @@ use Rattle.h2_num.specs.declared.block.Block.{Block}
 use Rattle.h2_geom.specs.Geometry.{chunk_bytes, segment_of, in_segment, chunks_of, chunk_place}
 use Rattle.h2_codes.specs.declared.code.Code.{Code}
 use Rattle.h2_codes.specs.declared.code.Code.TheVariants.{Free, Reserved, Staged, Used}
-use Rattle.h2_codes.specs.Codes.{tally}
+use Rattle.h2_codes.specs.Free.{free_below, IsLowestFree}
 use Rattle.h2_codes.specs.Seen.{has_chunk}
 use Rattle.h2_codes.specs.Bulkfree.{seen_code, unseen_code, swept_code}
 use Rattle.h2_freemap.specs.declared.size.Size.{Size}
 use Rattle.h2_freemap.specs.declared.size.Size.TheVariants as sizes
-use Rattle.h2_freemap.specs.declared.cursor.Cursor as map
 use Rattle.h2_freemap.specs.Space.{Space, chunk_count, code_in, code_of, cursor_of, ChangesCode}
-use Rattle.h2_freemap.specs.Free as counting
-use Rattle.h2_freemap.specs.Free.{free_of, IsLowestFree}
+use Rattle.h2_freemap.specs.Free.{free_of}
 use Rattle.h2_freemap.specs.Taking as taking
 use Rattle.h2_freemap.specs.Taking.{bytes_of, HasRoom, HasNoRoom, GoesTo, at_cursor, at_lowest, cursor_behind, Takes}
 use Rattle.h2_freemap.specs.Need.{blocks_left, need_of_one, need_of_all, NeedSplits}
 use Rattle.h2_freemap.specs.Pins.{is_in_use}
-use Rattle.h2_freemap.specs.Sweeping.{unless_free, kept_cursor}
-use Rattle.h2_ledger.specs.declared.cursor.SharedSize.{SharedSize}
-use Rattle.h2_ledger.specs.declared.cursor.SharedSize.TheVariants.{Small, Middle}
-use Rattle.h2_ledger.specs.declared.cursor.Cursor.{Cursor}
-use Rattle.h2_ledger.specs.Ledger.{Ledger, one_if_free, free_below, block_chunk, block_bytes, IsTaken, HasBlockIn}
+use Rattle.h2_freemap.specs.SweepingLaws.{kept_is, kept_stays}
+use Rattle.h2_ledger.specs.declared.shared_size.SharedSize.{SharedSize}
+use Rattle.h2_ledger.specs.declared.shared_size.SharedSize.TheVariants.{Small, Middle}
+use Rattle.h2_codes.specs.declared.cursor.Cursor.{Cursor}
+use Rattle.h2_ledger.specs.Ledger.{Ledger, block_chunk, block_bytes, IsTaken, HasBlockIn}
 use Rattle.h2_ledger.specs.Moves.{Move, take_next, take_first, take_whole, adopt, apply, radix_of, Makes, WithinAnd, Joins, IsAtCursor, IsFilled, IsAtLowest, IsPaid, IsGranted, at_whole, TakesNext, TakesFirst, TakesWhole, Adopts, Applies}
 use Rattle.h2_ledger.specs.Moves as ledger
-use Rattle.h2_freemap_ledger.specs.Space.{size_of, as_cursor, IsTakeOf, HasSpace, PaysFor, JoinsBeside}
+use Rattle.h2_ledger.specs.CountLaws as counting
+use Rattle.h2_freemap_ledger.specs.Space.{size_of, IsTakeOf, HasSpace, PaysFor, JoinsBeside}
 use Rattle.h2_freemap_ledger.specs.Laws.{TakeMoves, TakeIsGranted, AdoptMoves, ApplyMoves, PaidIsFree, ReservationPays}
-
--- The two ways to count free chunks agree
-
-one_same : (code : Code) → one_if_free code ≡ tally Free code
-one_same Free = refl
-one_same Reserved = refl
-one_same Staged = refl
-one_same Used = refl
-
-below_same : (f g : ℕ → Code) → ((c : ℕ) → f c ≡ g c) → (n : ℕ) → free_below f n ≡ counting.free_below g n
-unfolding free_below counting.free_below
-below_same f g e zero = refl
-below_same f g e (suc n) = let rest : free_below f n ≡ counting.free_below g n = below_same f g e n in let here : one_if_free (f n) ≡ tally Free (g n) = ap one_if_free (e n) ∙ one_same (g n) in omega arith
 
 -- The sizes of the two agree
 
@@ -54,7 +40,7 @@ radix_same : (k : SharedSize) → taking.radix_of (size_of k) ≡ radix_of k
 radix_same Small = refl
 radix_same Middle = refl
 
-behind : (k : SharedSize) (at : map.Cursor) → as_cursor (cursor_behind (size_of k) at) ≡ Some (record { chunk = at.chunk; used = at.used + 2 ^ radix_of k })
+behind : (k : SharedSize) (at : Cursor) → cursor_behind (size_of k) at ≡ Some (record { chunk = at.chunk; used = at.used + 2 ^ radix_of k })
 behind Small at = refl
 behind Middle at = refl
 
@@ -70,11 +56,11 @@ whole_apart Middle e = cc
 
 -- What one block needs: nothing at a cursor with room, and else a chunk
 
-need_at_cursor : (k : SharedSize) (s : Space) (at : map.Cursor) → cursor_of s (size_of k) ≡ Some at → HasRoom (size_of k) at → need_of_one (size_of k) s ≡ 0
+need_at_cursor : (k : SharedSize) (s : Space) (at : Cursor) → cursor_of s (size_of k) ≡ Some at → HasRoom (size_of k) at → need_of_one (size_of k) s ≡ 0
 need_at_cursor Small s at e room = let left : blocks_left sizes.Small s.small ≡ (chunk_bytes - at.used) / 1024 = ap (blocks_left sizes.Small) e in let some : 1 ≤ (chunk_bytes - at.used) / 1024 = omega arith in omega arith
 need_at_cursor Middle s at e room = let left : blocks_left sizes.Middle s.middle ≡ (chunk_bytes - at.used) / 4096 = ap (blocks_left sizes.Middle) e in let some : 1 ≤ (chunk_bytes - at.used) / 4096 = omega arith in omega arith
 
-none_left : (size : Size) (cursor : Option map.Cursor) → size ≢ sizes.Whole → HasNoRoom size cursor → blocks_left size cursor ≡ 0
+none_left : (size : Size) (cursor : Option Cursor) → size ≢ sizes.Whole → HasNoRoom size cursor → blocks_left size cursor ≡ 0
 none_left z None ne h = refl
 none_left sizes.Small (Some at) ne h = omega arith
 none_left sizes.Middle (Some at) ne h = omega arith
@@ -92,7 +78,7 @@ module _ {Set : Type 0} (◌∈◌ : Block → Set → Type 0) where
   chunks_same s t x y e hs ht = ht.chunks ∙ ap chunks_of e ∙ sym hs.chunks
 
   free_same : (s : Space) (x : Ledger Set) → HasSpace ◌∈◌ s x → free_below x.code x.chunks ≡ free_of s
-  free_same s x h = rw h.chunks (below_same x.code (code_of s) h.codes (chunk_count s))
+  free_same s x h = rw h.chunks (counting.free_same (code_of s) x.code (chunk_count s) (λ c lt. h.codes c))
 
   joins : (s t : Space) (b : Block) (chunk : ℕ) (x y : Ledger Set) → block_chunk b ≡ chunk → ChangesCode chunk Used s t → HasSpace ◌∈◌ s x → HasSpace ◌∈◌ t y → JoinsBeside ◌∈◌ b x y → Joins ◌∈◌ b x y
   joins s t b chunk x y here m hs ht beside = record {
@@ -107,7 +93,7 @@ module _ {Set : Type 0} (◌∈◌ : Block → Set → Type 0) where
   }
 
   other_cursors : (k : SharedSize) (s t : Space) (b : Block) (x y : Ledger Set) → Takes (size_of k) s t b → HasSpace ◌∈◌ s x → HasSpace ◌∈◌ t y → (j : SharedSize) → j ≢ k → y.cursor j ≡ x.cursor j
-  other_cursors k s t b x y m hs ht j ne = ht.cursors j ∙ ap as_cursor (m.other_cursors (size_of j) (sizes_apart j k ne)) ∙ sym (hs.cursors j)
+  other_cursors k s t b x y m hs ht j ne = ht.cursors j ∙ m.other_cursors (size_of j) (sizes_apart j k ne) ∙ sym (hs.cursors j)
 
   -- at a cursor nothing is paid for
   unpaid : (x y : Ledger Set) → PaysFor ◌∈◌ 0 x y → y.reserved ≡ x.reserved
@@ -123,14 +109,14 @@ module _ {Set : Type 0} (◌∈◌ : Block → Set → Type 0) where
   taken_bytes : (k : SharedSize) (s t : Space) (b : Block) → Takes (size_of k) s t b → block_bytes b ≡ 2 ^ radix_of k
   taken_bytes k s t b m = ap (λ n. 2 ^ n) (m.radix ∙ radix_same k)
 
-  fits : (k : SharedSize) (at : map.Cursor) → HasRoom (size_of k) at → at.used + 2 ^ radix_of k ≤ chunk_bytes
+  fits : (k : SharedSize) (at : Cursor) → HasRoom (size_of k) at → at.used + 2 ^ radix_of k ≤ chunk_bytes
   fits k at room = let same : bytes_of (size_of k) ≡ 2 ^ radix_of k = bytes_same k in let h : at.used + bytes_of (size_of k) ≤ chunk_bytes = room in omega arith
 
   is_at_cursor : (k : SharedSize) (s t : Space) (b : Block) (x : Ledger Set) (m : Takes (size_of k) s t b) → cursor_of s (size_of k) ≡ Some m.at → HasRoom (size_of k) m.at → HasSpace ◌∈◌ s x → IsAtCursor ◌∈◌ k b x
   is_at_cursor k s t b x m e room hs = record {
     radix = m.radix ∙ radix_same k;
-    old = record { chunk = m.at.chunk; used = m.at.used };
-    was = hs.cursors k ∙ ap as_cursor e;
+    old = m.at;
+    was = hs.cursors k ∙ e;
     at = m.place;
     room = rw (taken_bytes k s t b m) (fits k m.at room);
   }
@@ -142,7 +128,7 @@ module _ {Set : Type 0} (◌∈◌ : Block → Set → Type 0) where
     place = is_at_cursor k s t b x m e room hs;
     joins = joins s t b m.at.chunk x y here m.code hs ht beside;
     fresh = fresh;
-    moved = ht.cursors k ∙ ap as_cursor m.cursor ∙ behind k m.at ∙ ap (λ (n : ℕ). Some (record { chunk = m.at.chunk; used = m.at.used + n })) (sym (taken_bytes k s t b m));
+    moved = ht.cursors k ∙ m.cursor ∙ behind k m.at ∙ ap (λ (n : ℕ). Some (record { chunk = m.at.chunk; used = m.at.used + n })) (sym (taken_bytes k s t b m));
     others = other_cursors k s t b x y m hs ht;
     reserved = unpaid x y (subst (λ n. PaysFor ◌∈◌ n x y) (need_at_cursor k s m.at e room) pays);
   }
@@ -150,14 +136,16 @@ module _ {Set : Type 0} (◌∈◌ : Block → Set → Type 0) where
       here : block_chunk b ≡ m.at.chunk
       here = let place : b.place ≡ chunk_place m.at.chunk + m.at.used = m.place in let some : 0 < 2 ^ radix_of k = pow_pos (radix_of k) in let h : m.at.used + 2 ^ radix_of k ≤ chunk_bytes = fits k m.at room in omega arith
 
-  lowest : (s : Space) (b : Block) (chunk used : ℕ) (x : Ledger Set) → b.place ≡ chunk_place chunk + used → used ≡ 0 → IsLowestFree s chunk → HasSpace ◌∈◌ s x → (block_chunk b ≡ chunk) × IsAtLowest ◌∈◌ b x
+  lowest : (s : Space) (b : Block) (chunk used : ℕ) (x : Ledger Set) → b.place ≡ chunk_place chunk + used → used ≡ 0 → IsLowestFree (code_of s) (chunk_count s) chunk → HasSpace ◌∈◌ s x → (block_chunk b ≡ chunk) × IsAtLowest ◌∈◌ b x
   lowest s b chunk used x place none m hs = (
     here,
     record {
       at = omega arith;
-      in_volume = rw (here, hs.chunks) m.in_volume;
-      free = hs.codes (block_chunk b) ∙ ap (code_of s) here ∙ m.free;
-      lowest = λ c lt free. m.lowest c (let e : block_chunk b ≡ chunk = here in omega arith) (sym (hs.codes c) ∙ free);
+      lowest = record {
+        in_volume = rw (here, hs.chunks) m.in_volume;
+        free = hs.codes (block_chunk b) ∙ ap (code_of s) here ∙ m.free;
+        lowest = λ c lt free. m.lowest c (let e : block_chunk b ≡ chunk = here in omega arith) (sym (hs.codes c) ∙ free);
+      };
     },
   )
     where
@@ -165,18 +153,18 @@ module _ {Set : Type 0} (◌∈◌ : Block → Set → Type 0) where
       here = omega arith
 
   -- a cursor with no room is filled
-  filled : (k : SharedSize) (b : Block) (cursor : Option map.Cursor) (old : Cursor) → b.radix ≡ radix_of k → HasNoRoom (size_of k) cursor → as_cursor cursor ≡ Some old → chunk_bytes < old.used + block_bytes b
+  filled : (k : SharedSize) (b : Block) (cursor : Option Cursor) (old : Cursor) → b.radix ≡ radix_of k → HasNoRoom (size_of k) cursor → cursor ≡ Some old → chunk_bytes < old.used + block_bytes b
   filled k b None old radix h e = cc
   filled k b (Some at) old radix h e =
-      let is : record { chunk = at.chunk; used = at.used } ≡ old = cc in
+      let is : at ≡ old = cc in
       let same : bytes_of (size_of k) ≡ 2 ^ radix_of k = bytes_same k in
       subst (λ (z : Cursor). chunk_bytes < z.used + block_bytes b) is (rw radix (no_room k at h))
     where
-      no_room : (k : SharedSize) (at : map.Cursor) → HasNoRoom (size_of k) (Some at) → chunk_bytes < at.used + 2 ^ radix_of k
+      no_room : (k : SharedSize) (at : Cursor) → HasNoRoom (size_of k) (Some at) → chunk_bytes < at.used + 2 ^ radix_of k
       no_room Small at h = h
       no_room Middle at h = h
 
-  takes_first : (k : SharedSize) (s t : Space) (b : Block) (x y : Ledger Set) (m : Takes (size_of k) s t b) → HasNoRoom (size_of k) (cursor_of s (size_of k)) → m.at.used ≡ 0 → IsLowestFree s m.at.chunk
+  takes_first : (k : SharedSize) (s t : Space) (b : Block) (x y : Ledger Set) (m : Takes (size_of k) s t b) → HasNoRoom (size_of k) (cursor_of s (size_of k)) → m.at.used ≡ 0 → IsLowestFree (code_of s) (chunk_count s) m.at.chunk
       → HasSpace ◌∈◌ s x → HasSpace ◌∈◌ t y → JoinsBeside ◌∈◌ b x y → WithinAnd ◌∈◌ y.fresh x.fresh b → PaysFor ◌∈◌ (need_of_one (size_of k) s) x y → TakesFirst ◌∈◌ k b x y
   takes_first k s t b x y m no_room none low hs ht beside fresh pays = record {
     radix = radix;
@@ -185,7 +173,7 @@ module _ {Set : Type 0} (◌∈◌ : Block → Set → Type 0) where
     joins = joins s t b m.at.chunk x y at.0 m.code hs ht beside;
     fresh = fresh;
     paid = paid_one x y (subst (λ n. PaysFor ◌∈◌ n x y) (need_at_lowest k s no_room) pays);
-    moved = ht.cursors k ∙ ap as_cursor m.cursor ∙ behind k m.at ∙ new;
+    moved = ht.cursors k ∙ m.cursor ∙ behind k m.at ∙ new;
     others = other_cursors k s t b x y m hs ht;
   }
     where
@@ -204,7 +192,7 @@ module _ {Set : Type 0} (◌∈◌ : Block → Set → Type 0) where
   whole_need : (s : Space) → need_of_one sizes.Whole s ≡ 1
   whole_need s = omega arith
 
-  takes_whole : (s t : Space) (b : Block) (x y : Ledger Set) (m : Takes sizes.Whole s t b) → m.at.used ≡ 0 → IsLowestFree s m.at.chunk
+  takes_whole : (s t : Space) (b : Block) (x y : Ledger Set) (m : Takes sizes.Whole s t b) → m.at.used ≡ 0 → IsLowestFree (code_of s) (chunk_count s) m.at.chunk
       → HasSpace ◌∈◌ s x → HasSpace ◌∈◌ t y → JoinsBeside ◌∈◌ b x y → WithinAnd ◌∈◌ y.fresh x.fresh b → PaysFor ◌∈◌ (need_of_one sizes.Whole s) x y → TakesWhole ◌∈◌ b x y
   takes_whole s t b x y m none low hs ht beside fresh pays = record {
     radix = m.radix;
@@ -212,7 +200,7 @@ module _ {Set : Type 0} (◌∈◌ : Block → Set → Type 0) where
     joins = joins s t b m.at.chunk x y at.0 m.code hs ht beside;
     fresh = fresh;
     paid = paid_one x y (subst (λ n. PaysFor ◌∈◌ n x y) (whole_need s) pays);
-    cursors = record { cursors = λ k. ht.cursors k ∙ ap as_cursor (m.other_cursors (size_of k) (whole_apart k)) ∙ sym (hs.cursors k) };
+    cursors = record { cursors = λ k. ht.cursors k ∙ m.other_cursors (size_of k) (whole_apart k) ∙ sym (hs.cursors k) };
   }
     where
       at : (block_chunk b ≡ m.at.chunk) × IsAtLowest ◌∈◌ b x
@@ -267,38 +255,9 @@ module _ {Set : Type 0} (◌∈◌ : Block → Set → Type 0) where
     in_one_chunk = lies;
     taken = subst IsTaken (sym (hs.codes (block_chunk b))) (in_use_taken (code_of s (block_chunk b)) used);
     apart = apart;
-    cursors = record { cursors = λ k. ht.cursors k ∙ ap as_cursor (m.cursors (size_of k)) ∙ sym (hs.cursors k) };
+    cursors = record { cursors = λ k. ht.cursors k ∙ m.cursors (size_of k) ∙ sym (hs.cursors k) };
     reserved = reserved;
   }
-
-  kept_at : (code : Code) (at : map.Cursor) → code ≢ Free → unless_free code at ≡ Some at
-  kept_at Free at ne = absurd (ne refl)
-  kept_at Reserved at ne = refl
-  kept_at Staged at ne = refl
-  kept_at Used at ne = refl
-
-  left_at : (code : Code) (at : map.Cursor) (new : Cursor) → as_cursor (unless_free code at) ≡ Some new → (as_cursor (Some at) ≡ Some new) × (code ≢ Free)
-  left_at Free at new e = cc
-  left_at Reserved at new e = (e, λ f. cc)
-  left_at Staged at new e = (e, λ f. cc)
-  left_at Used at new e = (e, λ f. cc)
-
-  kept : (segments : List (List Code)) (cursor : Option map.Cursor) (old : Cursor) → as_cursor cursor ≡ Some old → code_in segments old.chunk ≢ Free → as_cursor (kept_cursor segments cursor) ≡ Some old
-  kept segments None old e ne = e
-  kept segments (Some at) old e ne =
-      let is : record { chunk = at.chunk; used = at.used } ≡ old = cc in
-      let same : at.chunk ≡ old.chunk = ap (λ (z : Cursor). z.chunk) is in
-      ap as_cursor (kept_at (code_in segments at.chunk) at (λ f. ne (ap (code_in segments) (sym same) ∙ f))) ∙ e
-
-  left : (segments : List (List Code)) (cursor : Option map.Cursor) (new : Cursor) → as_cursor (kept_cursor segments cursor) ≡ Some new → (as_cursor cursor ≡ Some new) × (code_in segments new.chunk ≢ Free)
-  left segments None new e = cc
-  left segments (Some at) new e = on (left_at (code_in segments at.chunk) at new e)
-    where
-      on : (as_cursor (Some at) ≡ Some new) × (code_in segments at.chunk ≢ Free) → (as_cursor (Some at) ≡ Some new) × (code_in segments new.chunk ≢ Free)
-      on (is, ne) =
-          let eq : record { chunk = at.chunk; used = at.used } ≡ new = cc in
-          let same : at.chunk ≡ new.chunk = ap (λ (z : Cursor). z.chunk) eq in
-          (is, λ f. ne (ap (code_in segments) same ∙ f))
 
   pub apply_moves : ApplyMoves ◌∈◌
   apply_moves number segment seen s t x y m hs ht sees beside = record {
@@ -307,8 +266,8 @@ module _ {Set : Type 0} (◌∈◌ : Block → Set → Type 0) where
     in_volume = beside.in_volume;
     applied = λ c here. applied c here (cases_Bool (has_chunk seen (in_segment c)));
     elsewhere = λ c ne. ht.codes c ∙ m.elsewhere c ne ∙ sym (hs.codes c);
-    kept = λ k old e ne. ht.cursors k ∙ ap as_cursor (m.cursors (size_of k)) ∙ kept t.segments (cursor_of s (size_of k)) old (sym (hs.cursors k) ∙ e) (λ f. ne (ht.codes old.chunk ∙ f));
-    forgotten = λ k new e. forgotten k new (left t.segments (cursor_of s (size_of k)) new (ap as_cursor (sym (m.cursors (size_of k))) ∙ sym (ht.cursors k) ∙ e));
+    kept = λ k old e ne. ht.cursors k ∙ m.cursors (size_of k) ∙ kept_stays t.segments (cursor_of s (size_of k)) old (sym (hs.cursors k) ∙ e) (λ f. ne (ht.codes old.chunk ∙ f));
+    forgotten = λ k new e. forgotten k new (kept_is t.segments (cursor_of s (size_of k)) new (sym (m.cursors (size_of k)) ∙ sym (ht.cursors k) ∙ e));
     reserved = beside.reserved;
     uses = beside.uses;
     roots = beside.roots;
@@ -322,7 +281,7 @@ module _ {Set : Type 0} (◌∈◌ : Block → Set → Type 0) where
       applied c here (inl is) = inl ((sees c here).0 is, ht.codes c ∙ m.swept c here ∙ ap (λ b. swept_code b (code_of s c)) is ∙ ap seen_code (sym (hs.codes c)))
       applied c here (inr isnt) = inr (λ i. absurd (let is : has_chunk seen (in_segment c) ≡ true = (sees c here).1 i in cc), ht.codes c ∙ m.swept c here ∙ ap (λ b. swept_code b (code_of s c)) isnt ∙ ap unseen_code (sym (hs.codes c)))
 
-      forgotten : (k : SharedSize) (new : Cursor) → (as_cursor (cursor_of s (size_of k)) ≡ Some new) × (code_in t.segments new.chunk ≢ Free) → (x.cursor k ≡ Some new) × (y.code new.chunk ≢ Free)
+      forgotten : (k : SharedSize) (new : Cursor) → (cursor_of s (size_of k) ≡ Some new) × (code_in t.segments new.chunk ≢ Free) → (x.cursor k ≡ Some new) × (y.code new.chunk ≢ Free)
       forgotten k new (e, ne) = (hs.cursors k ∙ e, λ f. ne (sym (ht.codes new.chunk) ∙ f))
 
   pub paid_is_free : PaidIsFree ◌∈◌

@@ -7,7 +7,8 @@ use Rattle.h2_codes.specs.Bulkfree.{seen_code, unseen_code}
 use Rattle.h2_codes.specs.declared.code.Code.{Code}
 use Rattle.h2_codes.specs.declared.code.Code.TheVariants.{Free, Used}
 use Rattle.h2_ledger.specs.declared.pass.Pass.TheVariants.{Idle, Marked, Scanning}
-use Rattle.h2_ledger.specs.Ledger.{block_chunk, Ledger, free_below, HasBlockIn, IsInUse, by_live, by_pin, by_frozen, by_completed, HasMarked, IsMarked, IsTaken, IsInUseSince, since_live, since_pin, since_frozen, since_completed}
+use Rattle.h2_codes.specs.Free.{free_below}
+use Rattle.h2_ledger.specs.Ledger.{block_chunk, Ledger, HasBlockIn, IsInUse, by_live, by_pin, by_frozen, by_completed, HasMarked, IsMarked, IsTaken, IsInUseSince, since_live, since_pin, since_frozen, since_completed}
 use Rattle.h2_ledger.specs.Moves.{Applies}
 use Rattle.h2_ledger.specs.Sound.{IsSound}
 use Rattle.h2_ledger.specs.CountLaws.{free_more}

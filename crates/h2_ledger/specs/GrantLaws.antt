@@ -5,8 +5,8 @@ use Rattle.std.specs.List.{AllByRecursion}
 use Rattle.h2_num.specs.declared.block.Block.{Block}
 use Rattle.h2_geom.specs.Geometry.{chunk_bytes}
 use Rattle.h2_codes.specs.declared.code.Code.TheVariants.{Free}
-use Rattle.h2_ledger.specs.declared.cursor.SharedSize.{SharedSize}
-use Rattle.h2_ledger.specs.declared.cursor.Cursor.{Cursor}
+use Rattle.h2_ledger.specs.declared.shared_size.SharedSize.{SharedSize}
+use Rattle.h2_codes.specs.declared.cursor.Cursor.{Cursor}
 use Rattle.h2_ledger.specs.Ledger.{block_bytes, block_chunk, LiesInOneChunk, AreDisjoint, Ledger, IsInUse, by_live, by_pin, IsMarked}
 use Rattle.h2_ledger.specs.Moves.{Move, take_next, take_first, take_whole, adopt, relink, reserve, freeze, freeze_of_pass, complete, begin_pass, begin_scan, end_pass, apply, Makes, Joins, CodesStay, CursorsStay, IsAtCursor, IsAtLowest, IsGranted, at_cursor, at_lowest, at_whole}
 use Rattle.h2_ledger.specs.Sound.{IsSound}
@@ -33,7 +33,7 @@ module _ {Set : Type 0} (◌∈◌ : Block → Set → Type 0) where
   }
 
   occupied_lowest : (b : Block) (x : Ledger Set) → Occupied b x → (taken : Block) → block_bytes taken ≤ chunk_bytes → IsAtLowest ◌∈◌ taken x → AreDisjoint taken b
-  occupied_lowest b x o taken small m = apart_by_chunk taken b (let at : taken.place ≡ chunk_bytes * block_chunk taken = m.at in omega arith) o.whole (λ same. o.taken (ap x.code (sym same) ∙ m.free))
+  occupied_lowest b x o taken small m = apart_by_chunk taken b (let at : taken.place ≡ chunk_bytes * block_chunk taken = m.at in omega arith) o.whole (λ same. o.taken (ap x.code (sym same) ∙ m.lowest.free))
 
   occupied_cursor : (size : SharedSize) (b : Block) (x : Ledger Set) → Occupied b x → (taken : Block) → IsAtCursor ◌∈◌ size taken x → AreDisjoint taken b
   occupied_cursor size b x o taken m = split (cases_eq (block_chunk b) m.old.chunk)
@@ -78,7 +78,7 @@ module _ {Set : Type 0} (◌∈◌ : Block → Set → Type 0) where
       below k at e same (inl ek) =
           let moved : y.cursor size ≡ Some (record { chunk = block_chunk d; used = block_bytes d }) = m.moved in
           let eq : at ≡ record { chunk = block_chunk d; used = block_bytes d } = cc in
-          absurd (o.taken (ap x.code (same ∙ ap (λ (z : Cursor). z.chunk) eq) ∙ m.place.free))
+          absurd (o.taken (ap x.code (same ∙ ap (λ (z : Cursor). z.chunk) eq) ∙ m.place.lowest.free))
   occupied_on b (take_whole d) x y ns m o = occupied_joins b d x y m.joins (λ k at e same. o.below k at (sym (m.cursors.cursors k) ∙ e) same) o
   occupied_on b (adopt d) x y ns m o = occupied_joins b d x y m.joins (λ k at e same. o.below k at (sym (m.cursors.cursors k) ∙ e) same) o
   occupied_on b relink x y ns m o = occupied_stays b x y m.codes m.cursors o

@@ -1,12 +1,13 @@
 -- What a copy-on-write volume keeps of its space: the code of each chunk, and which blocks are in use by whom.
 -- Sets of blocks are values of a type `Set` that the reader chooses, with `b ∈ s` for its members.
-use Rattle.std.specs.Prelude.{ℕ, zero, suc, ◌≡◌, ◌⊎◌, ◌+◌, ◌%◌, ◌^◌, ◌≤◌, Option, Some}
+use Rattle.std.specs.Prelude.{ℕ, ◌≡◌, ◌⊎◌, ◌+◌, ◌%◌, ◌^◌, ◌≤◌, Option, Some}
 use Rattle.h2_num.specs.declared.block.Block.{Block}
 use Rattle.h2_geom.specs.Geometry.{chunk_bytes, chunk_of}
+use Rattle.h2_geom.specs.Places.{IsApart}
 use Rattle.h2_codes.specs.declared.code.Code.{Code}
-use Rattle.h2_codes.specs.declared.code.Code.TheVariants.{Free, Reserved, Staged, Used}
-use Rattle.h2_ledger.specs.declared.cursor.SharedSize.{SharedSize}
-use Rattle.h2_ledger.specs.declared.cursor.Cursor.{Cursor}
+use Rattle.h2_codes.specs.declared.code.Code.TheVariants.{Staged, Used}
+use Rattle.h2_ledger.specs.declared.shared_size.SharedSize.{SharedSize}
+use Rattle.h2_codes.specs.declared.cursor.Cursor.{Cursor}
 use Rattle.h2_ledger.specs.declared.pass.Pass.{Pass}
 use Rattle.h2_ledger.specs.declared.pass.Pass.TheVariants.{Marked, Scanning}
 
@@ -24,23 +25,11 @@ LiesInOneChunk b = b.place % chunk_bytes + block_bytes b ≤ chunk_bytes
 
 -- no byte belongs to both
 abbrev pub AreDisjoint : Block → Block → Type 0
-AreDisjoint a b = (a.place + block_bytes a ≤ b.place) ⊎ (b.place + block_bytes b ≤ a.place)
+AreDisjoint a b = IsApart a.place (block_bytes a) b.place (block_bytes b)
 
 -- the code is that of a chunk with something in it
 abbrev pub IsTaken : Code → Type 0
 IsTaken code = (code ≡ Staged) ⊎ (code ≡ Used)
-
--- 1 for a free chunk, and 0 for others
-abbrev pub one_if_free : Code → ℕ
-one_if_free Free = 1
-one_if_free Reserved = 0
-one_if_free Staged = 0
-one_if_free Used = 0
-
--- how many chunks below n are free
-unfoldable pub free_below : (ℕ → Code) → ℕ → ℕ
-free_below code zero = 0
-free_below code (suc n) = one_if_free (code n) + free_below code n
 
 -- the pass with this number has marked what was in use at its freeze, and has applied this many segments
 abbrev pub HasMarked : Pass → ℕ → ℕ → Type 0

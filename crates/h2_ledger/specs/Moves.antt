@@ -5,11 +5,12 @@ use Rattle.h2_num.specs.declared.block.Block.{Block}
 use Rattle.h2_geom.specs.Geometry.{chunk_bytes, segment_chunks, segment_of}
 use Rattle.h2_codes.specs.Bulkfree.{seen_code, unseen_code}
 use Rattle.h2_codes.specs.declared.code.Code.TheVariants.{Free, Used}
-use Rattle.h2_ledger.specs.declared.cursor.SharedSize.{SharedSize}
-use Rattle.h2_ledger.specs.declared.cursor.SharedSize.TheVariants.{Small, Middle}
-use Rattle.h2_ledger.specs.declared.cursor.Cursor.{Cursor}
+use Rattle.h2_ledger.specs.declared.shared_size.SharedSize.{SharedSize}
+use Rattle.h2_ledger.specs.declared.shared_size.SharedSize.TheVariants.{Small, Middle}
+use Rattle.h2_codes.specs.declared.cursor.Cursor.{Cursor}
 use Rattle.h2_ledger.specs.declared.pass.Pass.TheVariants.{Idle, Begun, Marked, Scanning}
-use Rattle.h2_ledger.specs.Ledger.{block_bytes, block_chunk, LiesInOneChunk, IsTaken, free_below, HasMarked, Ledger, HasBlockIn}
+use Rattle.h2_codes.specs.Free.{free_below, IsLowestFree}
+use Rattle.h2_ledger.specs.Ledger.{block_bytes, block_chunk, LiesInOneChunk, IsTaken, HasMarked, Ledger, HasBlockIn}
 
 -- which move is made
 pub data Move : Type 0 where
@@ -108,9 +109,7 @@ module _ {Set : Type 0} (◌∈◌ : Block → Set → Type 0) where
   -- where the first block of a chunk goes: to the lowest chunk that is free
   pub record IsAtLowest (b : Block) (x : Ledger Set) : Type 0 where
     pub at : b.place ≡ chunk_bytes * block_chunk b
-    pub in_volume : block_chunk b < x.chunks
-    pub free : x.code (block_chunk b) ≡ Free
-    pub lowest : (c : ℕ) → c < block_chunk b → x.code c ≢ Free
+    pub lowest : IsLowestFree x.code x.chunks (block_chunk b)
 
   -- a free chunk is paid for by a reservation, or is free beyond all that is reserved
   abbrev pub IsPaid : Ledger Set → Ledger Set → Type 0

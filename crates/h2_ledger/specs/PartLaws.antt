@@ -3,8 +3,8 @@ use Rattle.std.proofs.Common.{ℕ, ◌≡◌, ◌≢◌, ◌⊎◌, refl, sym, �
 use Rattle.h2_num.specs.declared.block.Block.{Block}
 use Rattle.h2_codes.specs.declared.code.Code.{Code}
 use Rattle.h2_codes.specs.declared.code.Code.TheVariants.{Free}
-use Rattle.h2_ledger.specs.declared.cursor.SharedSize.{SharedSize}
-use Rattle.h2_ledger.specs.declared.cursor.SharedSize.TheVariants.{Small, Middle}
+use Rattle.h2_ledger.specs.declared.shared_size.SharedSize.{SharedSize}
+use Rattle.h2_ledger.specs.declared.shared_size.SharedSize.TheVariants.{Small, Middle}
 use Rattle.h2_ledger.specs.Ledger.{Ledger, HasBlockIn, IsInUse, by_live, by_pin, by_frozen, by_completed, IsFrozen, HasMarked, IsMarked, IsTaken, IsInUseSince, since_live, since_pin, since_frozen, since_completed}
 use Rattle.h2_ledger.specs.Moves.{Same, RootsStay, PassStays, UsesLessen}
 

@@ -4,7 +4,8 @@ use Rattle.h2_num.specs.declared.block.Block.{Block}
 use Rattle.h2_geom.specs.Geometry.{segment_of}
 use Rattle.h2_codes.specs.declared.code.Code.TheVariants.{Used}
 use Rattle.h2_ledger.specs.declared.pass.Pass.TheVariants.{Idle, Begun, Marked, Scanning}
-use Rattle.h2_ledger.specs.Ledger.{block_chunk, Ledger, free_below, HasBlockIn, IsInUse, by_live, by_pin, by_frozen, by_completed, HasMarked, IsMarked, IsTaken, IsInUseSince, since_live, since_pin, since_frozen, since_completed}
+use Rattle.h2_codes.specs.Free.{free_below}
+use Rattle.h2_ledger.specs.Ledger.{block_chunk, Ledger, HasBlockIn, IsInUse, by_live, by_pin, by_frozen, by_completed, HasMarked, IsMarked, IsTaken, IsInUseSince, since_live, since_pin, since_frozen, since_completed}
 use Rattle.h2_ledger.specs.Moves.{Same, CodesStay, CursorsStay, RootsStay, PassStays, Relinks, Reserves, Freezes, FreezesOfPass, FreezesAlone, Completes, OnlyPass, BeginsPass, BeginsScan, EndsPass}
 use Rattle.h2_ledger.specs.Sound.{IsSound}
 use Rattle.h2_ledger.specs.CountLaws.{free_same}

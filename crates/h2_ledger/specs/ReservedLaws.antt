@@ -60,8 +60,8 @@ module _ {Set : Type 0} (has : Block → Set → Type 0) where
   move_alike : (move : Move) (x y : Ledger Set) → Makes has move x y → IsSound has x → (c : ℕ) → ReservedAlike (x.code c) (y.code c)
   move_alike (take_next size b) x y m sx c =
       joins_alike b x y m.joins (λ r. taken_not_reserved (x.code m.place.old.chunk) (sx.cursor_taken size m.place.old m.place.was) (ap x.code (sym (next_place has size b x m.place).0) ∙ r)) c
-  move_alike (take_first size b) x y m sx c = joins_alike b x y m.joins (free_not_reserved (x.code (block_chunk b)) m.place.free) c
-  move_alike (take_whole b) x y m sx c = joins_alike b x y m.joins (free_not_reserved (x.code (block_chunk b)) m.place.free) c
+  move_alike (take_first size b) x y m sx c = joins_alike b x y m.joins (free_not_reserved (x.code (block_chunk b)) m.place.lowest.free) c
+  move_alike (take_whole b) x y m sx c = joins_alike b x y m.joins (free_not_reserved (x.code (block_chunk b)) m.place.lowest.free) c
   move_alike (adopt b) x y m sx c = joins_alike b x y m.joins (taken_not_reserved (x.code (block_chunk b)) m.taken) c
   move_alike relink x y m sx c = alike_same (x.code c) (y.code c) (m.codes.codes c)
   move_alike reserve x y m sx c = alike_same (x.code c) (y.code c) (m.codes.codes c)

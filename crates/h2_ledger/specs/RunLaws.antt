@@ -3,8 +3,8 @@ use Rattle.std.proofs.Common.{◌++◌, List, refl, ◌∙◌, ℕ, suc, ◌≡�
 use Rattle.h2_num.specs.declared.block.Block.{Block}
 use Rattle.h2_geom.specs.Geometry.{chunk_bytes}
 use Rattle.h2_ledger.specs.declared.pass.Pass.TheVariants.{Idle, Marked}
-use Rattle.h2_ledger.specs.declared.cursor.Cursor.{Cursor}
-use Rattle.h2_ledger.specs.declared.cursor.SharedSize.{SharedSize}
+use Rattle.h2_codes.specs.declared.cursor.Cursor.{Cursor}
+use Rattle.h2_ledger.specs.declared.shared_size.SharedSize.{SharedSize}
 use Rattle.h2_ledger.specs.Ledger.{block_bytes, LiesInOneChunk, IsTaken, Ledger, IsInUse, by_live, by_pin, by_frozen, by_completed, HasMarked, IsMarked}
 use Rattle.h2_ledger.specs.Sound.{IsSound}
 use Rattle.h2_ledger.specs.Moves.{Move, Makes, Same}

@@ -2,7 +2,7 @@
 use Rattle.std.specs.Prelude.{ℕ, ◌≡◌, ◌≢◌, ◌⊎◌, None, List, [], ◌∷◌}
 use Rattle.h2_num.specs.declared.block.Block.{Block}
 use Rattle.h2_geom.specs.Geometry.{segment_of}
-use Rattle.h2_ledger.specs.declared.cursor.SharedSize.{SharedSize}
+use Rattle.h2_ledger.specs.declared.shared_size.SharedSize.{SharedSize}
 use Rattle.h2_ledger.specs.declared.pass.Pass.TheVariants.{Idle}
 use Rattle.h2_ledger.specs.Ledger.{block_chunk, LiesInOneChunk, IsTaken, Ledger, HasBlockIn}
 use Rattle.h2_ledger.specs.Moves.{Move, take_next, take_first, take_whole, adopt, relink, reserve, freeze, freeze_of_pass, complete, begin_pass, begin_scan, end_pass, apply, Makes, Same, Within, CodesStay, CursorsStay, RootsStay, PassStays}

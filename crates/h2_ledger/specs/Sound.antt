@@ -3,10 +3,11 @@ use Rattle.std.specs.Prelude.{ℕ, suc, ◌≡◌, ◌⊎◌, ◌+◌, ◌*◌, 
 use Rattle.h2_num.specs.declared.block.Block.{Block}
 use Rattle.h2_geom.specs.Geometry.{chunk_bytes, segment_of}
 use Rattle.h2_codes.specs.declared.code.Code.TheVariants.{Used}
-use Rattle.h2_ledger.specs.declared.cursor.SharedSize.{SharedSize}
-use Rattle.h2_ledger.specs.declared.cursor.Cursor.{Cursor}
+use Rattle.h2_ledger.specs.declared.shared_size.SharedSize.{SharedSize}
+use Rattle.h2_codes.specs.declared.cursor.Cursor.{Cursor}
 use Rattle.h2_ledger.specs.declared.pass.Pass.TheVariants.{Scanning}
-use Rattle.h2_ledger.specs.Ledger.{block_bytes, block_chunk, LiesInOneChunk, AreDisjoint, IsTaken, free_below, HasMarked, Ledger, HasBlockIn, IsFrozen, IsInUse, IsInUseSince, IsMarked}
+use Rattle.h2_codes.specs.Free.{free_below}
+use Rattle.h2_ledger.specs.Ledger.{block_bytes, block_chunk, LiesInOneChunk, AreDisjoint, IsTaken, HasMarked, Ledger, HasBlockIn, IsFrozen, IsInUse, IsInUseSince, IsMarked}
 
 module _ {Set : Type 0} (◌∈◌ : Block → Set → Type 0) where
   infix 40 ◌∈◌

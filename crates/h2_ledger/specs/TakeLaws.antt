@@ -4,10 +4,11 @@ use Rattle.std.proofs.lemmas.Bool.{cases_eq, cases_lt}
 use Rattle.h2_num.specs.declared.block.Block.{Block}
 use Rattle.h2_geom.specs.Geometry.{chunk_bytes, segment_of}
 use Rattle.h2_codes.specs.declared.code.Code.TheVariants.{Free, Used}
-use Rattle.h2_ledger.specs.declared.cursor.SharedSize.{SharedSize}
-use Rattle.h2_ledger.specs.declared.cursor.SharedSize.TheVariants.{Small, Middle}
-use Rattle.h2_ledger.specs.declared.cursor.Cursor.{Cursor}
-use Rattle.h2_ledger.specs.Ledger.{block_bytes, block_chunk, LiesInOneChunk, AreDisjoint, Ledger, free_below, HasBlockIn, IsInUse, by_live, by_pin, by_frozen, by_completed, HasMarked, IsMarked, IsTaken, IsInUseSince, since_live, since_pin, since_frozen, since_completed}
+use Rattle.h2_ledger.specs.declared.shared_size.SharedSize.{SharedSize}
+use Rattle.h2_ledger.specs.declared.shared_size.SharedSize.TheVariants.{Small, Middle}
+use Rattle.h2_codes.specs.declared.cursor.Cursor.{Cursor}
+use Rattle.h2_codes.specs.Free.{free_below}
+use Rattle.h2_ledger.specs.Ledger.{block_bytes, block_chunk, LiesInOneChunk, AreDisjoint, Ledger, HasBlockIn, IsInUse, by_live, by_pin, by_frozen, by_completed, HasMarked, IsMarked, IsTaken, IsInUseSince, since_live, since_pin, since_frozen, since_completed}
 use Rattle.h2_ledger.specs.Moves.{Joins, IsAtCursor, IsAtLowest, IsPaid, IsGranted, at_cursor, at_lowest, at_whole, TakesNext, TakesFirst, TakesWhole, Adopts, radix_of}
 use Rattle.h2_ledger.specs.Sound.{IsSound}
 use Rattle.h2_ledger.specs.CountLaws.{free_more, free_taken}
@@ -153,7 +154,7 @@ module _ {Set : Type 0} (◌∈◌ : Block → Set → Type 0) where
   -- the count, where a free chunk is taken
   first_backed : (b : Block) (x y : Ledger Set) → Joins ◌∈◌ b x y → IsAtLowest ◌∈◌ b x → IsPaid ◌∈◌ x y → IsSound ◌∈◌ x → y.reserved ≤ free_below y.code y.chunks
   first_backed b x y j f p sx =
-      let fell : suc (free_below y.code x.chunks) ≡ free_below x.code x.chunks = free_taken x.code y.code (block_chunk b) f.free j.used j.codes x.chunks f.in_volume in
+      let fell : suc (free_below y.code x.chunks) ≡ free_below x.code x.chunks = free_taken x.code y.code (block_chunk b) f.lowest.free j.used j.codes x.chunks f.lowest.in_volume in
       rw j.chunks (paid fell p)
     where
       paid : suc (free_below y.code x.chunks) ≡ free_below x.code x.chunks → (suc y.reserved ≡ x.reserved) ⊎ ((y.reserved ≡ x.reserved) × (x.reserved < free_below x.code x.chunks)) → y.reserved ≤ free_below y.code x.chunks
@@ -179,7 +180,7 @@ module _ {Set : Type 0} (◌∈◌ : Block → Set → Type 0) where
     where
       below : (k : SharedSize) (at : Cursor) → x.cursor k ≡ Some at → (d : Block) → block_chunk d ≡ at.chunk → (IsInUse ◌∈◌ x d ⊎ IsMarked ◌∈◌ x d) ⊎ (d ≡ b) → d.place + block_bytes d ≤ chunk_bytes * at.chunk + at.used
       below k at e d same (inl h) = sx.below_cursor k at e d h same
-      below k at e d same (inr new) = absurd (cursor_not_free x sx k at e (ap x.code (sym same ∙ ap block_chunk new) ∙ m.place.free))
+      below k at e d same (inr new) = absurd (cursor_not_free x sx k at e (ap x.code (sym same ∙ ap block_chunk new) ∙ m.place.lowest.free))
 
   pub adopt_sound : (b : Block) (x y : Ledger Set) → Adopts ◌∈◌ b x y → IsSound ◌∈◌ x → IsSound ◌∈◌ y
   adopt_sound b x y m sx = joined b x y (record {
@@ -259,7 +260,7 @@ module _ {Set : Type 0} (◌∈◌ : Block → Set → Type 0) where
 
       -- no cursor was in a free chunk
       elsewhere : (k : SharedSize) (at : Cursor) → y.cursor k ≡ Some at → k ≢ size → at.chunk ≡ block_chunk b → ⊥
-      elsewhere k at e nk same = cursor_not_free x sx k at (sym (m.others k nk) ∙ e) (ap x.code same ∙ m.place.free)
+      elsewhere k at e nk same = cursor_not_free x sx k at (sym (m.others k nk) ∙ e) (ap x.code same ∙ m.place.lowest.free)
 
       cursor_used : (k : SharedSize) (at : Cursor) → y.cursor k ≡ Some at → (k ≡ size) ⊎ (k ≢ size) → IsTaken (x.code at.chunk) ⊎ (at.chunk ≡ block_chunk b)
       cursor_used k at e (inl ek) = inr (chunk_at k at e ek)
@@ -272,7 +273,7 @@ module _ {Set : Type 0} (◌∈◌ : Block → Set → Type 0) where
       apart j k a c ea ec same (inr nj) (inr nk) = sx.cursors_apart j k a c (sym (m.others j nj) ∙ ea) (sym (m.others k nk) ∙ ec) same
 
       below_moved : (d : Block) → block_chunk d ≡ block_chunk b → (IsInUse ◌∈◌ x d ⊎ IsMarked ◌∈◌ x d) ⊎ (d ≡ b) → d.place + block_bytes d ≤ chunk_bytes * block_chunk b + block_bytes b
-      below_moved d same (inl h) = absurd (not_in_free x sx (block_chunk b) m.place.free d h same)
+      below_moved d same (inl h) = absurd (not_in_free x sx (block_chunk b) m.place.lowest.free d h same)
       below_moved d same (inr new) = rw new (let at : b.place ≡ chunk_bytes * block_chunk b = m.place.at in omega arith)
 
       below_other : (k : SharedSize) (at : Cursor) → y.cursor k ≡ Some at → k ≢ size → (d : Block) → block_chunk d ≡ at.chunk → (IsInUse ◌∈◌ x d ⊎ IsMarked ◌∈◌ x d) ⊎ (d ≡ b) → d.place + block_bytes d ≤ chunk_bytes * at.chunk + at.used
@@ -286,7 +287,7 @@ module _ {Set : Type 0} (◌∈◌ : Block → Set → Type 0) where
       below k at e d same (inr nk) h = below_other k at e nk d same h
 
   lowest_apart : (b : Block) (x : Ledger Set) → IsAtLowest ◌∈◌ b x → block_bytes b ≤ chunk_bytes → IsSound ◌∈◌ x → (d : Block) → IsInUse ◌∈◌ x d ⊎ IsMarked ◌∈◌ x d → AreDisjoint b d
-  lowest_apart b x m small sx d h = apart_by_chunk b d (let at : b.place ≡ chunk_bytes * block_chunk b = m.at in omega arith) (sx.in_one_chunk d h) (λ same. not_in_free x sx (block_chunk b) m.free d h (sym same))
+  lowest_apart b x m small sx d h = apart_by_chunk b d (let at : b.place ≡ chunk_bytes * block_chunk b = m.at in omega arith) (sx.in_one_chunk d h) (λ same. not_in_free x sx (block_chunk b) m.lowest.free d h (sym same))
 
   cursor_apart : (size : SharedSize) (b : Block) (x : Ledger Set) → IsAtCursor ◌∈◌ size b x → IsSound ◌∈◌ x → (d : Block) → IsInUse ◌∈◌ x d ⊎ IsMarked ◌∈◌ x d → AreDisjoint b d
   cursor_apart size b x m sx d h = split (cases_eq (block_chunk d) m.old.chunk)

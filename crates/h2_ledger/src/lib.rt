@@ -9,14 +9,14 @@
 #![tactic(auto)]
 
 mod block_set;
-mod cursor;
 mod laws;
 mod pass;
+mod shared_size;
 
 pub use block_set::BlockSet;
-pub use cursor::{Cursor, SharedSize};
 pub use laws::{bulkfree_law, space_law, two_pass_law};
 pub use pass::Pass;
+pub use shared_size::SharedSize;
 
 #[cfg(test)]
 mod tests;

@@ -6,11 +6,12 @@ use Rattle.h2_geom.specs.Geometry.{segment_chunks, segment_of}
 use Rattle.h2_codes.specs.declared.code.Code.{Code}
 use Rattle.h2_codes.specs.declared.code.Code.TheVariants.{Free, Reserved, Staged, Used}
 use Rattle.h2_codes.specs.Codes.{code_at}
-use Rattle.h2_ledger.specs.declared.cursor.SharedSize.{SharedSize}
-use Rattle.h2_ledger.specs.declared.cursor.SharedSize.TheVariants.{Small, Middle}
-use Rattle.h2_ledger.specs.declared.cursor.Cursor.{Cursor}
+use Rattle.h2_codes.specs.Cursor.{unless_free as unless_code_free}
+use Rattle.h2_ledger.specs.declared.shared_size.SharedSize.{SharedSize}
+use Rattle.h2_ledger.specs.declared.shared_size.SharedSize.TheVariants.{Small, Middle}
+use Rattle.h2_codes.specs.declared.cursor.Cursor.{Cursor}
 use Rattle.h2_ledger.specs.Moves.{Same, Applies}
-use Rattle.h2_plain_ledger.specs.State.{State, as_ledger, has, cursor_of, unless_code_free, unless_free, IsCodeAfter, IsApplied}
+use Rattle.h2_plain_ledger.specs.State.{State, as_ledger, has, cursor_of, unless_free, IsCodeAfter, IsApplied}
 use Rattle.h2_plain_ledger.specs.Steps.{IsAppliedNext, MakesApply}
 
 same : (blocks : List Block) → Same has blocks blocks

@@ -4,8 +4,8 @@ use Rattle.std.proofs.lemmas.Bool.{cases_eq}
 use Rattle.h2_num.specs.declared.block.Block.{Block}
 use Rattle.h2_codes.specs.declared.code.Code.{Code}
 use Rattle.h2_codes.specs.declared.code.Code.TheVariants.{Free, Reserved, Staged, Used}
-use Rattle.h2_codes.specs.Codes.{code_at}
-use Rattle.h2_ledger.specs.Ledger.{one_if_free, free_below}
+use Rattle.h2_codes.specs.Codes.{code_at, tally}
+use Rattle.h2_codes.specs.Free.{free_below}
 use Rattle.h2_plain_ledger.specs.State.{IsCodeAfter, IsApplied}
 
 -- a code in the list is the same whatever stands past its end
@@ -14,17 +14,17 @@ any_default [] i a b lt = absurd (omega arith)
 any_default (x ∷ xs) zero a b lt = refl
 any_default (x ∷ xs) (suc i) a b lt = any_default xs i a b (omega arith)
 
-pub one_more_free : (codes : List Code) (n free one : ℕ) → n < length codes → free ≡ free_below (code_at codes) n → one ≡ one_if_free (slice_index_or codes n Free) → free + one ≡ free_below (code_at codes) (n + 1)
+pub one_more_free : (codes : List Code) (n free one : ℕ) → n < length codes → free ≡ free_below (code_at codes) n → one ≡ tally Free (slice_index_or codes n Free) → free + one ≡ free_below (code_at codes) (n + 1)
 unfolding free_below
 one_more_free codes n free one lt e here =
     let code : slice_index_or codes n Free ≡ code_at codes n = any_default codes n Free Reserved lt in
-    let same : one ≡ one_if_free (code_at codes n) = here ∙ ap one_if_free code in
-    let next : free_below (code_at codes) (suc n) ≡ one_if_free (code_at codes n) + free_below (code_at codes) n = refl in
+    let same : one ≡ tally Free (code_at codes n) = here ∙ ap (tally Free) code in
+    let next : free_below (code_at codes) (suc n) ≡ tally Free (code_at codes n) + free_below (code_at codes) n = refl in
     let step : n + 1 ≡ suc n = omega arith in
     rw step (omega arith)
 
-pub one_if_free-le : (code : Code) → one_if_free code ≤ 1
-one_if_free-le code = elim code as (λ z. one_if_free z ≤ 1) [ Free ↦ omega arith | Reserved ↦ omega arith | Staged ↦ omega arith | Used ↦ omega arith ]
+pub tally_free-le : (code : Code) → tally Free code ≤ 1
+tally_free-le code = elim code as (λ z. tally Free z ≤ 1) [ Free ↦ omega arith | Reserved ↦ omega arith | Staged ↦ omega arith | Used ↦ omega arith ]
 
 -- one more chunk of a segment is applied
 pub applied_more : (marked : List Block) (first k : ℕ) (old codes : List Code) (code : Code) → first + k < length codes → IsApplied marked first k old codes

@@ -9,9 +9,10 @@ use Rattle.h2_geom.specs.Geometry.{chunk_bytes}
 use Rattle.h2_codes.specs.declared.code.Code.{Code}
 use Rattle.h2_codes.specs.declared.code.Code.TheVariants.{Reserved, Used}
 use Rattle.h2_codes.specs.Codes.{code_at}
-use Rattle.h2_ledger.specs.declared.cursor.SharedSize.{SharedSize}
-use Rattle.h2_ledger.specs.declared.cursor.SharedSize.TheVariants.{Small, Middle}
-use Rattle.h2_ledger.specs.declared.cursor.Cursor.{Cursor}
+use Rattle.h2_codes.specs.Free.{IsLowestFree}
+use Rattle.h2_ledger.specs.declared.shared_size.SharedSize.{SharedSize}
+use Rattle.h2_ledger.specs.declared.shared_size.SharedSize.TheVariants.{Small, Middle}
+use Rattle.h2_codes.specs.declared.cursor.Cursor.{Cursor}
 use Rattle.h2_ledger.specs.Ledger.{IsTaken, block_chunk, block_bytes}
 use Rattle.h2_ledger.specs.Moves.{Same, Joins, IsPaid, IsAtLowest, TakesNext, TakesFirst, TakesWhole, Adopts, radix_of}
 use Rattle.h2_plain_ledger.specs.declared.cursors.Cursors.{Cursors}
@@ -82,7 +83,7 @@ unfolding as_ledger
 at_lowest s payment b reserved m =
     let at : b.place ≡ chunk_bytes * m.chunk = m.at in
     let here : block_chunk b ≡ m.chunk = omega arith in
-    record { at = rw here at; in_volume = rw here m.in_volume; free = rw here m.free; lowest = λ c lt. m.lowest c (omega arith) }
+    record { at = rw here at; lowest = subst (IsLowestFree (code_at s.codes) (length s.codes)) (sym here) m.lowest }
 
 paid : (s t : State) (payment : Payment) → buying.IsPaid s.codes s.reserved payment t.reserved → IsPaid has (as_ledger s) (as_ledger t)
 unfolding as_ledger
@@ -103,7 +104,7 @@ takes_first s t size payment b m = subst (λ z. TakesFirst has size b (as_ledger
   radix = m.radix;
   filled = λ old e. filled old (cursor_of s.cursors size) e m.filled;
   place = lowest;
-  joins = joins s b (with_cursor s.cursors size (Some (record { chunk = block_chunk b; used = 2 ^ radix_of size }))) m.reserved (s.fresh ++ b ∷ []) lowest.in_volume;
+  joins = joins s b (with_cursor s.cursors size (Some (record { chunk = block_chunk b; used = 2 ^ radix_of size }))) m.reserved (s.fresh ++ b ∷ []) lowest.lowest.in_volume;
   fresh = λ d i. pushed s.fresh b d i;
   paid = paid s (record (with_cursor_at (with_taken s b) size (block_chunk b) (2 ^ radix_of size)) { reserved = m.reserved }) payment m.place.paid;
   moved = cursor-same s.cursors size (Some (record { chunk = block_chunk b; used = 2 ^ radix_of size })) ∙ ap (λ (r : ℕ). Some (record { chunk = block_chunk b; used = 2 ^ r })) (sym m.radix);
@@ -122,7 +123,7 @@ unfolding as_ledger
 takes_whole s t payment b m = subst (λ z. TakesWhole has b (as_ledger s) (as_ledger z)) (sym m.new) (record {
   radix = m.radix;
   place = lowest;
-  joins = joins s b s.cursors m.reserved (s.fresh ++ b ∷ []) lowest.in_volume;
+  joins = joins s b s.cursors m.reserved (s.fresh ++ b ∷ []) lowest.lowest.in_volume;
   fresh = λ d i. pushed s.fresh b d i;
   paid = paid s (record (with_taken s b) { reserved = m.reserved }) payment m.place.paid;
   cursors = record { cursors = λ k. refl };

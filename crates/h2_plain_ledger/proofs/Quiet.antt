@@ -3,8 +3,8 @@ use Rattle.std.proofs.Common.{Some, None, List, [], ◌++◌, ℕ, suc, ◌≡�
 use Rattle.std.specs.List.{Contains}
 use Rattle.std.proofs.lemmas.List.Elements.{All-contains, Contains-append_left, Contains-append_right, Contains-append_cases}
 use Rattle.h2_num.specs.declared.block.Block.{Block}
-use Rattle.h2_ledger.specs.declared.cursor.SharedSize.{SharedSize}
-use Rattle.h2_ledger.specs.declared.cursor.SharedSize.TheVariants.{Small, Middle}
+use Rattle.h2_ledger.specs.declared.shared_size.SharedSize.{SharedSize}
+use Rattle.h2_ledger.specs.declared.shared_size.SharedSize.TheVariants.{Small, Middle}
 use Rattle.h2_ledger.specs.declared.pass.Pass.{Pass}
 use Rattle.h2_ledger.specs.declared.pass.Pass.TheVariants.{Idle, Begun, Marked, Scanning}
 use Rattle.h2_ledger.specs.Ledger.{HasMarked}

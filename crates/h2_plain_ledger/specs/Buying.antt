@@ -3,7 +3,7 @@ use Rattle.std.specs.Prelude.{ℕ, suc, ◌≡◌, ◌≢◌, ◌⊎◌, ◌<◌
 use Rattle.h2_codes.specs.declared.code.Code.{Code}
 use Rattle.h2_codes.specs.declared.code.Code.TheVariants.{Free}
 use Rattle.h2_codes.specs.Codes.{code_at}
-use Rattle.h2_ledger.specs.Ledger.{free_below}
+use Rattle.h2_codes.specs.Free.{free_below, IsLowestFree}
 use Rattle.h2_plain_ledger.specs.declared.buying.Payment.{Payment}
 use Rattle.h2_plain_ledger.specs.declared.buying.Payment.TheVariants.{FromReserved, FromFree}
 use Rattle.h2_plain_ledger.specs.declared.buying.Bought.{Bought}
@@ -20,9 +20,7 @@ CannotPay codes before FromFree = free_below (code_at codes) (length codes) ≤ 
 
 -- the lowest free chunk was bought
 pub record IsBought (codes : List Code) (before : ℕ) (payment : Payment) (bought : Bought) : Type 0 where
-  pub in_volume : bought.chunk < length codes
-  pub free : code_at codes bought.chunk ≡ Free
-  pub lowest : (c : ℕ) → c < bought.chunk → code_at codes c ≢ Free
+  pub lowest : IsLowestFree (code_at codes) (length codes) bought.chunk
   pub paid : IsPaid codes before payment bought.reserved
 
 -- no chunk is free, or it can't be paid for

@@ -7,9 +7,11 @@ use Rattle.h2_codes.specs.declared.code.Code.{Code}
 use Rattle.h2_codes.specs.declared.code.Code.TheVariants.{Free, Reserved, Staged, Used}
 use Rattle.h2_codes.specs.Codes.{code_at}
 use Rattle.h2_codes.specs.Bulkfree.{seen_code, unseen_code}
-use Rattle.h2_ledger.specs.declared.cursor.SharedSize.{SharedSize}
-use Rattle.h2_ledger.specs.declared.cursor.SharedSize.TheVariants.{Small, Middle}
-use Rattle.h2_ledger.specs.declared.cursor.Cursor.{Cursor}
+use Rattle.h2_codes.specs.Cursor.{unless_free as unless_code_free}
+use Rattle.h2_codes.specs.Free.{IsLowestFree}
+use Rattle.h2_ledger.specs.declared.shared_size.SharedSize.{SharedSize}
+use Rattle.h2_ledger.specs.declared.shared_size.SharedSize.TheVariants.{Small, Middle}
+use Rattle.h2_codes.specs.declared.cursor.Cursor.{Cursor}
 use Rattle.h2_ledger.specs.declared.pass.Pass.{Pass}
 use Rattle.h2_ledger.specs.Ledger.{Ledger, HasBlockIn}
 use Rattle.h2_ledger.specs.Moves.{radix_of}
@@ -33,13 +35,6 @@ HasRoomAt size chunks at = (at.chunk < chunks) × (at.used + 2 ^ radix_of size �
 abbrev pub IsFilledAt : SharedSize → Option Cursor → Type 0
 IsFilledAt size None = Unit {0}
 IsFilledAt size (Some at) = chunk_bytes < at.used + 2 ^ radix_of size
-
--- the cursor, unless the code is that of a free chunk
-abbrev pub unless_code_free : Code → Cursor → Option Cursor
-unless_code_free Free at = None
-unless_code_free Reserved at = Some at
-unless_code_free Staged at = Some at
-unless_code_free Used at = Some at
 
 -- the cursor, unless its chunk is free
 abbrev pub unless_free : List Code → Option Cursor → Option Cursor
@@ -90,9 +85,9 @@ abbrev pub MayRelink : List Block → List Block → List Block → List Block �
 MayRelink old_live old_pins live pins = All (λ b. Contains old_live b ⊎ Contains old_pins b) live × All (Contains old_pins) pins
 
 -- the chunk is the lowest free one, or there is none
-abbrev pub IsLowestFree : List Code → Option ℕ → Type 0
-IsLowestFree codes None = (c : ℕ) → code_at codes c ≢ Free
-IsLowestFree codes (Some chunk) = (chunk < length codes) × (code_at codes chunk ≡ Free) × ((c : ℕ) → c < chunk → code_at codes c ≢ Free)
+abbrev pub IsFoundLowest : List Code → Option ℕ → Type 0
+IsFoundLowest codes None = (c : ℕ) → code_at codes c ≢ Free
+IsFoundLowest codes (Some chunk) = IsLowestFree (code_at codes) (length codes) chunk
 
 -- what a pass makes of a chunk's code, by whether it marked something in the chunk
 abbrev pub IsCodeAfter : List Block → ℕ → Code → Code → Type 0

@@ -5,11 +5,12 @@ use Rattle.h2_geom.specs.Geometry.{chunk_bytes, segment_chunks}
 use Rattle.h2_codes.specs.declared.code.Code.{Code}
 use Rattle.h2_codes.specs.declared.code.Code.TheVariants.{Free, Used}
 use Rattle.h2_codes.specs.Codes.{code_at}
-use Rattle.h2_ledger.specs.declared.cursor.SharedSize.{SharedSize}
-use Rattle.h2_ledger.specs.declared.cursor.Cursor.{Cursor}
+use Rattle.h2_ledger.specs.declared.shared_size.SharedSize.{SharedSize}
+use Rattle.h2_codes.specs.declared.cursor.Cursor.{Cursor}
 use Rattle.h2_ledger.specs.declared.pass.Pass.{Pass}
 use Rattle.h2_ledger.specs.declared.pass.Pass.TheVariants.{Idle, Begun, Marked, Scanning}
-use Rattle.h2_ledger.specs.Ledger.{Ledger, IsTaken, LiesInOneChunk, block_chunk, free_below}
+use Rattle.h2_codes.specs.Free.{free_below, IsLowestFree}
+use Rattle.h2_ledger.specs.Ledger.{Ledger, IsTaken, LiesInOneChunk, block_chunk}
 use Rattle.h2_ledger.specs.Moves.{radix_of, apply, Makes}
 use Rattle.h2_plain_ledger.specs.declared.cursors.Cursors.{Cursors}
 use Rattle.h2_plain_ledger.specs.declared.buying.Payment.{Payment}
@@ -65,9 +66,7 @@ pub record IsTakenNext (size : SharedSize) (b : Block) (s t : State) : Type 0 wh
 pub record IsTakenLowest (payment : Payment) (b : Block) (s : State) (reserved : ℕ) : Type 0 where
   pub chunk : ℕ
   pub at : b.place ≡ chunk_bytes * chunk
-  pub in_volume : chunk < length s.codes
-  pub free : code_at s.codes chunk ≡ Free
-  pub lowest : (c : ℕ) → c < chunk → code_at s.codes c ≢ Free
+  pub lowest : IsLowestFree (code_at s.codes) (length s.codes) chunk
   pub paid : IsPaid s.codes s.reserved payment reserved
 
 -- a block of a shared size was taken in the lowest free chunk, which got the cursor

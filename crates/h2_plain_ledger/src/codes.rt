@@ -1,9 +1,8 @@
 ghost use Rattle.std.specs.Prelude.{◌≡◌, ◌≢◌, ◌<◌, ◌≤◌, ◌+◌, ◌*◌, ◌/◌, ◌^◌, ℕ, length, MatchOption};
 ghost use Rattle.h2_codes.specs.declared.code.Code.TheVariants.{Free};
-ghost use Rattle.h2_codes.specs.Codes.{code_at};
-ghost use Rattle.h2_ledger.specs.Ledger as ledger;
-ghost use Rattle.h2_ledger.specs.Ledger.{free_below};
-ghost use Rattle.h2_plain_ledger.specs.State.{has, IsLowestFree, IsCodeAfter, IsApplied};
+ghost use Rattle.h2_codes.specs.Codes.{code_at, tally};
+ghost use Rattle.h2_codes.specs.Free.{free_below};
+ghost use Rattle.h2_plain_ledger.specs.State.{has, IsFoundLowest, IsCodeAfter, IsApplied};
 
 use crate::blocks::has_block_in;
 use h2_codes::Code;
@@ -13,7 +12,7 @@ use h2_num::Block;
 /// The lowest free chunk.
 pub fn lowest_free(codes: &[Code]) -> Option<u32>
     requires few { length codes.now ≤ 1048576 }
-    ensures { IsLowestFree codes.now result }
+    ensures { IsFoundLowest codes.now result }
 {
     let chunk = codes.iter().position(|code| matches!(code, Code::Free))?;
     Some(chunk as u32)
@@ -21,7 +20,7 @@ pub fn lowest_free(codes: &[Code]) -> Option<u32>
 
 /// 1 for the code of a free chunk, and 0 for others.
 pub fn one_if_free(code: Code) -> u64
-    ensures { result ≡ ledger.one_if_free code }
+    ensures { result ≡ tally Free code }
 {
     match code {
         Code::Free => 1,

@@ -1,12 +1,12 @@
 ghost use Rattle.std.specs.Prelude.{◌≡◌, ◌^◌, ℕ, ◌↔◌, IsTrue, Some, IfSome, IfNone};
-ghost use Rattle.h2_ledger.specs.declared.cursor.Cursor.{Cursor};
+ghost use Rattle.h2_codes.specs.declared.cursor.Cursor.{Cursor};
 ghost use Rattle.h2_ledger.specs.Moves as moves;
 ghost use Rattle.h2_plain_ledger.specs.State as state;
 ghost use Rattle.h2_plain_ledger.specs.State.{cursor_of, with_cursor, HasRoomAt, IsFilledAt};
 
-use h2_codes::Code;
+use h2_codes::{Code, Cursor};
 use h2_geom::CHUNK_BYTES;
-use h2_ledger::{Cursor, SharedSize};
+use h2_ledger::SharedSize;
 
 /// The radix of a block of a shared size: 10 or 12.
 pub fn radix_of(size: SharedSize) -> u8

@@ -1,13 +1,12 @@
 ghost use Rattle.std.specs.Prelude.{◌≡◌, ◌≢◌, ◌↔◌, ℕ, IsTrue, Some};
 ghost use Rattle.h2_codes.specs.Codes.{code_at};
-ghost use Rattle.h2_ledger.specs.declared.cursor.Cursor.{Cursor};
+ghost use Rattle.h2_codes.specs.declared.cursor.Cursor.{Cursor};
 ghost use Rattle.h2_ledger.specs.Ledger.{LiesInOneChunk, IsTaken, block_chunk};
 ghost use Rattle.h2_plain_ledger.specs.Steps.{IsElsewhere, IsShareable};
 
 use crate::cursors::Cursors;
-use h2_codes::Code;
+use h2_codes::{Code, Cursor};
 use h2_geom::CHUNK_BYTES;
-use h2_ledger::Cursor;
 use h2_num::Block;
 
 /// Whether the block doesn't cross the end of its chunk.

@@ -3,9 +3,9 @@ use crate::buying::{Payment, buy};
 use crate::cursors::{bytes_of, is_filled, radix_of, room_at};
 use crate::ledger::PlainLedger;
 use crate::sharing::may_share;
-use h2_codes::Code;
+use h2_codes::{Code, Cursor};
 use h2_geom::{CHUNK_BYTES, chunk_place};
-use h2_ledger::{Cursor, SharedSize};
+use h2_ledger::SharedSize;
 use h2_num::{Block, NoMemory};
 
 impl PlainLedger {
@@ -15,7 +15,7 @@ impl PlainLedger {
     ghost use Rattle.h2_ledger.specs.Moves.{Makes};
     ghost use Rattle.h2_plain_ledger.specs.State.{has, cursor_of, IsFilledAt};
     ghost use Rattle.h2_plain_ledger.specs.PlainLedger.{lists_of, ledger_of};
-    ghost use Rattle.h2_ledger.specs.declared.cursor.Cursor.{Cursor};
+    ghost use Rattle.h2_codes.specs.declared.cursor.Cursor.{Cursor};
     ghost use Rattle.h2_plain_ledger.specs.Buying.{CannotBuy};
     ghost use Rattle.h2_plain_ledger.specs.Steps.{HasRoom, IsTakenNext, IsTakenFirst, IsTakenWhole, IsShareable, with_adopted};
 

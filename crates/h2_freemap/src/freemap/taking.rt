@@ -7,11 +7,11 @@ ghost use Rattle.h2_freemap.specs.Taking.{GoesTo, Takes, bytes_of, with_cursor};
 ghost use Rattle.h2_freemap.specs.Need.{need_of, need_of_one};
 ghost use Rattle.h2_freemap.specs.Consistent.{IsConsistent, IsCursor};
 
-use crate::cursor::{Cursor, blocks_left, with_room};
+use crate::cursor::{blocks_left, with_room};
 use crate::freemap::Freemap;
 use crate::search::{lowest_free, one_if_free};
 use crate::size::Size;
-use h2_codes::Code;
+use h2_codes::{Code, Cursor};
 use h2_geom::{SEGMENT_CHUNKS, chunk_place};
 use h2_num::Block;
 

@@ -5,7 +5,7 @@ use Rattle.h2_codes.specs.Codes.{IsSegment, count_of}
 use Rattle.h2_codes.specs.declared.code.Code.{Code}
 use Rattle.h2_codes.specs.declared.code.Code.TheVariants.{Free}
 use Rattle.h2_freemap.specs.Space.{code_in}
-use Rattle.h2_freemap.specs.Free.{free_below}
+use Rattle.h2_codes.specs.Free.{free_below}
 use Rattle.h2_freemap.proofs.SegmentCodes.{count_more, free_at_most}
 use Rattle.h2_freemap.proofs.search.count_free.Goals as goal
 

@@ -1,6 +1,6 @@
 use Rattle.std.proofs.Common.{◌≡◌, ◌≤◌}
 use Rattle.h2_codes.specs.Codes.{code_at}
-use Rattle.h2_ledger.specs.Ledger.{free_below}
+use Rattle.h2_codes.specs.Free.{free_below}
 use Rattle.h2_plain_ledger.proofs.codes.free_chunks.Given as goal
 
 abbrev pub invariant-loop-chunk : goal.invariant-loop-chunk

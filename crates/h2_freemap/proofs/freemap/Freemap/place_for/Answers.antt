@@ -1,10 +1,10 @@
 use Rattle.std.proofs.Common.{◌≤◌, ◌*◌, List, length, ap, sym, ◌∙◌, subst}
 use Rattle.std.specs.Option.{MatchOption}
 use Rattle.h2_codes.specs.declared.code.Code.{Code}
-use Rattle.h2_freemap.specs.Space.{Space, cursor_of}
+use Rattle.h2_freemap.specs.Space.{Space, code_in, cursor_of}
 use Rattle.h2_freemap.specs.Free.{free_of}
 use Rattle.h2_freemap.specs.Need.{need_of_one}
-use Rattle.h2_freemap.specs.Search.{NoneFreeIn, IsLowestIn}
+use Rattle.h2_codes.specs.Free.{NoneFreeBelow, IsLowestFree}
 use Rattle.h2_freemap.specs.Taking.{HasNoRoom}
 use Rattle.h2_freemap.specs.contracts.freemap.Freemap.{the_view}
 use Rattle.h2_freemap.proofs.Placed.{found}
@@ -16,4 +16,4 @@ unwrap-requires c =
     subst (HasNoRoom c.args.size) (c.cursor.ensures.value ∙ ap (λ (x : Space). cursor_of x c.args.size) (sym c.self.view_is)) c.in_default.ensures.room in
     found c.args.size (the_view c.self.inside) c.lowest_free.result c.self.invariant.0 none
     (subst (λ (x : Space). need_of_one c.args.size x ≤ free_of x) (sym c.self.view_is) c.requires.enough)
-    (subst (λ (s : List (List Code)). MatchOption c.lowest_free.result (NoneFreeIn (256 * length s) s) (IsLowestIn s)) c.deref.ensures.value c.lowest_free.ensures)
+    (subst (λ (s : List (List Code)). MatchOption c.lowest_free.result (NoneFreeBelow (code_in s) (256 * length s)) (IsLowestFree (code_in s) (256 * length s))) c.deref.ensures.value c.lowest_free.ensures)
