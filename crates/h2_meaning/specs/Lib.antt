@@ -3,6 +3,7 @@ pub mod FileTree
 pub mod Forest
 pub mod SingleLaws
 pub mod CarryLaws
+pub mod LoadedLaws
 pub mod OrderLaws
 pub mod FoundLaws
 pub mod Targets

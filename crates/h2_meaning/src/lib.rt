@@ -6,17 +6,21 @@
 //! `specs/Node` says which inodes a PFS's tree stands for, and `specs/Forest` which table, and which forest all of
 //! the trees; the forest is the plain one of `h2_forest`. `specs/FileTree` says what holds of every table, whatever
 //! it is read from. The laws stand on functions with empty bodies: a tree stands for one thing at most, and it
-//! stands for the same in a second reading that gives whatever the first one gives (`specs/Following`).
+//! stands for the same in a second reading that gives whatever the first one gives (`specs/Following` of `h2_inode`).
+//! Two laws say so of loaded nodes: one table and one forest at most stand in them, and they stand after loads and
+//! after changes of other trees.
 #![tactic(auto)]
 
 mod change;
 mod example;
 mod laws;
+mod loaded;
 mod reading;
 
 pub use change::Change;
 pub use example::{new_volume_law, one_block_law, one_entry_law};
 pub use laws::{carry_law, image_law, leaf_law, one_meaning_law, order_law};
+pub use loaded::{loaded_law, one_loaded_law};
 pub use reading::Reading;
 
 #[cfg(test)]

@@ -27,4 +27,6 @@ fn laws_hold_of_a_new_volume() {
     one_block_law();
     one_entry_law();
     image_law();
+    one_loaded_law();
+    loaded_law();
 }
