@@ -90,7 +90,7 @@ module _ (xs : List Node) (at : ℕ) (x : Node) (read : slice_get xs at ≡ Some
   now_writable = is_writable xs new spare epoch room failed bad met sound
 
   -- what is above in the tree
-  above_of : (m i : ℕ) (r : Ref) → f.stands m ≡ true → slice_get (refs f m) i ≡ Some r → f.root m ≡ f.root at → is_indirect r ≡ true → holds (f.low at) r ≡ true → f.bits at ≤ r.keybits → Above f m at
+  pub above_of : (m i : ℕ) (r : Ref) → f.stands m ≡ true → slice_get (refs f m) i ≡ Some r → f.root m ≡ f.root at → is_indirect r ≡ true → holds (f.low at) r ≡ true → f.bits at ≤ r.keybits → Above f m at
   above_of m i r st got root ind held bits =
       let node = sound.node m st in
       let it = holds_inside (f.low at) r held in

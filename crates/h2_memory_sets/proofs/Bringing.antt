@@ -28,7 +28,7 @@ away_parts false true false h = absurd (cc)
 away_parts false false e h = absurd (cc)
 away_parts true u e h = absurd (cc)
 
-up_is : (m : ℕ) (u : Option ℕ) → is_up m u ≡ true → u ≡ Some m
+pub up_is : (m : ℕ) (u : Option ℕ) → is_up m u ≡ true → u ≡ Some m
 up_is m None h = absurd (cc)
 up_is m (Some n) h = ap Some (alike n m h)
 

@@ -23,6 +23,7 @@ pub mod Nodes
 pub mod Keeping
 pub mod Paths
 pub mod Made
+pub mod Sharing
 pub mod Making
 pub mod Sides
 pub mod Putting
@@ -42,3 +43,7 @@ pub mod Parted
 pub mod Unsought
 pub mod Replacing
 pub mod Brought
+pub mod Hinted
+pub mod Unaltered
+pub mod Undropped
+pub mod LongNames

@@ -1,205 +1,31 @@
 -- A node that takes over a part of another.
-use Rattle.std.proofs.Common.{◌≡◌, ℕ, ◌+◌, ◌<◌, ◌≤◌, ◌^◌, true, false, arith, refl, cond, sym, ◌∙◌, ap, List, length, Some, subst, ◌⊎◌, inl, inr, slice_get, suc}
-use Rattle.std.specs.Prelude.{filter, not, count_by}
+use Rattle.std.proofs.Common.{◌≡◌, ℕ, ◌+◌, ◌<◌, ◌≤◌, ◌^◌, true, false, arith, refl, cond, sym, ◌∙◌, ap, List, Some, subst, ◌⊎◌, inl, inr, slice_get}
+use Rattle.std.specs.Prelude.{filter, not}
 use Rattle.std.proofs.lemmas.Nat.{pow_pos}
-use Rattle.std.proofs.lemmas.List.Sums.{length-filter}
 use Rattle.h2_ref.specs.declared.reference.Ref.{Ref}
 use Rattle.h2_set.specs.declared.set.Split.{Split}
-use Rattle.h2_set.specs.Ranges.{Rising, limit, put, lies, is_indirect, IsApart, Apart}
-use Rattle.h2_set.specs.RefSet.{RefSet, IsRefSet, with_rest}
+use Rattle.h2_set.specs.Ranges.{put, lies, is_indirect}
+use Rattle.h2_set.specs.RefSet.{RefSet}
 use Rattle.h2_set.specs.SetBytes.{IsHeld}
 use Rattle.h2_set.specs.Forest.{Forest, refs, loaded, untold, IsSound, IsSoundNode, IsChild, NamesBelow, Fits, MadeFrom, Makes, HasParent, HasOwner, InPlace, Same}
 use Rattle.h2_set.specs.ChangeLaws.{same_or_not}
-use Rattle.h2_set.specs.LeafLaws.{Rising-low}
-use Rattle.h2_set.specs.EditLaws.{Rising-put, length-put}
 use Rattle.h2_set.specs.EditPathLaws.{PartsRefs, made_path}
-use Rattle.h2_set.specs.PutLaws.{Rising-filter, put_from, put_keeps}
+use Rattle.h2_set.specs.PutLaws.{put_from, put_keeps}
 use Rattle.h2_set.specs.SplitLaws.{lies_in}
-use Rattle.h2_set.specs.MadeLaws.{put_rising, put_fits, PartsNode, parts_node}
+use Rattle.h2_set.specs.MadeLaws.{PartsNode, parts_node}
 use Rattle.h2_memory_sets.specs.View.{names}
-use Rattle.h2_memory_sets.proofs.Lists.{names_below, below_names, filter_from, filter_keeps, put_there, Rising-within}
+use Rattle.h2_memory_sets.proofs.Lists.{below_names, filter_keeps, put_there}
 use Rattle.h2_memory_sets.proofs.Settled.{KeepsRules, CameOf, stood as stood_in, like, keeps_rules, owner_in, fits_in, child_in, placed, same_node, same_all, same_top, sound_of}
 use Rattle.h2_memory_sets.proofs.Made.{DiffersByMake}
-use Rattle.h2_memory_sets.proofs.Sides.{at_start, in_range, outside, same_bool, where_lies, count_not, not_false, off_range, on_range, off_key, off_lies, Rising-wide}
+use Rattle.h2_memory_sets.proofs.Sides.{at_start, in_range, outside, where_lies, off_key, off_lies}
+use Rattle.h2_memory_sets.proofs.Sharing.{stayed, stood, ref_apart, here_rising, here_length, here_set, came, inner_rising, inner_length, new_set, moved_there, names_kept, names_moved, all_fits}
 
 module _ (f : Forest) (at : ℕ) (set : RefSet) (s : Split) (ref leaf : Ref) (sound : IsSound f) (stands : f.stands at ≡ true) (made : MadeFrom f at leaf set s) (is_ind : is_indirect ref ≡ true) (key_is : ref.key ≡ s.key) (bits_is : ref.keybits ≡ s.keybits) where
   node : IsSoundNode f at
   node = sound.node at stands
 
-  pub parts : PartsNode f at leaf s.key s.keybits
+  parts : PartsNode f at leaf s.key s.keybits
   parts = parts_node f at leaf set s node made
-
-  all_rising : Rising (f.low at) (f.low at + 2 ^ f.bits at) (put leaf (refs f at))
-  all_rising = put_rising f at leaf node made.apart made.fits made.low made.high
-
-  all_fits : (i : ℕ) (q : Ref) → slice_get (put leaf (refs f at)) i ≡ Some q → Fits f at q
-  all_fits = put_fits f at leaf node made.apart made.fits made.low made.high
-
-  outer_rising : Rising (f.low at) (f.low at + 2 ^ f.bits at) (filter (λ q. not (lies s.key s.keybits q)) (put leaf (refs f at)))
-  outer_rising = Rising-filter (λ q. not (lies s.key s.keybits q)) _ _ (put leaf (refs f at)) all_rising
-
-  -- a reference that stays is apart from the range
-  record Stayed (q : Ref) : Type 0 where
-    place : ℕ
-    read : slice_get (put leaf (refs f at)) place ≡ Some q
-    off : (limit q ≤ s.key) ⊎ (s.key + 2 ^ s.keybits ≤ q.key)
-
-  stayed : (i : ℕ) (q : Ref) → slice_get (filter (λ q. not (lies s.key s.keybits q)) (put leaf (refs f at))) i ≡ Some q → Stayed q
-  stayed i q read =
-      let it = filter_from (λ q. not (lies s.key s.keybits q)) (put leaf (refs f at)) i q read in
-      record { place = it.place; read = it.read; off = off_range s.key s.keybits q (parts.sides it.place q it.read) (not_false _ it.passes) }
-
-  pub ref_apart : IsApart ref (filter (λ q. not (lies s.key s.keybits q)) (put leaf (refs f at)))
-  ref_apart i q read = elim (stayed i q read).off as (λ _. Apart ref q) [
-    | inl before ↦ inr (rw key_is before)
-    | inr after ↦ inl (rw (key_is, bits_is) after)
-  ]
-
-  counts : count_by (lies s.key s.keybits) (put leaf (refs f at)) + length (filter (λ q. not (lies s.key s.keybits q)) (put leaf (refs f at))) ≡ suc (length (refs f at))
-  counts =
-      let a = count_not (lies s.key s.keybits) (put leaf (refs f at)) in
-      let b = length-filter (λ q. not (lies s.key s.keybits q)) (put leaf (refs f at)) in
-      let n = length-put leaf (refs f at) made.apart in
-      omega (arith, a, b, n)
-
-  -- a reference of the whole that leads on stood there before
-  record Stood (q : Ref) : Type 0 where
-    place : ℕ
-    read : slice_get (refs f at) place ≡ Some q
-
-  stood : (i : ℕ) (q : Ref) → slice_get (put leaf (refs f at)) i ≡ Some q → is_indirect q ≡ true → Stood q
-  stood i q read ind = elim (put_from leaf (refs f at) made.apart i q read) as (λ _. Stood q) [
-    | inl e ↦ let clash : true ≡ false = sym ind ∙ ap (λ (z : Ref). is_indirect z) e ∙ made.leaf in absurd (cc)
-    | inr old ↦ record { place = old.0; read = old.1 }
-  ]
-
-  here_rising : Rising (f.low at) (f.low at + 2 ^ f.bits at) (put ref (filter (λ q. not (lies s.key s.keybits q)) (put leaf (refs f at))))
-  here_rising = Rising-put _ _ _ ref outer_rising ref_apart (rw key_is parts.range_low) (rw (key_is, bits_is) parts.range_high)
-
-  here_length : length (put ref (filter (λ q. not (lies s.key s.keybits q)) (put leaf (refs f at)))) ≡ suc (length (filter (λ q. not (lies s.key s.keybits q)) (put leaf (refs f at))))
-  here_length = length-put ref _ ref_apart
-
-  here_set : IsRefSet (record { refs = put ref (filter (λ q. not (lies s.key s.keybits q)) (put leaf (refs f at))); capacity = set.capacity })
-  here_set =
-      let full = made.full in
-      let same = made.capacity in
-      let n = here_length in
-      let k = counts in
-      let two = parts.two in
-      record {
-        rising = Rising-wide 0 _ (2 ^ 64) _ node.ends (Rising-low (f.low at) 0 _ _ (omega arith) here_rising);
-        fits = omega (arith, full, same, n, k, two);
-        known = rw same node.set.known;
-      }
-
-  -- what moved stands in the new node
-  came : (i : ℕ) (q : Ref) → slice_get (filter (lies s.key s.keybits) (put leaf (refs f at))) i ≡ Some q → (lies s.key s.keybits q ≡ true) × (j : ℕ) × (slice_get (put leaf (refs f at)) j ≡ Some q)
-  came i q read = let it = filter_from (lies s.key s.keybits) (put leaf (refs f at)) i q read in (it.passes, it.place, it.read)
-
-  inner_rising : Rising s.key (s.key + 2 ^ s.keybits) (filter (lies s.key s.keybits) (put leaf (refs f at)))
-  inner_rising = Rising-within s.key s.keybits _ _ (filter (lies s.key s.keybits) (put leaf (refs f at))) (Rising-filter (lies s.key s.keybits) _ _ (put leaf (refs f at)) all_rising) (λ i q read. (came i q read).0)
-
-  inner_length : length (filter (lies s.key s.keybits) (put leaf (refs f at))) ≡ count_by (lies s.key s.keybits) (put leaf (refs f at))
-  inner_length = length-filter (lies s.key s.keybits) (put leaf (refs f at))
-
-  new_set : IsRefSet (record { refs = filter (lies s.key s.keybits) (put leaf (refs f at)); capacity = 32 })
-  new_set = record {
-    rising = Rising-wide 0 _ (2 ^ 64) _ top (Rising-low s.key 0 _ _ (omega arith) inner_rising);
-    fits = few node.set.known refl;
-    known = inr refl;
-  }
-    where
-      top : s.key + 2 ^ s.keybits ≤ 2 ^ 64
-      top = let a = parts.range_high in let b = node.ends in omega (arith, a, b)
-
-      few : {n : ℕ} → (n ≡ 4) ⊎ (n ≡ 32) → n ≡ (let t = f.set at in t.capacity) → length (filter (lies s.key s.keybits) (put leaf (refs f at))) ≤ 32
-      few (inl e) same = let a = parts.few in let n = inner_length in let full = made.full in omega (arith, e, same, a, n, full)
-      few (inr e) same = let a = parts.few in let n = inner_length in let full = made.full in omega (arith, e, same, a, n, full)
-
-  -- the reference that leads there moved
-  record Moved (q : Ref) : Type 0 where
-    lies_there : lies s.key s.keybits q ≡ true
-    all_place : ℕ
-    all_read : slice_get (put leaf (refs f at)) all_place ≡ Some q
-    place : ℕ
-    read : slice_get (filter (lies s.key s.keybits) (put leaf (refs f at))) place ≡ Some q
-
-  moved_there : (k : ℕ) → s.key ≤ k → k < s.key + 2 ^ s.keybits → (n : NamesBelow (refs f at) k) → Moved n.ref
-  moved_there k lo hi n =
-      let one = put_keeps leaf (refs f at) made.apart n.place n.ref n.read in
-      let key_is : n.ref.key ≡ k = n.key in
-      let in_it = on_range s.key s.keybits n.ref (parts.sides one.0 n.ref one.1) (rw key_is lo) (rw key_is hi) in
-      let two = filter_keeps (lies s.key s.keybits) (put leaf (refs f at)) one.0 n.ref one.1 in_it in
-      record { lies_there = in_it; all_place = one.0; all_read = one.1; place = two.0; read = two.1 }
-
-  kept_apart : (k : ℕ) → (k < s.key) ⊎ (s.key + 2 ^ s.keybits ≤ k) → (q : Ref) → q.key ≡ k → lies s.key s.keybits q ≡ false
-  kept_apart k out q e = off_lies s.key s.keybits q (rw e out) _ refl
-
-  -- a reference outside the range that leads on stays
-  outer_has : (k : ℕ) → (k < s.key) ⊎ (s.key + 2 ^ s.keybits ≤ k) → (n : NamesBelow (refs f at) k) → (i : ℕ) × (slice_get (put ref (filter (λ q. not (lies s.key s.keybits q)) (put leaf (refs f at)))) i ≡ Some n.ref)
-  outer_has k out n =
-      let one = put_keeps leaf (refs f at) made.apart n.place n.ref n.read in
-      let two = filter_keeps (λ q. not (lies s.key s.keybits q)) (put leaf (refs f at)) one.0 n.ref one.1 (ap not (kept_apart k out n.ref n.key)) in
-      put_keeps ref (filter (λ q. not (lies s.key s.keybits q)) (put leaf (refs f at))) ref_apart two.0 n.ref two.1
-
-  names_kept : (k : ℕ) → (k < s.key) ⊎ (s.key + 2 ^ s.keybits ≤ k) → names (put ref (filter (λ q. not (lies s.key s.keybits q)) (put leaf (refs f at)))) k ≡ names (refs f at) k
-  names_kept k out = same_bool _ _ to from
-    where
-      to : names (put ref (filter (λ q. not (lies s.key s.keybits q)) (put leaf (refs f at)))) k ≡ true → names (refs f at) k ≡ true
-      to e =
-          let n = names_below _ k e in
-          elim (put_from ref (filter (λ q. not (lies s.key s.keybits q)) (put leaf (refs f at))) ref_apart n.place n.ref n.read) as (λ _. names (refs f at) k ≡ true) [
-            | inl same ↦ let key : k ≡ s.key = sym n.key ∙ ap (λ (z : Ref). z.key) same ∙ key_is in absurd (at_start_out key out)
-            | inr old ↦
-                let st = stayed old.0 n.ref old.1 in
-                let was = stood st.place n.ref st.read n.indirect in
-                below_names (refs f at) k was.place n.ref was.read n.indirect n.key
-          ]
-        where
-          at_start_out : k ≡ s.key → (k < s.key) ⊎ (s.key + 2 ^ s.keybits ≤ k) → ⊥
-          at_start_out e (inl lt) = omega (arith, e, lt)
-          at_start_out e (inr le) = let pos = pow_pos s.keybits in omega (arith, e, le, pos)
-
-      from : names (refs f at) k ≡ true → names (put ref (filter (λ q. not (lies s.key s.keybits q)) (put leaf (refs f at)))) k ≡ true
-      from e =
-          let n = names_below _ k e in
-          let it = outer_has k out n in
-          below_names _ k it.0 n.ref it.1 n.indirect n.key
-
-  names_moved : (k : ℕ) → s.key ≤ k → k < s.key + 2 ^ s.keybits → names (filter (lies s.key s.keybits) (put leaf (refs f at))) k ≡ names (refs f at) k
-  names_moved k lo hi = same_bool _ _ to from
-    where
-      to : names (filter (lies s.key s.keybits) (put leaf (refs f at))) k ≡ true → names (refs f at) k ≡ true
-      to e =
-          let n = names_below _ k e in
-          let it = came n.place n.ref n.read in
-          let was = stood it.1 n.ref it.2 n.indirect in
-          below_names (refs f at) k was.place n.ref was.read n.indirect n.key
-
-      from : names (refs f at) k ≡ true → names (filter (lies s.key s.keybits) (put leaf (refs f at))) k ≡ true
-      from e =
-          let n = names_below _ k e in
-          let it = moved_there k lo hi n in
-          below_names _ k it.place n.ref it.read n.indirect n.key
-
-  -- the two sets that the node is given, one after the other
-  pub kept_set : IsRefSet (record { refs = with_rest s.rest set.refs; capacity = set.capacity })
-  kept_set =
-      let full = made.full in
-      let same = made.capacity in
-      let n = counts in
-      let two = parts.two in
-      rw made.kept (record {
-        rising = Rising-wide 0 _ (2 ^ 64) _ node.ends (Rising-low (f.low at) 0 _ _ (omega arith) outer_rising);
-        fits = omega (arith, full, same, n, two);
-        known = rw same node.set.known;
-      })
-
-  pub whole_set : IsRefSet (record { refs = put ref (with_rest s.rest set.refs); capacity = set.capacity })
-  whole_set = rw made.kept here_set
-
-  pub whole_length : length (put ref (with_rest s.rest set.refs)) ≤ set.capacity
-  whole_length = whole_set.fits
 
   module _ (g : Forest) (c : ℕ) (d : DiffersByMake f g at c set s ref) (ref_held : IsHeld ref) (ref_dated : ref.id ≡ f.epoch) where
     stays : (m : ℕ) → f.stands m ≡ true → g.stands m ≡ true
@@ -218,14 +44,14 @@ module _ (f : Forest) (at : ℕ) (set : RefSet) (s : Split) (ref leaf : Ref) (so
     refs_new = ap (λ (t : RefSet). t.refs) d.moved ∙ ap (λ (t : RefSet). t.refs) made.moved
 
     kept : (k : ℕ) → (k < s.key) ⊎ (s.key + 2 ^ s.keybits ≤ k) → g.link at k ≡ f.link at k
-    kept k out = d.after_here k out ∙ ap (λ (rs : List Ref). cond (names rs k) (d.before k) untold) refs_here ∙ ap (λ b. cond b (d.before k) untold) (names_kept k out) ∙ sym (d.before_is k)
+    kept k out = d.after_here k out ∙ ap (λ (rs : List Ref). cond (names rs k) (d.before k) untold) refs_here ∙ ap (λ b. cond b (d.before k) untold) ((names_kept f at set s ref leaf sound stands made is_ind key_is bits_is) k out) ∙ sym (d.before_is k)
 
     below : (k : ℕ) → s.key ≤ k → k < s.key + 2 ^ s.keybits → g.link c k ≡ f.link at k
-    below k lo hi = d.after_new k lo hi ∙ ap (λ (rs : List Ref). cond (names rs k) (d.before k) untold) refs_new ∙ ap (λ b. cond b (d.before k) untold) (names_moved k lo hi) ∙ sym (d.before_is k)
+    below k lo hi = d.after_new k lo hi ∙ ap (λ (rs : List Ref). cond (names rs k) (d.before k) untold) refs_new ∙ ap (λ b. cond b (d.before k) untold) ((names_moved f at set s ref leaf sound stands made is_ind key_is bits_is) k lo hi) ∙ sym (d.before_is k)
 
     child : g.link at s.key ≡ loaded c
     child =
-        let it = put_there ref (filter (λ q. not (lies s.key s.keybits q)) (put leaf (refs f at))) ref_apart in
+        let it = put_there ref (filter (λ q. not (lies s.key s.keybits q)) (put leaf (refs f at))) (ref_apart f at set s ref leaf sound stands made is_ind key_is bits_is) in
         let e : names (put ref (filter (λ q. not (lies s.key s.keybits q)) (put leaf (refs f at)))) s.key ≡ true = below_names _ s.key it.0 ref it.1 is_ind key_is in
         d.after_start ∙ ap (λ (rs : List Ref). cond (names rs s.key) (loaded c) untold) refs_here ∙ ap (λ b. cond b (loaded c) untold) e
 
@@ -269,46 +95,46 @@ module _ (f : Forest) (at : ℕ) (set : RefSet) (s : Split) (ref leaf : Ref) (so
     here_named : (k e : ℕ) → g.link at k ≡ loaded e → NamesBelow (put ref (filter (λ q. not (lies s.key s.keybits q)) (put leaf (refs f at)))) k
     here_named k e l = elim (where_lies s.key s.keybits k) as (λ _. NamesBelow (put ref (filter (λ q. not (lies s.key s.keybits q)) (put leaf (refs f at)))) k) [
       | in_range ne lo hi ↦ absurd (d.only k e ne lo hi l)
-      | at_start start ↦ let it = put_there ref (filter (λ q. not (lies s.key s.keybits q)) (put leaf (refs f at))) ref_apart in record { place = it.0; ref = ref; read = it.1; indirect = is_ind; key = key_is ∙ sym start }
+      | at_start start ↦ let it = put_there ref (filter (λ q. not (lies s.key s.keybits q)) (put leaf (refs f at))) (ref_apart f at set s ref leaf sound stands made is_ind key_is bits_is) in record { place = it.0; ref = ref; read = it.1; indirect = is_ind; key = key_is ∙ sym start }
       | outside out ↦
           let old = node.named k e (sym (kept k out) ∙ l) in
           let one = put_keeps leaf (refs f at) made.apart old.place old.ref old.read in
           let miss : lies s.key s.keybits old.ref ≡ false = off_lies s.key s.keybits old.ref (rw old.key out) _ refl in
           let two = filter_keeps (λ q. not (lies s.key s.keybits q)) (put leaf (refs f at)) one.0 old.ref one.1 (ap not miss) in
-          let three = put_keeps ref (filter (λ q. not (lies s.key s.keybits q)) (put leaf (refs f at))) ref_apart two.0 old.ref two.1 in
+          let three = put_keeps ref (filter (λ q. not (lies s.key s.keybits q)) (put leaf (refs f at))) (ref_apart f at set s ref leaf sound stands made is_ind key_is bits_is) two.0 old.ref two.1 in
           record { place = three.0; ref = old.ref; read = three.1; indirect = old.indirect; key = old.key }
     ]
 
     here_bits : (i e : ℕ) (q : Ref) → slice_get (put ref (filter (λ q. not (lies s.key s.keybits q)) (put leaf (refs f at)))) i ≡ Some q → is_indirect q ≡ true → g.link at q.key ≡ loaded e → g.bits e ≡ q.keybits
-    here_bits i e q read ind l = elim (put_from ref (filter (λ q. not (lies s.key s.keybits q)) (put leaf (refs f at))) ref_apart i q read) as (λ _. g.bits e ≡ q.keybits) [
+    here_bits i e q read ind l = elim (put_from ref (filter (λ q. not (lies s.key s.keybits q)) (put leaf (refs f at))) (ref_apart f at set s ref leaf sound stands made is_ind key_is bits_is) i q read) as (λ _. g.bits e ≡ q.keybits) [
       | inl same ↦
           let at_key : q.key ≡ s.key = ap (λ (z : Ref). z.key) same ∙ key_is in
           let both : loaded c ≡ loaded e = sym child ∙ ap (g.link at) (sym at_key) ∙ l in
           let it : c ≡ e = (cc) in
           ap g.bits (sym it) ∙ d.bits ∙ sym bits_is ∙ ap (λ (z : Ref). z.keybits) (sym same)
       | inr old ↦
-          let st = stayed old.0 q old.1 in
-          let was = stood st.place q st.read ind in
+          let st = (stayed f at set s ref leaf sound stands made is_ind key_is bits_is) old.0 q old.1 in
+          let was = (stood f at set s ref leaf sound stands made is_ind key_is bits_is) st.place q st.read ind in
           let l' : f.link at q.key ≡ loaded e = sym (kept q.key (off_key s.key s.keybits q st.off)) ∙ l in
           let kid = node.child q.key e l' in
           (place e kid.stands).bits ∙ node.bits was.place e q was.read ind l'
     ]
 
     here_fits : (i : ℕ) (q : Ref) → slice_get (put ref (filter (λ q. not (lies s.key s.keybits q)) (put leaf (refs f at)))) i ≡ Some q → Fits g at q
-    here_fits i q read = elim (put_from ref (filter (λ q. not (lies s.key s.keybits q)) (put leaf (refs f at))) ref_apart i q read) as (λ _. Fits g at q) [
+    here_fits i q read = elim (put_from ref (filter (λ q. not (lies s.key s.keybits q)) (put leaf (refs f at))) (ref_apart f at set s ref leaf sound stands made is_ind key_is bits_is) i q read) as (λ _. Fits g at q) [
       | inl same ↦ subst (Fits g at) (sym same) ref_fits
-      | inr old ↦ let st = stayed old.0 q old.1 in fits_in f g d.settled.loose at q stands (stays at stands) rules (all_fits st.place q st.read)
+      | inr old ↦ let st = (stayed f at set s ref leaf sound stands made is_ind key_is bits_is) old.0 q old.1 in fits_in f g d.settled.loose at q stands (stays at stands) rules ((all_fits f at set s ref leaf sound stands made is_ind key_is bits_is) st.place q st.read)
     ]
 
     pub here_node : IsSoundNode g at
     here_node =
         let p = place at stands in
         placed f g d.settled.loose at stands (stays at stands) node (record {
-          set = rw (d.now, made.kept) here_set;
+          set = rw (d.now, made.kept) (here_set f at set s ref leaf sound stands made is_ind key_is bits_is);
           capacity = ap (λ (t : RefSet). t.capacity) d.now ∙ made.capacity;
-          inside = rw (refs_here, p.low, p.bits) here_rising;
+          inside = rw (refs_here, p.low, p.bits) (here_rising f at set s ref leaf sound stands made is_ind key_is bits_is);
           fits = λ i q read. here_fits i q (rw refs_here at read);
-          some = λ top. rw (refs_here, here_length) (omega arith);
+          some = λ top. rw (refs_here, (here_length f at set s ref leaf sound stands made is_ind key_is bits_is)) (omega arith);
           child = here_child;
           named = λ k e l. rw refs_here (here_named k e l);
           bits = λ i e q read ind l. here_bits i e q (rw refs_here at read) ind l;
@@ -316,8 +142,8 @@ module _ (f : Forest) (at : ℕ) (set : RefSet) (s : Split) (ref leaf : Ref) (so
 
     new_fits : (i : ℕ) (q : Ref) → slice_get (filter (lies s.key s.keybits) (put leaf (refs f at))) i ≡ Some q → Fits g c q
     new_fits i q read =
-        let it = came i q read in
-        let h = all_fits it.1 q it.2 in
+        let it = (came f at set s ref leaf sound stands made is_ind key_is bits_is) i q read in
+        let h = (all_fits f at set s ref leaf sound stands made is_ind key_is bits_is) it.1 q it.2 in
         let grain : g.leaf_bits (g.root c) ≡ f.leaf_bits (f.root at) = ap g.leaf_bits d.root ∙ d.settled.loose.leaf_bits (f.root at) rules.stood rules.stands in
         record {
           held = h.held;
@@ -353,7 +179,7 @@ module _ (f : Forest) (at : ℕ) (set : RefSet) (s : Split) (ref leaf : Ref) (so
         let kid = node.child k e was.link in
         let p = place e kid.stands in
         let n = was.named in
-        let m = moved_there k was.lo was.hi n in
+        let m = (moved_there f at set s ref leaf sound stands made is_ind key_is bits_is) k was.lo was.hi n in
         let bits_is : f.bits e ≡ n.ref.keybits = node.bits n.place e n.ref n.read n.indirect (rw n.key was.link) in
         let in_it = lies_in s.key s.keybits n.ref m.lies_there in
         let end : n.ref.key + 2 ^ n.ref.keybits ≤ s.key + 2 ^ s.keybits = in_it.1 in
@@ -375,13 +201,13 @@ module _ (f : Forest) (at : ℕ) (set : RefSet) (s : Split) (ref leaf : Ref) (so
     new_named : (k e : ℕ) → g.link c k ≡ loaded e → NamesBelow (filter (lies s.key s.keybits) (put leaf (refs f at))) k
     new_named k e l =
         let was = was_below k e l in
-        let m = moved_there k was.lo was.hi was.named in
+        let m = (moved_there f at set s ref leaf sound stands made is_ind key_is bits_is) k was.lo was.hi was.named in
         record { place = m.place; ref = was.named.ref; read = m.read; indirect = was.named.indirect; key = was.named.key }
 
     new_bits : (i e : ℕ) (q : Ref) → slice_get (filter (lies s.key s.keybits) (put leaf (refs f at))) i ≡ Some q → is_indirect q ≡ true → g.link c q.key ≡ loaded e → g.bits e ≡ q.keybits
     new_bits i e q read ind l =
-        let it = came i q read in
-        let st = stood it.1 q it.2 ind in
+        let it = (came f at set s ref leaf sound stands made is_ind key_is bits_is) i q read in
+        let st = (stood f at set s ref leaf sound stands made is_ind key_is bits_is) it.1 q it.2 ind in
         let was = was_below q.key e l in
         let kid = node.child q.key e was.link in
         (place e kid.stands).bits ∙ node.bits st.place e q st.read ind was.link
@@ -392,14 +218,14 @@ module _ (f : Forest) (at : ℕ) (set : RefSet) (s : Split) (ref leaf : Ref) (so
         let fewer = parts.fewer in
         let slope = node.slope in
         record {
-          set = rw (d.moved, made.moved) new_set;
+          set = rw (d.moved, made.moved) (new_set f at set s ref leaf sound stands made is_ind key_is bits_is);
           root_capacity = λ top. absurd (d.under (sym d.root ∙ top));
           block_capacity = λ _. ap (λ (t : RefSet). t.capacity) (d.moved ∙ made.moved);
-          inside = rw (refs_new, d.low, d.bits) inner_rising;
+          inside = rw (refs_new, d.low, d.bits) (inner_rising f at set s ref leaf sound stands made is_ind key_is bits_is);
           aligned = rw (d.low, d.bits) made.split.half.aligned;
           ends = rw (d.low, d.bits) (let e = node.ends in omega (arith, high, e));
           fits = λ i q read. new_fits i q (rw refs_new at read);
-          some = λ top. rw (refs_new, inner_length) (let two = parts.two in omega (arith, two));
+          some = λ top. rw (refs_new, (inner_length f at set s ref leaf sound stands made is_ind key_is bits_is)) (let two = parts.two in omega (arith, two));
           child = new_child;
           named = λ k e l. rw refs_new (new_named k e l);
           bits = λ i e q read ind l. new_bits i e q (rw refs_new at read) ind l;

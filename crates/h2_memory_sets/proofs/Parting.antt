@@ -97,11 +97,11 @@ fails true false e h = refl
 fails false a e h = refl
 
 -- the first place at which a test passes, from the front on
-abbrev after_one : Option ℕ → Option ℕ
+abbrev pub after_one : Option ℕ → Option ℕ
 after_one None = None
 after_one (Some n) = Some (suc n)
 
-abbrev first_of : {X : Type 0} → (X → Bool) → List X → Option ℕ
+abbrev pub first_of : {X : Type 0} → (X → Bool) → List X → Option ℕ
 first_of p [] = None
 first_of p (x ∷ xs) = cond (p x) (Some 0) (after_one (first_of p xs))
 
@@ -123,7 +123,7 @@ first_step false n len o ih = elim (cases_lt n len) as (λ _. cond (nat_lt (1 + 
       rw then' (ap after_one it)
 ]
 
-position_first : {X : Type 0} (p : X → Bool) (xs : List X) → position p xs ≡ first_of p xs
+pub position_first : {X : Type 0} (p : X → Bool) (xs : List X) → position p xs ≡ first_of p xs
 position_first p [] = refl
 position_first p (x ∷ xs) = first_step (p x) (position_or_len p xs) (length xs) (first_of p xs) (position_first p xs)
 

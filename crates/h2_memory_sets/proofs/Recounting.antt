@@ -122,7 +122,7 @@ module _ (xs : List Node) (new : Node → Bool) (spare epoch room failed bad : �
       rw (same_eq _ _ root, is_le _ _ bits, is_le _ _ low, is_lt _ _ high) refl
 
   -- what is above a node but itself is above the one right above it
-  up : (i m c : ℕ) → f.stands i ≡ true → f.stands m ≡ true → Link f sound m c → (i ≡ c → ⊥) → Above f i c → Above f i m
+  pub up : (i m c : ℕ) → f.stands i ≡ true → f.stands m ≡ true → Link f sound m c → (i ≡ c → ⊥) → Above f i c → Above f i m
   up i m c st st' l ne a =
       let pos = pow_pos (f.bits c) in
       let above = l.child.above in

@@ -13,7 +13,7 @@ use Rattle.h2_memory_sets.specs.Inodes.{is_named, named_by, is_unowned, with_loa
 use Rattle.h2_memory_sets.specs.Kept.{AreKept}
 use Rattle.h2_memory_sets.specs.Owners.{owner_of, is_owner, belongs_to, allows_of, held_of, beside_of}
 use Rattle.h2_memory_sets.specs.Roots.{NoneBelongs, Unloads, UnloadsInodes}
-use Rattle.h2_memory_sets.specs.View.{stands_of, set_of, root_of, low_of, bits_of, writable_of, copies_of, leaf_bits_of, is_up, is_bare, is_top, is_child, link_of, forest_with, AllRooted}
+use Rattle.h2_memory_sets.specs.View.{stands_of, set_of, root_of, low_of, bits_of, writable_of, copies_of, leaf_bits_of, is_up, is_bare, is_top, is_child, link_of, forest_with, AllRooted, Block, block}
 use Rattle.h2_memory_sets.proofs.Keeping.{flag_of, held_keeps, kept_map}
 use Rattle.h2_memory_sets.proofs.Nodes.{KeepsRoots, belongs_still, fixed_of, position_same, is_there}
 use Rattle.h2_memory_sets.proofs.Owned.{are_lower, belongs_step, belongs_none}
@@ -276,3 +276,11 @@ module _ (xs : List Node) (spare epoch room failed bad : ℕ) (met : Option (ℕ
 
   pub beside_unsought : (m : ℕ) → beside_of (slice_get (unsought_all xs) m) ≡ beside_of (slice_get xs m)
   beside_unsought = field beside_of (λ x. refl)
+
+-- what the blocks hold stays
+map_blocks : (h : Node → Node) → ((x : Node) → block (h x) ≡ block x) → (zs : List Node) → map block (map h zs) ≡ map block zs
+map_blocks h same [] = refl
+map_blocks h same (z ∷ zs) = ap (λ (b : Block). b ∷ map block (map h zs)) (same z) ∙ ap (λ (l : List Block). block z ∷ l) (map_blocks h same zs)
+
+pub blocks_unsought : (xs : List Node) → map block (unsought_all xs) ≡ map block xs
+blocks_unsought xs = map_blocks (λ x. with_loaded (x.loaded && is_unowned (owner_of (slice_get xs x.root))) x) (λ x. refl) xs

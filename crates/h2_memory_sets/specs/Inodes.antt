@@ -67,6 +67,11 @@ abbrev pub is_unowned : Option Owner → Bool
 is_unowned None = true
 is_unowned (Some o) = false
 
+-- whether a root is writable, and no leaf names it
+abbrev pub is_settled_top : Option Node → Bool
+is_settled_top None = false
+is_settled_top (Some x) = x.dirty && is_unowned x.owner
+
 -- whether a node is loaded, and has an owner
 abbrev pub is_named : Node → Bool
 is_named x = named_by x.owner x.loaded

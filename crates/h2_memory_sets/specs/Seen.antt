@@ -3,6 +3,7 @@ use Rattle.std.specs.Prelude.{ℕ, List, Option, map, slice_get}
 use Rattle.h2_set.specs.Forest.{Forest}
 use Rattle.h2_memory_sets.specs.declared.memory.MemorySets.{MemorySets}
 use Rattle.h2_inode.specs.declared.inode.Inode.{Inode}
+use Rattle.h2_memory_sets.specs.Names.{name_in}
 use Rattle.h2_memory_sets.specs.Owners.{beside_of}
 use Rattle.h2_memory_sets.specs.View.{Block, block, forest_with}
 
@@ -17,6 +18,10 @@ beside_seen p = λ m. beside_of (slice_get p.nodes.items m)
 -- the blocks of all nodes, loaded or not
 abbrev pub blocks_of : MemorySets → List Block
 blocks_of p = map block p.nodes.items
+
+-- the name of this length in the block at a place, where there is one
+abbrev pub name_of : MemorySets → ℕ → ℕ → Option (List ℕ)
+name_of p place len = name_in p.names.items place len
 
 -- which load from now on the disk fails, which meets a bad block, and which call for spare nodes is refused:
 -- 1 for the next, 0 for none

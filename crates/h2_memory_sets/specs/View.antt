@@ -9,6 +9,7 @@ use Rattle.h2_set.specs.Ranges.{limit, holds, is_indirect, IsAligned}
 use Rattle.h2_set.specs.RefSet.{RefSet, IsRefSet}
 use Rattle.h2_set.specs.SetBytes.{IsHeld}
 use Rattle.h2_set.specs.Forest.{Link, loaded, untold, Forest}
+use Rattle.h2_inode.specs.declared.inode.Inode.{Inode}
 use Rattle.h2_memory_sets.specs.declared.node.Node.{Node}
 use Rattle.h2_memory_sets.specs.declared.node.Place.{Place}
 use Rattle.h2_memory_sets.specs.declared.node.KeyClass.{KeyClass}
@@ -63,6 +64,11 @@ is_below m x = x.loaded && is_up m x.up
 -- whether a node is loaded, right below node m and at key k
 abbrev pub is_child : ℕ → ℕ → Node → Bool
 is_child m k x = x.loaded && (is_up m x.up && x.low == k)
+
+-- the same of a node that may not be there
+abbrev pub is_child_of : ℕ → ℕ → Option Node → Bool
+is_child_of m k None = false
+is_child_of m k (Some x) = is_child m k x
 
 -- whether a node isn't loaded, right below node m and at key k
 abbrev pub is_away : ℕ → ℕ → Node → Bool
@@ -283,11 +289,14 @@ dropped xs root bits old new x = if goes root bits old new x || goes_with xs roo
 abbrev pub dropped_all : ℕ → ℕ → List Ref → List Ref → List Node → List Node
 dropped_all root bits old new xs = map (dropped xs root bits old new) xs
 
--- what the block of a node holds, loaded or not, its first key, and the node above it
+-- what the block of a node holds, loaded or not: its set and its inode; its first key, the node above it, and the leaf
+-- that names it
 pub record Block : Type 0 where
   pub set : RefSet
+  pub inode : Option Inode
   pub low : ℕ
   pub up : Option ℕ
+  pub owner : Option Owner
 
 abbrev pub block : Node → Block
-block x = record { set = x.set; low = x.low; up = x.up }
+block x = record { set = x.set; inode = x.inode; low = x.low; up = x.up; owner = x.owner }

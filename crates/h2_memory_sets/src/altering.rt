@@ -1,7 +1,8 @@
 //! Nodes that become writable, and how many above each aren't.
-ghost use Rattle.std.specs.Prelude.{◌≡◌, ◌&&◌, ◌||◌, ◌+◌, ◌^◌, ◌<◌, nat_le, nat_lt, false, length, slice_get, Some};
+ghost use Rattle.std.specs.Prelude.{◌≡◌, ◌&&◌, ◌||◌, ◌+◌, ◌^◌, ◌<◌, nat_le, nat_lt, true, false, IsTrue, length, slice_get, Some};
 ghost use Rattle.h2_memory_sets.specs.declared.node.Node.{Node};
 ghost use Rattle.h2_memory_sets.specs.View.{is_above, is_over, place_of, range_of, with_dirty, with_copies, marked_all, cleaned_all, is_copied, count_copied, recounted_all};
+ghost use Rattle.h2_memory_sets.specs.Inodes.{is_settled_top};
 
 use crate::node::{Node, Place};
 use crate::owners::leads_over;
@@ -56,6 +57,26 @@ fn is_marked(nodes: &[Node], i: usize, at: Place) -> bool
 {
     let x = &nodes[i];
     x.dirty || (is_above(x, at) || leads_over(nodes, at.root as u64 + 1, at.root, x))
+}
+
+// Whether a root is writable, and no leaf names it.
+fn is_top_settled(nodes: &[Node], root: u32) -> bool
+    ensures { result ≡ is_settled_top (slice_get nodes.now root) }
+{
+    match nodes.get(root as usize) {
+        Some(x) => x.dirty && x.owner.is_none(),
+        None => false,
+    }
+}
+
+/// Whether all above a node is writable, as it is, and no leaf names its root.
+pub(crate) fn is_settled(nodes: &[Node], at: u32) -> bool
+    requires { at < length nodes.now }
+    ensures none { IsTrue result → (x : Node) → slice_get nodes.now at ≡ Some x → x.copies ≡ 0 }
+    ensures top { IsTrue result → (x : Node) → slice_get nodes.now at ≡ Some x → is_settled_top (slice_get nodes.now x.root) ≡ true }
+{
+    let x = &nodes[at as usize];
+    x.copies == 0 && is_top_settled(nodes, x.root)
 }
 
 fn set_dirty(x: &mut Node, dirty: bool)

@@ -1,5 +1,6 @@
 //! Nodes below references that are lost.
-ghost use Rattle.std.specs.Prelude.{◌≡◌, ◌&&◌, ◌||◌, ◌<◌, length, slice_get, Some, if◌then◌else◌};
+ghost use Rattle.std.specs.Prelude.{◌≡◌, ◌&&◌, ◌||◌, ◌<◌, ℕ, false, IsTrue, length, slice_get, Some, if◌then◌else◌};
+ghost use Rattle.h2_ref.specs.declared.reference.Ref.{Ref};
 ghost use Rattle.h2_memory_sets.specs.declared.node.Node.{Node};
 ghost use Rattle.h2_set.specs.Ranges.{holds};
 ghost use Rattle.h2_memory_sets.specs.View.{names_same, lacks, loses, goes, goes_with, lost, dropped_all};
@@ -52,6 +53,18 @@ pub(crate) fn loses(old: &Set, new: &Set, key: u64) -> bool
     false
 }
 
+// Whether each reference of a set has one with its key in another, which leads further down too or doesn't either.
+fn has_all(old: &Set, new: &Set) -> bool
+    ensures { IsTrue result → (i : ℕ) (q : Ref) → slice_get old.now.refs i ≡ Some q → lacks new.now.refs q ≡ false }
+{
+    for i in 0..old.len() {
+        if lacks(new, old.at(i)) {
+            return false;
+        }
+    }
+    true
+}
+
 // Whether a node of the tree with this root, shorter than 2^bits, is below a reference that is missing.
 fn goes(x: &Node, root: u32, bits: u8, old: &Set, new: &Set) -> bool
     ensures { result ≡ goes root bits old.now.refs new.now.refs x.now }
@@ -84,6 +97,9 @@ fn lose_one(x: &mut Node, is_dropped: bool)
 pub(crate) fn drop_all(nodes: &mut [Node], root: u32, bits: u8, old: &Set, new: &Set)
     ensures { nodes.new ≡ dropped_all root bits old.now.refs new.now.refs nodes.old }
 {
+    if has_all(old, new) {
+        return;
+    }
     for i in 0..nodes.len() {
         let is_gone = is_dropped(nodes, i, root, bits, old, new);
         lose_one(&mut nodes[i], is_gone);

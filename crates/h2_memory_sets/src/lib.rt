@@ -10,6 +10,7 @@ mod adding;
 mod allowing;
 mod altering;
 mod dropping;
+mod hints;
 mod holding;
 mod inodes;
 mod judging;
@@ -23,7 +24,6 @@ mod refitting;
 mod roots;
 mod searching;
 mod seeking;
-mod spelling;
 mod unloading;
 
 pub use memory::MemorySets;

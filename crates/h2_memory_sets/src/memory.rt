@@ -5,11 +5,12 @@ ghost use Rattle.h2_memory_sets.specs.View.{AllRooted};
 ghost use Rattle.h2_memory_sets.specs.Kept.{AreKept};
 
 use crate::adding::{add_node, new_reference, with_left, with_one};
-use crate::altering::{clean_all, mark_all, place_of, recount_all};
+use crate::altering::{clean_all, is_settled, mark_all, place_of, recount_all};
 use crate::dropping::drop_all;
+use crate::hints::Hints;
 use crate::holding::{hold_one, release_one};
 use crate::judging::{bring_in, find_unspoiled, is_due};
-use crate::naming::{LongName, find_unspoiled_name, inline_name};
+use crate::naming::{LongName, add_long_name, find_unspoiled_name, inline_name};
 use crate::node::{KeyClass, Leaves, Node};
 use crate::refitting::give_set;
 use crate::roots::add_top;
@@ -25,6 +26,8 @@ use std::alloc::Global;
 #[derive(Drop)]
 pub struct MemorySets {
     pub(crate) nodes: Vec<Node>,
+    /// Where nodes below others were found last.
+    pub(crate) hints: Hints,
     /// Names that have a block of their own.
     pub(crate) names: Vec<LongName>,
     /// How many nodes can be made without taking memory.
@@ -50,11 +53,11 @@ pub struct MemorySets {
 }
 
 impl MemorySets {
-    ghost use Rattle.std.specs.Prelude.{OnErr, OnOk, IfErr, ℕ, true, false, None};
+    ghost use Rattle.std.specs.Prelude.{OnErr, OnOk, IfErr, ℕ, true, false, Some, None};
     ghost use Rattle.h2_ref.specs.declared.faults.Trouble.{Trouble};
     ghost use Rattle.h2_ref.specs.declared.faults.Why.{Why};
     ghost use Rattle.h2_set.specs.Forest.{IsSound, Unchanged, HasCause, KeepsBeside};
-    ghost use Rattle.h2_memory_sets.specs.Seen.{forest_of, beside_seen, blocks_of, failing_load, spoiled_load, refused_spare};
+    ghost use Rattle.h2_memory_sets.specs.Seen.{forest_of, beside_seen, blocks_of, name_of, failing_load, spoiled_load, refused_spare};
     ghost use Rattle.h2_memory_sets.specs.Roots.{AddsRoot, AddsSuperRoot, HoldsRoot, BeginsEpoch, Unloads, UnloadsInodes};
 
     /// A forest with no node, in which this number of blocks can be taken. The epoch is the number of a checkpoint.
@@ -68,6 +71,7 @@ impl MemorySets {
     {
         MemorySets {
             nodes: Vec::new(alloc),
+            hints: Hints::new(alloc),
             names: Vec::new(alloc),
             spare: 0,
             epoch,
@@ -160,16 +164,17 @@ impl MemorySets {
         }
     }
 
-    /// Adds the name in the block at a place. After a refusal nothing has changed.
+    /// Adds the name in the block at a place, instead of one there that is as long. After a refusal nothing has changed.
     pub fn add_name(&mut self, alloc: Global, place: u64, name: &[u8]) -> Result<(), NoMemory>
         ensures same { forest_of self.new ≡ forest_of self.old }
         ensures beside { beside_seen self.new ≡ beside_seen self.old }
+        ensures blocks { blocks_of self.new ≡ blocks_of self.old }
+        ensures added { OnOk result (name_of self.new place (length name.now) ≡ Some name.now) }
+        ensures others { (p len : ℕ) → (p ≡ place → len ≡ length name.now → ⊥) → name_of self.new p len ≡ name_of self.old p len }
+        ensures err { OnErr result ((p len : ℕ) → name_of self.new p len ≡ name_of self.old p len) }
     {
         let name = Bytes::from_slice(alloc, name)?;
-        match self.names.push(LongName { place, name }) {
-            Ok(()) => Ok(()),
-            Err(_) => Err(NoMemory),
-        }
+        add_long_name(&mut self.names, place, name)
     }
 
     /// Holds a root, so that nothing may take it away.
@@ -211,6 +216,7 @@ impl MemorySets {
         ensures unloads { Unloads (forest_of self.old) (forest_of self.new) from }
         ensures beside { KeepsBeside (forest_of self.old) (forest_of self.new) (beside_seen self.old) (beside_seen self.new) }
         ensures blocks { blocks_of self.new ≡ blocks_of self.old }
+        ensures names { (place len : ℕ) → name_of self.new place len ≡ name_of self.old place len }
     {
         let None = find_named(&self.nodes) else {
             return;
@@ -224,6 +230,8 @@ impl MemorySets {
         requires free { let f = forest_of self.old in (m : ℕ) → f.held m ≡ false }
         ensures unloads { UnloadsInodes (forest_of self.old) (forest_of self.new) }
         ensures beside { KeepsBeside (forest_of self.old) (forest_of self.new) (beside_seen self.old) (beside_seen self.new) }
+        ensures blocks { blocks_of self.new ≡ blocks_of self.old }
+        ensures names { (place len : ℕ) → name_of self.new place len ≡ name_of self.old place len }
     {
         unload_owned(&mut self.nodes);
     }
@@ -233,6 +241,8 @@ impl MemorySets {
         requires sound { IsSound (forest_of self.old) }
         ensures same { Unchanged (forest_of self.old) (forest_of self.new) }
         ensures len { IfOk result (λ b. length b ≡ len) }
+        ensures told { IfOk result (λ b. name_of self.old place len ≡ Some b) }
+        ensures untold { IfErr result (λ e. (p : ℕ) (why : Why) → e ≡ Trouble.Bad p why → (spoiled_load self.old ≡ 1) ⊎ (name_of self.old place len ≡ None)) }
         ensures err { IfErr result (HasCause (forest_of self.old) (forest_of self.new)) }
         ensures place { IfErr result (λ e. (p : ℕ) (why : Why) → e ≡ Trouble.Bad p why → p ≡ place) }
         ensures met { let f = forest_of self.old in let g = forest_of self.new in OnOk result (g.met ≡ f.met) }
@@ -292,7 +302,9 @@ impl Sets for MemorySets {
     fn child(&mut self, alloc: Global, at: NodeId, i: usize) -> Result<NodeId, Trouble> {
         let _ = alloc;
         let r = *self.nodes[at.0 as usize].set.at(i);
-        if let Some(c) = find_child(&self.nodes, at.0, r.key) {
+        let hint = self.hints.get(at.0, r.key);
+        if let Some(c) = find_child(&self.nodes, at.0, r.key, hint) {
+            self.hints.set(at.0, r.key, c as u32);
             return Ok(NodeId(c as u32));
         }
         if is_due(&mut self.fault) {
@@ -310,11 +322,11 @@ impl Sets for MemorySets {
         let x = &self.nodes[at.0 as usize];
         let (root, copies) = (x.root, x.copies);
         bring_in(&mut self.nodes[c], root, copies, r.keybits);
+        self.hints.set(at.0, r.key, c as u32);
         Ok(NodeId(c as u32))
     }
 
     fn ready(&mut self, alloc: Global, n: u32) -> Result<(), NoMemory> {
-        let _ = alloc;
         if n <= self.spare {
             return Ok(());
         }
@@ -327,6 +339,7 @@ impl Sets for MemorySets {
         match self.nodes.reserve(n as usize) {
             Ok(()) => {
                 self.spare = n;
+                self.hints.fit(alloc, &self.nodes);
                 Ok(())
             }
             Err(_) => Err(NoMemory),
@@ -334,6 +347,9 @@ impl Sets for MemorySets {
     }
 
     fn alter(&mut self, at: NodeId) {
+        if is_settled(&self.nodes, at.0) {
+            return;
+        }
         let x = &self.nodes[at.0 as usize];
         let (place, copies) = (place_of(x), x.copies);
         mark_all(&mut self.nodes, place);
@@ -354,6 +370,7 @@ impl Sets for MemorySets {
         let r = new_reference(split.key, split.keybits, self.epoch);
         let kept = with_one(with_left(set, split.rest), r);
         add_node(&mut self.nodes, at.0, kept, split.moved, &r);
+        self.hints.set(at.0, split.key, c);
         self.spare -= 1;
         self.room -= 1;
         NodeId(c)

@@ -11,7 +11,6 @@ use crate::judging::{fits_below, is_due};
 use crate::node::Node;
 use crate::roots::ROOT_CAPACITY;
 use crate::searching::find_below;
-use crate::spelling::is_inode;
 use h2_inode::Inode;
 use h2_set::Set;
 
@@ -77,7 +76,7 @@ fn is_root_node(x: &Node, inode: &Inode, key: u64) -> bool
     if !has_number(inode, key) {
         return false;
     }
-    if !is_inode(inode) {
+    if !inode.is_valid() {
         return false;
     }
     all_fit_in(&x.set, x)

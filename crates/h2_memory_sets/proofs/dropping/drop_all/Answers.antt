@@ -6,7 +6,11 @@ use Rattle.h2_memory_sets.specs.declared.node.Node.{Node}
 use Rattle.h2_memory_sets.specs.Owners.{on_chain}
 use Rattle.h2_memory_sets.specs.View.{goes, goes_with, is_lost, lost, dropped}
 use Rattle.h2_memory_sets.proofs.Owned.{chain_mixed, dropped_owner}
+use Rattle.h2_memory_sets.proofs.Undropped.{none_dropped}
 use Rattle.h2_memory_sets.proofs.dropping.drop_all.Goals as goal
+
+pub returns-then-has_all : goal.returns-then-has_all
+returns-then-has_all c = none_dropped c.args.root c.args.bits (let s : RefSet = c.args.old.now in s.refs) (let s : RefSet = c.args.new.now in s.refs) (c.has_all.ensures c.if-has_all.true) c.args.nodes.now
 
 pub loop-i-preserved : goal.loop-i-preserved
 loop-i-preserved c =

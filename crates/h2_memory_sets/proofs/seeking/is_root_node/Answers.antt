@@ -5,6 +5,6 @@ returns c = λ e. record {
   set = c.all_fit_in.ensures.set;
   capacity = c.has_root_room.ensures c.if-not-has_root_room.false;
   number = c.has_number.ensures c.if-not-has_number.false;
-  inode = c.is_inode.ensures c.if-not-is_inode.false;
+  inode = c.is_valid.ensures.0 c.if-not-is_valid.false;
   fits = c.all_fit_in.ensures.fits e;
 }

@@ -1,4 +1,4 @@
-use Rattle.std.proofs.Common.{◌≡◌, ◌-◌, List, refl, sym, ap, ◌∙◌, subst, arith, slice_get, ◌||◌}
+use Rattle.std.proofs.Common.{◌≡◌, ◌-◌, true, Some, List, refl, sym, ap, ◌∙◌, subst, arith, slice_get, ◌||◌}
 use Rattle.std.proofs.lemmas.Option.{slice_get_read}
 use Rattle.h2_set.specs.Forest.{Alters}
 use Rattle.h2_memory_sets.specs.declared.node.Node.{Node}
@@ -11,7 +11,22 @@ use Rattle.h2_memory_sets.proofs.Owned.{are_lower}
 use Rattle.h2_memory_sets.specs.Kept.{AreKept}
 use Rattle.h2_memory_sets.specs.Owners.{beside_of}
 use Rattle.h2_set.specs.Forest.{KeepsBeside}
+use Rattle.h2_memory_sets.proofs.Unaltered.{unaltered}
+use Rattle.h2_memory_sets.specs.Inodes.{is_settled_top}
+use Rattle.h2_memory_sets.proofs.Parting.{item_at}
 use Rattle.h2_memory_sets.proofs.memory.MemorySetsSets.alter.Goals as goal
+
+pub is_settled-requires : goal.is_settled-requires
+is_settled-requires c = rw c.deref.ensures.value (is_there c.args.self.now.nodes.items c.args.at.0 c.requires.stands)
+
+pub returns-then-is_settled-clause-alters : goal.returns-then-is_settled-clause-alters
+returns-then-is_settled-clause-alters c =
+    let p = c.args.self.now in
+    let xs = p.nodes.items in
+    let it = item_at xs c.args.at.0 (is_there xs c.args.at.0 c.requires.stands) in
+    let read = subst (λ (ys : List Node). slice_get ys c.args.at.0 ≡ Some it.0) (sym c.deref.ensures.value) it.1 in
+    let x = it.0 in
+    unaltered xs p.spare p.epoch p.room p.failed p.bad p.met c.requires.sound c.args.at.0 it.0 it.1 (are_lower xs p.kept) c.requires.stands (c.is_settled.ensures.none c.if-is_settled.true it.0 read) (subst (λ (ys : List Node). is_settled_top (slice_get ys x.root) ≡ true) c.deref.ensures.value (c.is_settled.ensures.top c.if-is_settled.true it.0 read))
 
 pub returns-clause-alters : goal.returns-clause-alters
 returns-clause-alters c =

@@ -1,15 +1,22 @@
-use Rattle.std.proofs.Common.{◌≡◌, Some, None, slice_set, refl, sym, ap, ◌∙◌, subst, arith}
+use Rattle.std.proofs.Common.{◌≡◌, ℕ, true, List, Some, None, slice_get, slice_set, refl, sym, ap, ◌∙◌, subst, arith}
 use Rattle.std.specs.List.{position}
 use Rattle.std.proofs.lemmas.Option.{slice_get_read}
 use Rattle.h2_ref.specs.declared.reference.Ref.{Ref}
 use Rattle.h2_set.specs.StayLaws.{Walks-refl, Unchanged-walks}
 use Rattle.h2_set.specs.Forest.{Loads, loaded}
-use Rattle.h2_memory_sets.specs.View.{forest_with, is_child, link_of}
+use Rattle.h2_memory_sets.specs.declared.node.Node.{Node}
+use Rattle.h2_memory_sets.specs.View.{copies_of, forest_with, is_child, link_of}
 use Rattle.h2_memory_sets.proofs.Nodes.{unchanged_nodes, is_there}
 use Rattle.h2_memory_sets.proofs.Bringing.{ref_there, ref_same, loads_nothing, bad_place, not_loaded, not_told, is_loaded, loadable_in, loadable_within, loadable_away, brings}
 use Rattle.h2_memory_sets.proofs.Brought.{kept_bring, beside_bring}
 use Rattle.h2_memory_sets.proofs.Rooted.{rooted_bring, root_not}
+use Rattle.h2_memory_sets.proofs.Hinted.{only_child}
 use Rattle.h2_memory_sets.proofs.memory.MemorySetsSets.child.Goals as goal
+
+pub find_child-requires : goal.find_child-requires
+find_child-requires c =
+    let p = c.args.self.now in
+    record { one = subst (λ (ys : List Node). (i : ℕ) (x : Node) → slice_get ys i ≡ Some x → is_child c.args.at.0 c.at.result.now.key x ≡ true → position (is_child c.args.at.0 c.at.result.now.key) ys ≡ Some i) (sym c.deref.ensures.value) (only_child p.nodes.items p.spare p.epoch p.room p.failed p.bad p.met p.rooted c.requires.sound c.args.at.0 c.at.result.now.key) }
 
 pub returns-in-Some-clause-walks : goal.returns-in-Some-clause-walks
 returns-in-Some-clause-walks c = Walks-refl _ c.requires.sound
@@ -76,6 +83,23 @@ overflow_cast-result-2 c =
     let lt = loadable_within _ _ _ _ l in
     let small = c.args.self.now.small in
     omega (arith, lt, small)
+
+pub overflow_cast-c-2 : goal.overflow_cast-c-2
+overflow_cast-c-2 c =
+    let l = loadable_in _ c.args.self.now.nodes.items c.args.at.0 c.in-Some-find_unspoiled.c c.at.result.now c.deref-2.ensures.value c.in-Some-find_unspoiled.ensures.found in
+    let lt = loadable_within _ _ _ _ l in
+    let small = c.args.self.now.small in
+    omega (arith, lt, small)
+
+pub bring_in-requires : goal.bring_in-requires
+bring_in-requires c =
+    let xs = c.args.self.now.nodes.items in
+    let at = c.args.at.0 in
+    let x = c.index-x.result.now in
+    let read = slice_get_read xs _ at x refl (is_there xs at c.requires.stands) c.index-x.ensures in
+    let copies : copies_of (slice_get xs at) ≡ x.copies = ap copies_of read in
+    let slope = (c.requires.sound.node at c.requires.stands).slope in
+    omega (arith, slope, copies)
 
 pub returns-clause-walks : goal.returns-clause-walks
 returns-clause-walks c =

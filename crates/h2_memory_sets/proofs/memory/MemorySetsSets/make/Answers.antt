@@ -9,7 +9,8 @@ use Rattle.h2_inode.specs.Nodes.{set_of as set_of_body}
 use Rattle.h2_memory_sets.specs.Kept.{AreKept}
 use Rattle.h2_memory_sets.specs.Owners.{beside_of}
 use Rattle.h2_memory_sets.specs.View.{forest_with, parted, set_of, stands_of, AllRooted}
-use Rattle.h2_memory_sets.proofs.Making.{kept_set, whole_set, makes}
+use Rattle.h2_memory_sets.proofs.Making.{makes}
+use Rattle.h2_memory_sets.proofs.Sharing.{kept_set, whole_set}
 use Rattle.h2_memory_sets.proofs.Nodes.{is_there}
 use Rattle.h2_memory_sets.proofs.Keeping.{refit_twice}
 use Rattle.h2_memory_sets.proofs.Parted.{kept_part}
