@@ -10,7 +10,7 @@ ghost use Rattle.h2_inode.specs.declared.inode.Inode.{Inode};
 ghost use Rattle.h2_inode.specs.Nodes.{held_by, HasInode, KeepsOthersBeside};
 ghost use Rattle.h2_inode.specs.Directory.{Entries};
 ghost use Rattle.h2_dir.specs.Finding.{HoldsEntries};
-ghost use Rattle.h2_dir.specs.Changing.{HasRoom, Adds, TellsName, entry_ref, with_entries};
+ghost use Rattle.h2_dir.specs.Changing.{HasRoom, HasBlockIfLong, Adds, TellsName, entry_ref, with_entries};
 ghost use Rattle.h2_dir.specs.Others.{KeepsOtherTrees, KeepsOtherEntries, RenewsOtherTrees};
 
 use crate::entry::entry_ref;
@@ -63,6 +63,7 @@ pub fn add_at<N: Nodes>(
     requires directory { HasRoom (N.forest n.old) (held_by N.fields (N.beside n.old)) dir.0 }
     requires under { IsNameUnder key name.now }
     requires free { Reaches (N.forest n.old) key dir.0 None }
+    requires block { HasBlockIfLong name.now block }
     requires valid { let f = N.forest n.old in IsValid (entry_ref f.epoch key name.now block number target) }
     requires space { let f = N.forest n.old in (1 ≤ f.spare) × (63 ≤ f.room) }
     ensures adds { let f = N.forest n.old in Adds f (N.forest n.new) dir.0 (entry_ref f.epoch key name.now block number target) }
