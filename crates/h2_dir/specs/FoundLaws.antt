@@ -57,7 +57,7 @@ kids_in {f} (far {at = at} {r = q} {below = b} is to inside rest) zero c r read 
     absurd (cc)
 kids_in (far {r = q} {below = b} {l = l} is to inside rest) (suc i) c r read ind link = let h = kids_in rest i c r read ind link in record { kids = h.kids; leaves = h.leaves; within = λ x at. has_right b l x (h.within x at) }
 
-reached_in : {f : Forest} {key at : ℕ} {o : Option Ref} → Reaches f key at o → (leaf : Ref) → o ≡ Some leaf → (l : List Ref) → LeavesOf f at l → In l leaf
+pub reached_in : {f : Forest} {key at : ℕ} {o : Option Ref} → Reaches f key at o → (leaf : Ref) → o ≡ Some leaf → (l : List Ref) → LeavesOf f at l → In l leaf
 reached_in (nowhere none) leaf is l has = absurd (none-some leaf is)
 reached_in (here {r = r} i read in_r is_leaf) leaf is l has = subst (λ q. In l q) (same_Some r leaf is) (leaf_in has i r read is_leaf)
 reached_in (below {c = c} {r = r} i read in_r ind link rest) leaf is l has = let h = kids_in has i c r read ind link in h.within leaf (reached_in rest leaf is h.kids h.leaves)
