@@ -1,6 +1,6 @@
 -- Roots once a leaf went into a tree, or out of one: none came, those that stand are in place, and each leaf still names
 -- one root at most.
-use Rattle.std.specs.Prelude.{◌≡◌, ◌<◌, ◌≤◌, ◌+◌, ◌⊎◌, ℕ, true, false, Option, None, refl}
+use Rattle.std.specs.Prelude.{◌≡◌, ◌<◌, ◌≤◌, ◌+◌, ℕ, true, false, Option, None}
 use Rattle.std.proofs.Common.{sym, ◌∙◌, arith, inl, inr, subst}
 use Rattle.std.proofs.lemmas.Bool.{cases_Bool}
 use Rattle.h2_ref.specs.declared.reference.Ref.{Ref}
@@ -9,19 +9,9 @@ use Rattle.h2_set.specs.Forest.{Forest, loaded, IsSound, InPlace}
 use Rattle.h2_set.specs.StayLaws.{InPlace-trans}
 use Rattle.h2_set.specs.ChangeLaws.{same_or_not}
 use Rattle.h2_tree.specs.Changes.{TakesIn, replaced, placed, parted, Inserts, Removes}
-use Rattle.h2_inode.specs.Nodes.{Replaces}
-use Rattle.h2_inode.specs.NodeLaws.{named_back}
-use Rattle.h2_inode.specs.Loaded.{NamesOne}
+use Rattle.h2_inode.specs.Nodes.{NamesOne, Replaces}
+use Rattle.h2_inode.specs.NamesOneLaws.{rootless_one}
 use Rattle.h2_dir.specs.Changing.{Adds, TakesAway}
-
--- Where no root comes, and those that stand before and after are in place, it stays so.
-names_one_on : (f g : Forest) → IsSound g → ((m : ℕ) → g.stands m ≡ true → g.root m ≡ m → f.stands m ≡ true) → ((m : ℕ) → f.stands m ≡ true → g.stands m ≡ true → InPlace f g m) → NamesOne f → NamesOne g
-names_one_on f g sound roots place one top key c d is also =
-    let own = sound.owner c top key is.stands ((is.belongs top key).1 (inl (refl, refl))) in
-    let above = place top (roots top own.stands own.root) own.stands in
-    let was = roots c is.stands is.root in
-    let was_too = roots d also.stands also.root in
-    one top key c d (named_back f g top key c above was (place c was is.stands) is) (named_back f g top key d above was_too (place d was_too also.stands) also)
 
 module _ (f g : Forest) (at : ℕ) (leaf : Ref) (old : Option Ref) (sound : IsSound f) (stands : f.stands at ≡ true) (ins : Inserts f g at leaf old) where
   -- a block that was split off isn't a root
@@ -58,7 +48,7 @@ module _ (f g : Forest) (at : ℕ) (leaf : Ref) (old : Option Ref) (sound : IsSo
       ]
 
   pub inserted_one : NamesOne f → NamesOne g
-  inserted_one = names_one_on f g ins.sound inserted_roots (λ m stood now. ins.still m stood)
+  inserted_one names = rootless_one f g names ins.sound inserted_roots (λ m stood now. ins.still m stood)
 
 module _ (f g : Forest) (at : ℕ) (leaf : Ref) (out : Removes f g at leaf) where
   still_there : let goes = out.goes in let then = goes.then in (m : ℕ) → then.stands m ≡ true → g.stands m ≡ true → InPlace then g m
@@ -77,7 +67,7 @@ module _ (f g : Forest) (at : ℕ) (leaf : Ref) (out : Removes f g at leaf) wher
       InPlace-trans f goes.then g m first (still_there m first.stands now)
 
   pub removed_one : NamesOne f → NamesOne g
-  removed_one = names_one_on f g out.sound removed_roots removed_place
+  removed_one names = rootless_one f g names out.sound removed_roots removed_place
 
 module _ (f g : Forest) (at : ℕ) (s : RefSet) (h : Replaces f g at s) where
   replaced_place : (m : ℕ) → f.stands m ≡ true → g.stands m ≡ true → InPlace f g m
@@ -102,7 +92,7 @@ module _ (f g : Forest) (dir : ℕ) (leaf : Ref) (sound : IsSound f) (stands : f
       InPlace-trans f then g m first (replaced_place then g dir (then.set dir) h.resizes m first.stands now)
 
   pub added_one : NamesOne f → NamesOne g
-  added_one = names_one_on f g h.resizes.sound added_roots added_place
+  added_one names = rootless_one f g names h.resizes.sound added_roots added_place
 
 -- one that went out
 
@@ -120,4 +110,4 @@ module _ (f g : Forest) (dir : ℕ) (leaf : Ref) (h : TakesAway f g dir leaf) wh
       InPlace-trans f then g m (removed_place f then dir leaf h.removes m stood between) (replaced_place then g dir (then.set dir) h.resizes m between now)
 
   pub taken_one : NamesOne f → NamesOne g
-  taken_one = names_one_on f g h.resizes.sound taken_roots taken_place
+  taken_one names = rootless_one f g names h.resizes.sound taken_roots taken_place
