@@ -15,6 +15,7 @@ use Rattle.h2_dir.proofs.Resized.{root_leaves, root_path, same_fields, regrown}
 use Rattle.h2_dir.proofs.Renewed.{keeps_tree, renews_tree}
 use Rattle.h2_dir.proofs.Others.{inserted_renews, inserted_exact}
 use Rattle.h2_dir.proofs.Entries.{tree_rising, tells_later, new_entry, entries_same, entries_more}
+use Rattle.h2_dir.specs.RootLaws.{added_roots, added_place, added_one}
 use Rattle.h2_dir.proofs.adding.add_at.Goals as goal
 
 pub inode-requires : goal.inode-requires
@@ -113,8 +114,10 @@ returns-clause-others g c m i has not ne =
     let ins = c.put_in.ensures.inserts in
     let dir = c.args.dir.0 in
     let leaf = c.entry_ref-leaf.result in
+    let now = g.N.Sets.forest c.resize.new.n in
+    let adds : Adds f now dir leaf = record { between = h; inserts = ins; paths = c.put_in.ensures.paths; path = c.put_in.ensures.path; resizes = c.resize.ensures.replaces } in
     let kept = beside_on _ _ _ _ _ _ _ (λ m old new. c.resize.ensures.replaces.none_new m new) c.put_in.ensures.beside c.resize.ensures.beside in
-    keeps_tree f h (g.N.Sets.forest c.resize.new.n) dir c.requires.sound ins.sound ins.place d.has.root (inserted_renews f h dir leaf c.requires.sound d.has.stands d.has.root ins) (inserted_exact f h dir leaf c.requires.sound d.has.stands d.has.root ins) ins.fixed c.resize.ensures.replaces _ _ m i has not ne
+    keeps_tree f h now dir c.requires.sound ins.sound ins.place d.has.root (inserted_renews f h dir leaf c.requires.sound d.has.stands d.has.root ins) (inserted_exact f h dir leaf c.requires.sound d.has.stands d.has.root ins) ins.fixed c.resize.ensures.replaces (added_roots f now dir leaf c.requires.sound d.has.stands adds) (added_place f now dir leaf c.requires.sound d.has.stands adds) _ _ _ _ m i has not ne
     (λ stands. ap g.N.Nodes.fields (kept.same m ne has.stands stands))
 
 pub returns-clause-above : goal.returns-clause-above
@@ -125,8 +128,10 @@ returns-clause-above g c m stands root ne =
     let ins = c.put_in.ensures.inserts in
     let dir = c.args.dir.0 in
     let leaf = c.entry_ref-leaf.result in
+    let now = g.N.Sets.forest c.resize.new.n in
+    let adds : Adds f now dir leaf = record { between = h; inserts = ins; paths = c.put_in.ensures.paths; path = c.put_in.ensures.path; resizes = c.resize.ensures.replaces } in
     let kept = beside_on _ _ _ _ _ _ _ (λ m old new. c.resize.ensures.replaces.none_new m new) c.put_in.ensures.beside c.resize.ensures.beside in
-    renews_tree f h (g.N.Sets.forest c.resize.new.n) dir c.requires.sound ins.sound ins.place d.has.root (inserted_renews f h dir leaf c.requires.sound d.has.stands d.has.root ins) (inserted_exact f h dir leaf c.requires.sound d.has.stands d.has.root ins) ins.fixed c.resize.ensures.replaces _ _ m stands root ne
+    renews_tree f h now dir c.requires.sound ins.sound ins.place d.has.root (inserted_renews f h dir leaf c.requires.sound d.has.stands d.has.root ins) (inserted_exact f h dir leaf c.requires.sound d.has.stands d.has.root ins) ins.fixed c.resize.ensures.replaces (added_roots f now dir leaf c.requires.sound d.has.stands adds) (added_place f now dir leaf c.requires.sound d.has.stands adds) _ _ _ _ m stands root ne
     (λ now. ap g.N.Nodes.fields (kept.same m ne stands now))
 
 pub returns-clause-later : goal.returns-clause-later
@@ -160,3 +165,6 @@ returns-clause-spends g c =
     let change = c.put_in.ensures.inserts in
     let resizes = c.resize.ensures.replaces in
     (omega (arith, change.room, resizes.room), omega (arith, change.spare, resizes.spare))
+
+pub returns-clause-one : goal.returns-clause-one
+returns-clause-one g c = added_one _ _ c.args.dir.0 _ c.requires.sound c.requires.directory.has.stands (returns-clause-adds g c)

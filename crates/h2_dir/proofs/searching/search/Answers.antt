@@ -7,7 +7,9 @@ use Rattle.h2_set.specs.StayLaws.{Walks-trans, Unchanged-walks}
 use Rattle.h2_tree.specs.Changes.{LoadsIn, Lists}
 use Rattle.h2_inode.specs.VisitLaws.{walks_visit, visits_inode}
 use Rattle.h2_dir.proofs.Paths.{lists_valid, lists_same}
-use Rattle.h2_dir.specs.Names.{AnyLongCandidate}
+use Rattle.h2_set.specs.Forest.{IsBad, LeavesOf}
+use Rattle.h2_dir.specs.Names.{AllNamed, AnyLongCandidate}
+use Rattle.h2_dir.proofs.Known.{named_kept}
 use Rattle.h2_dir.specs.Finding.{MayLoad}
 use Rattle.h2_dir.proofs.Unchanging.{beside_walks}
 use Rattle.h2_dir.proofs.Searched.{loads_same, scanned_stays, candidate_loads}
@@ -67,3 +69,19 @@ returns-in_err-place-clause-unread g c =
 
 pub returns-clause-beside : goal.returns-clause-beside
 returns-clause-beside g c = beside_walks _ _ _ _ _ _ c.in_ok-leaves.ensures.walks c.in_ok-leaves.ensures.beside c.in_ok-place.ensures.beside
+
+pub returns-in_err-leaves-clause-good : goal.returns-in_err-leaves-clause-good
+returns-in_err-leaves-clause-good g c =
+    let f = g.N.Sets.forest c.args.n.now in
+    let good : (l : List Ref) → LeavesOf f c.args.dir.0 l → AllNamed f l → IsBad c.in_err-leaves.field-0.0 → ⊥ = λ l has named. c.in_err-leaves.ensures.good l has in
+    search (good, rules)
+
+pub returns-in_err-place-clause-good : goal.returns-in_err-place-clause-good
+returns-in_err-place-clause-good g c =
+    let f = g.N.Sets.forest c.args.n.now in
+    let middle = g.N.Sets.forest c.range.new.n in
+    let items = c.in_ok-leaves.leaves.items in
+    let e = c.in_err-place.field-0.0 in
+    let scanned : AllNamed middle items → IsBad e → ⊥ = subst (λ (xs : List Ref). AllNamed middle xs → IsBad e → ⊥) c.deref.ensures.value c.in_err-place.ensures.good in
+    let good : (l : List Ref) → LeavesOf f c.args.dir.0 l → AllNamed f l → IsBad e → ⊥ = λ l has named. scanned (named_kept f middle _ l items c.in_ok-leaves.ensures.walks.fixed.name (c.in_ok-leaves.ensures.found l has) named) in
+    search (good, rules)
