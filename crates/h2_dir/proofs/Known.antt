@@ -1,12 +1,12 @@
 -- Names that are known: no block of theirs is bad.
-use Rattle.std.specs.Prelude.{◌≡◌, ◌<◌, ◌≤◌, ℕ, Bool, true, List, length, filter, slice_get, Contains, Option, Some}
+use Rattle.std.specs.Prelude.{◌≡◌, ◌<◌, ◌≤◌, ℕ, Bool, true, List, length, filter, slice_get, Contains, IsErrAnd, IfErr, Option, Some, Result, Ok, Err}
 use Rattle.std.proofs.Common.{sym, ◌∙◌, subst, inl, inr, get_or}
 use Rattle.std.proofs.lemmas.Option.{same_Some, slice_get-get_or}
 use Rattle.h2_ref.specs.declared.faults.Trouble.{Trouble}
 use Rattle.h2_ref.specs.declared.faults.Trouble.TheVariants.{NoMemory}
 use Rattle.h2_ref.specs.declared.reference.Dirent.{Dirent}
 use Rattle.h2_ref.specs.declared.reference.Ref.{Ref}
-use Rattle.h2_set.specs.Forest.{Forest, IsBad}
+use Rattle.h2_set.specs.Forest.{Forest, LeavesOf, IsBad}
 use Rattle.h2_inode.specs.Nodes.{Fields, Told}
 use Rattle.h2_inode.specs.Loaded.{at_root, loaded_nodes, no_content}
 use Rattle.h2_inode.specs.Directory.{Entries}
@@ -43,3 +43,13 @@ pub entries_named : (f : Forest) (holds : ℕ → Option Fields) (tells : Ref �
 entries_named f holds tells may dir size entries h i leaf read =
     let g = entry_of_leaf (loaded_nodes f holds tells no_content) (λ target number. may target number ≡ true) (at_root dir) size entries h leaf (at_place h.leaves i leaf read) in
     ((g.0).0, one_named f holds tells may dir size entries h leaf g.0 g.1)
+
+-- a search among some of the leaves meets no bad block, where none is met at leaves whose names are known
+pub no_bad_search : (f g : Forest) (p : Ref → Bool) (items xs : List Ref) (dir : ℕ) (e : Trouble) → ((r : Ref) → g.name r ≡ f.name r) → xs ≡ items → ((l : List Ref) → LeavesOf f dir l → items ≡ filter p l) → (AllNamed g xs → IsBad e → ⊥)
+    → (l : List Ref) → LeavesOf f dir l → AllNamed f l → IsBad e → ⊥
+no_bad_search f g p items xs dir e names same is good l has named = good (subst (λ ys. AllNamed g ys) (sym same) (named_kept f g p l items names (is l has) named))
+
+-- a trouble that is handed on
+pub carried_err : {X : Type 0} (P : Trouble → Type 0) (result : Result X Trouble) (e : Trouble) → IsErrAnd result (λ why. why ≡ e) → P e → IfErr result P
+carried_err P (Ok x) e is p = absurd is
+carried_err P (Err why) e is p = subst P (sym is) p

@@ -56,7 +56,7 @@ module _ (u v : View) (pfs c : ℕ) (leaf : Ref) (seeks : Seeks u.forest v.fores
       let tree : at_root m ≡ at_root e = is in
       let at : m ≡ e = (cc) in
       same.0 ∙ at ∙ sym (seeks.loaded e named)
-  same_root (at_root m) i d (inr (none, x, told, of, is)) same stands = let clash : at_root m ≡ of_leaves x.leaves = is in absurd (cc)
+  same_root (at_root m) i d (inr (none, x)) same stands = let clash : at_root m ≡ of_leaves (x.0).leaves = x.3 in absurd (cc)
   same_root (of_leaves l) i d names same stands = elim (seeks.brings.new d stands) as (λ _. d ≡ c) [
     | inl e ↦ e
     | inr stood ↦ let clash : true ≡ false = sym stood ∙ same.0 in absurd (cc)
@@ -80,7 +80,7 @@ module _ (u v : View) (pfs c : ℕ) (leaf : Ref) (seeks : Seeks u.forest v.fores
 -- the block of an inode that isn't loaded is told
 told_block : (v : View) (pfs : ℕ) (leaf : Ref) (i : Inode) (t : Tree) → IsUnloaded v.forest pfs leaf.key → NamesInode v.forest v.holds v.tells (at_root pfs) leaf i t → (x : Told) × (v.tells leaf ≡ Some x)
 told_block v pfs leaf i t none (inl (d, named, is, tree)) = absurd (none d named)
-told_block v pfs leaf i t none (inr (gone, x, told, of, tree)) = (x, told)
+told_block v pfs leaf i t none (inr (gone, x)) = (x.0, x.1)
 
 pub known_block : (v : View) (may : ℕ → ℕ → Bool) (pfs : ℕ) (leaf : Ref) (name : List ℕ) (On : ℕ → Type 0) → KnowsInode v may pfs leaf name On → IsUnloaded v.forest pfs leaf.key → (x : Told) × (v.tells leaf ≡ Some x)
 known_block v may pfs leaf name On k none = told_block v pfs leaf k.inode k.tree none k.named

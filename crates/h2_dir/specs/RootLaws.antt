@@ -25,10 +25,10 @@ module _ (f g : Forest) (at : ℕ) (leaf : Ref) (old : Option Ref) (sound : IsSo
       let slope : g.copies goes.node + g.bits goes.node ≤ 63 = above.slope in
       omega (arith, whole, fewer, slope)
 
-  before_change : let goes = ins.goes in let then = goes.then in (m blocks : ℕ) → TakesIn then g goes.node leaf blocks old → g.stands m ≡ true → g.root m ≡ m → then.stands m ≡ true
-  before_change m blocks (replaced r) now root = r.none_new m now
-  before_change m blocks (placed p) now root = p.none_new m now
-  before_change m blocks (parted p) now root = elim (p.none_new m now) as (λ _. let goes = ins.goes in let then = goes.then in then.stands m ≡ true) [
+  before_change : let goes = ins.goes in let then = goes.then in (m blocks : ℕ) (o : Option Ref) → TakesIn then g goes.node leaf blocks o → g.stands m ≡ true → g.root m ≡ m → then.stands m ≡ true
+  before_change m blocks o (replaced r) now root = r.none_new m now
+  before_change m blocks o (placed p) now root = p.none_new m now
+  before_change m blocks o (parted p) now root = elim (p.none_new m now) as (λ _. let goes = ins.goes in let then = goes.then in then.stands m ≡ true) [
     | inl e ↦ absurd (no_root p.key p.node p.link (subst (λ n. g.root n ≡ n) e root))
     | inr stood ↦ stood
   ]
@@ -38,7 +38,7 @@ module _ (f g : Forest) (at : ℕ) (leaf : Ref) (old : Option Ref) (sound : IsSo
   inserted_roots m now root =
       let goes = ins.goes in
       let then = goes.then in
-      let there = before_change m goes.blocks goes.change now root in
+      let there = before_change m goes.blocks old goes.change now root in
       let own : then.root m ≡ m = sym (goes.only.still m there (λ gone. gone)).root ∙ root in
       elim (cases_Bool (f.stands m)) as (λ _. f.stands m ≡ true) [
         | inl stood ↦ stood

@@ -1,5 +1,6 @@
 use Rattle.std.proofs.Common.{◌≡◌, ◌+◌, sym, subst, List, rules}
 use Rattle.std.specs.Prelude.{All, ◌⊎◌}
+use Rattle.h2_ref.specs.declared.faults.Trouble.{Trouble}
 use Rattle.h2_ref.specs.declared.faults.Trouble.TheVariants.{NoMemory}
 use Rattle.h2_ref.specs.declared.reference.Ref.{Ref}
 use Rattle.h2_ref.specs.Ref.{IsValid}
@@ -9,7 +10,7 @@ use Rattle.h2_inode.specs.VisitLaws.{walks_visit, visits_inode}
 use Rattle.h2_dir.proofs.Paths.{lists_valid, lists_same}
 use Rattle.h2_set.specs.Forest.{IsBad, LeavesOf}
 use Rattle.h2_dir.specs.Names.{AllNamed, AnyLongCandidate}
-use Rattle.h2_dir.proofs.Known.{named_kept}
+use Rattle.h2_dir.proofs.Known.{carried_err, no_bad_search}
 use Rattle.h2_dir.specs.Finding.{MayLoad}
 use Rattle.h2_dir.proofs.Unchanging.{beside_walks}
 use Rattle.h2_dir.proofs.Searched.{loads_same, scanned_stays, candidate_loads}
@@ -79,9 +80,6 @@ returns-in_err-leaves-clause-good g c =
 pub returns-in_err-place-clause-good : goal.returns-in_err-place-clause-good
 returns-in_err-place-clause-good g c =
     let f = g.N.Sets.forest c.args.n.now in
-    let middle = g.N.Sets.forest c.range.new.n in
-    let items = c.in_ok-leaves.leaves.items in
-    let e = c.in_err-place.field-0.0 in
-    let scanned : AllNamed middle items → IsBad e → ⊥ = subst (λ (xs : List Ref). AllNamed middle xs → IsBad e → ⊥) c.deref.ensures.value c.in_err-place.ensures.good in
-    let good : (l : List Ref) → LeavesOf f c.args.dir.0 l → AllNamed f l → IsBad e → ⊥ = λ l has named. scanned (named_kept f middle _ l items c.in_ok-leaves.ensures.walks.fixed.name (c.in_ok-leaves.ensures.found l has) named) in
-    search (good, rules)
+    let Good : Trouble → Type 0 = λ e. (l : List Ref) → LeavesOf f c.args.dir.0 l → AllNamed f l → IsBad e → ⊥ in
+    carried_err Good c.from_residual-in_err-place.result c.in_err-place.field-0.0 c.from_residual-in_err-place.ensures.1
+    (no_bad_search f (g.N.Sets.forest c.range.new.n) _ c.in_ok-leaves.leaves.items _ c.args.dir.0 c.in_err-place.field-0.0 c.in_ok-leaves.ensures.walks.fixed.name c.deref.ensures.value c.in_ok-leaves.ensures.found c.in_err-place.ensures.good)

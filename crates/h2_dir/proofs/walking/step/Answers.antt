@@ -219,7 +219,7 @@ returns-in-Err-clause-loads g c =
 -- what is known on the way
 
 pub returns-in_err-found-clause-good : goal.returns-in_err-found-clause-good
-returns-in_err-found-clause-good g c may l names has way = good_trouble c.in_err-found.field-0.0 c.from_residual-in_err-found.result c.from_residual-in_err-found.ensures.1 (c.in_err-found.ensures.good l has)
+returns-in_err-found-clause-good g c may l names has way = good_trouble c.in_err-found.field-0.0 c.from_residual.result c.from_residual.ensures.1 (c.in_err-found.ensures.good l has)
 
 pub returns-in_err-dir-clause-good : goal.returns-in_err-dir-clause-good
 returns-in_err-dir-clause-good g c may l names has way =
