@@ -6,7 +6,6 @@ use Rattle.std.proofs.lemmas.List.Sorted.{IsPermutation-sym, length_permutation}
 use Rattle.std.proofs.lemmas.Option.{none-some, same_Some}
 use Rattle.std.specs.FinMap.{get, insert, remove, from_entries}
 use Rattle.h2_num.specs.declared.block.Block.{Block}
-use Rattle.h2_ref.specs.Ref.{IsValid}
 use Rattle.h2_ref.specs.declared.reference.Check.{Check}
 use Rattle.h2_ref.specs.declared.reference.Dirent.{Dirent}
 use Rattle.h2_ref.specs.declared.reference.Ref.{Ref}
@@ -17,11 +16,10 @@ use Rattle.h2_dirkey.specs.Key.{IsNameUnder}
 use Rattle.h2_inode.specs.Nodes.{Fields, Told}
 use Rattle.h2_inode.specs.Loaded.{at_root, loaded_nodes, no_content}
 use Rattle.h2_inode.specs.Directory.{Entries, IsEntry}
-use Rattle.h2_dir.specs.Changing.{entry_ref, short_entry, long_entry, TellsName}
+use Rattle.h2_dir.specs.Changing.{entry_ref, short_entry, long_entry, HasBlockIfLong, TellsName}
 use Rattle.h2_dir.specs.Names.{MayBeNamed}
 use Rattle.h2_dir.specs.Finding.{HoldsEntries}
 use Rattle.h2_dir.specs.Agreeing.{one_named, told_once, found_agrees}
-use Rattle.h2_dir.proofs.Leaf.{short_name}
 use Rattle.h2_dir.specs.Members.{first, behind}
 use Rattle.h2_dir.proofs.Ordered.{order, differ_still}
 use Rattle.h2_dir.proofs.Entered.{put_beside, cut_beside, each_as, differ_more, differ_rest, map_put, map_cut}
@@ -50,31 +48,31 @@ found_member key (q ∷ qs) leaf found = member_first key q leaf qs (holds key q
 -- what a name's block tells, it tells later
 pub tells_later : (f g : Forest) (leaf : Ref) (name : List ℕ) (block : Option (Block × Check)) → ((r : Ref) → g.name r ≡ f.name r) → TellsName f leaf name block → TellsName g leaf name block
 tells_later f g leaf name None names tells = tells
-tells_later f g leaf name (Some block) names tells = (tells.0, names leaf ∙ tells.1)
+tells_later f g leaf name (Some block) names tells = names leaf ∙ tells
 
 module _ (g : Forest) (new : ℕ → Option Fields) (now : Ref → Option Told) (may : ℕ → ℕ → Bool) (dir : ℕ) where
   abbrev One : Ref → List ℕ × ℕ → Type 0
   One leaf named = IsEntry (loaded_nodes g new now no_content) (λ target number. may target number ≡ true) (at_root dir) leaf named
 
   -- the entry that is put in
-  pub new_entry : (epoch key : ℕ) (name : List ℕ) (block : Option (Block × Check)) (number target : ℕ) → IsValid (entry_ref epoch key name block number target) → IsNameUnder key name → may target number ≡ true
+  pub new_entry : (epoch key : ℕ) (name : List ℕ) (block : Option (Block × Check)) (number target : ℕ) → HasBlockIfLong name block → IsNameUnder key name → may target number ≡ true
       → TellsName g (entry_ref epoch key name block number target) name block → One (entry_ref epoch key name block number target) (name, number)
-  new_entry epoch key name None number target valid under fits tells = record {
+  new_entry epoch key name None number target short under fits tells = record {
     kind_is = refl;
     entry = short_entry name number target;
     entry_is = refl;
     number_is = refl;
-    name_is = inl (short_name epoch key name number target valid, sym (take_at name (replicate (64 - length name) 0) (length name) refl));
+    name_is = inl (short, sym (take_at name (replicate (64 - length name) 0) (length name) refl));
     length_is = refl;
     under = under;
     target_fits = fits;
   }
-  new_entry epoch key name (Some block) number target valid under fits tells = record {
+  new_entry epoch key name (Some block) number target long under fits tells = record {
     kind_is = refl;
     entry = long_entry name number target;
     entry_is = refl;
     number_is = refl;
-    name_is = inr tells;
+    name_is = inr (long, tells);
     length_is = refl;
     under = under;
     target_fits = fits;

@@ -94,10 +94,6 @@ takes_entry f holds dir i leaf is kind has_refs valid entry =
       high = subst (λ n. leaf.key + 2 ^ n ≤ f.low dir + 2 ^ f.bits dir) (sym of.bits) (subst (λ n. leaf.key + 2 ^ 0 ≤ n + 2 ^ f.bits dir) (sym start) (subst (λ n. leaf.key + 2 ^ 0 ≤ 2 ^ 63 + 2 ^ n) (sym bits) ends));
     }
 
--- a name without a block is short
-pub short_name : (epoch key : ℕ) (name : List ℕ) (number target : ℕ) → IsValid (entry_ref epoch key name None number target) → length name ≤ 64
-short_name epoch key name number target valid = valid.entry.len.last
-
 refs_by : (body : Body) (kind : InodeKind) (leaf : Ref) → MayHave kind body leaf → (s : RefSet) × (body ≡ Refs s)
 refs_by (Refs s) kind leaf may = (s, refl)
 refs_by (Bytes b) kind leaf may = absurd may

@@ -17,3 +17,5 @@ pub mod Ordered
 pub mod Told
 pub mod Entered
 pub mod Entries
+pub mod Known
+pub mod Way

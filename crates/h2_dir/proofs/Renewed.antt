@@ -15,9 +15,9 @@ use Rattle.h2_inode.specs.declared.kind.InodeKind.TheVariants.{Directory, File, 
 use Rattle.h2_inode.specs.declared.inode.Body.{Body}
 use Rattle.h2_inode.specs.declared.inode.Body.TheVariants.{Refs, Bytes}
 use Rattle.h2_inode.specs.declared.inode.Inode.{Inode}
-use Rattle.h2_inode.specs.Nodes.{Fields, bytes_of, set_of, MayHave, HasInode, Replaces}
-use Rattle.h2_inode.specs.NodeLaws.{named_stays, inode_held}
-use Rattle.h2_dir.specs.Others.{body_with, with_set, KeepsTree, RenewsTree}
+use Rattle.h2_inode.specs.Nodes.{Fields, Told, bytes_of, set_of, MayHave, HasInode, IsNamed, IsUnloaded, Replaces}
+use Rattle.h2_inode.specs.NodeLaws.{named_stays, named_back, inode_held}
+use Rattle.h2_inode.specs.Others.{body_with, with_set, KeepsTree, RenewsTree}
 use Rattle.h2_dir.proofs.Resized.{others_same}
 
 -- no leaf that the tree of root c may have names an inode
@@ -64,7 +64,8 @@ set_with (Bytes x) s t is renewed capacity =
 module _ (f h g : Forest) (dir : ℕ) (sound : IsSound f) (sound_then : IsSound h) (place : InPlace f h dir) (root : f.root dir ≡ dir)
     (renews : (m : ℕ) → f.stands m ≡ true → (f.root m ≡ dir → ⊥) → Renews f h m)
     (exact : (m i : ℕ) (r : Ref) → f.stands m ≡ true → (f.root m ≡ dir → ⊥) → NamesNone f (f.root m) → slice_get (refs f m) i ≡ Some r → slice_get (refs h m) i ≡ Some r)
-    (fixed : Fixed f h) (resizes : Replaces h g dir (h.set dir)) where
+    (fixed : Fixed f h) (resizes : Replaces h g dir (h.set dir))
+    (roots : (m : ℕ) → g.stands m ≡ true → g.root m ≡ m → f.stands m ≡ true) (placed : (m : ℕ) → f.stands m ≡ true → g.stands m ≡ true → InPlace f g m) where
   same_on : (m : ℕ) → f.stands m ≡ true → (f.root m ≡ dir → ⊥) → Same h g m
   same_on m stands other = others_same h g dir sound_then place.stands (place.root ∙ root) resizes m (renews m stands other).place.stands (λ e. other (ap f.root e ∙ root))
 
@@ -101,9 +102,25 @@ module _ (f h g : Forest) (dir : ℕ) (sound : IsSound f) (sound_then : IsSound 
   capacity : (c : ℕ) → f.stands c ≡ true → (f.root c ≡ dir → ⊥) → f.root c ≡ c → let s = g.set c in s.capacity ≡ 4
   capacity c stands other own = let now = (both c stands other).place in (resizes.sound.node c now.stands).root_capacity (now.root ∙ own)
 
+  -- leaves name the roots that they named
+  named_on : (c : ℕ) → InPlace f g c → (key d : ℕ) → IsNamed f c key d → IsNamed g c key d
+  named_on c above key d is = named_stays f g c key d above (there d is.stands is.root) is
+    where
+      there : (d : ℕ) → f.stands d ≡ true → f.root d ≡ d → InPlace f g d
+      there d stands own = elim (same_or_not d dir) as (λ _. InPlace f g d) [
+        | inl e ↦ subst (λ n. InPlace f g n) (sym e) (InPlace-trans f h g dir place resizes.place)
+        | inr ne ↦ (both d stands (λ e. ne (sym own ∙ e))).place
+      ]
+
+  -- and no others
+  unloaded_on : (c : ℕ) → InPlace f g c → (key : ℕ) → IsUnloaded f c key → IsUnloaded g c key
+  unloaded_on c above key none d is =
+      let stood = roots d is.stands is.root in
+      none d (named_back f g c key d above stood (placed d stood is.stands) is)
+
   -- a tree whose leaves name no inodes is the same
-  pub keeps_tree : (old new : ℕ → Option Fields) (c : ℕ) (i : Inode) → HasInode f old c i → (i.kind ≡ Pfs → ⊥) → (c ≡ dir → ⊥) → (g.stands c ≡ true → new c ≡ old c) → KeepsTree f g old new c
-  keeps_tree old new c i is not ne beside =
+  pub keeps_tree : (old new : ℕ → Option Fields) (was then : Ref → Option Told) (c : ℕ) (i : Inode) → HasInode f old c i → (i.kind ≡ Pfs → ⊥) → (c ≡ dir → ⊥) → (g.stands c ≡ true → new c ≡ old c) → KeepsTree (record { forest = f; holds = old; tells = was }) (record { forest = g; holds = new; tells = then }) c
+  keeps_tree old new was then c i is not ne beside =
       let other : f.root c ≡ dir → ⊥ = λ e. ne (sym is.root ∙ e) in
       let none = names_none f old c i is not in
       let P : ℕ → Type 0 = λ m. (f.stands m ≡ true) × (f.root m ≡ c) in
@@ -118,6 +135,8 @@ module _ (f h g : Forest) (dir : ℕ) (sound : IsSound f) (sound_then : IsSound 
         inode = λ j has. inode_held f g old new c j now.place (bits_same c is.stands other) (λ r. allows_same c r is.stands other) set (beside now.place.stands) has;
         leaves = λ l leaves. leaves_stay f g P closed stay (is.stands, is.root) leaves (refs g c) (stay c (is.stands, is.root)).alike;
         paths = λ key o path. reaches_stay f g P closed stay (is.stands, is.root) path;
+        named = named_on c now.place;
+        unloaded = unloaded_on c now.place;
       }
 
   inode_renewed : (old new : ℕ → Option Fields) (c : ℕ) (i : Inode) → (f.root c ≡ dir → ⊥) → new c ≡ old c → HasInode f old c i → HasInode g new c (with_set i (g.set c))
@@ -136,16 +155,9 @@ module _ (f h g : Forest) (dir : ℕ) (sound : IsSound f) (sound_then : IsSound 
         set = set_with i.body (g.set c) (f.set c) is.set now.renewed (capacity c is.stands other is.root);
       }
 
-  -- a node that a leaf names stands where it stood
-  named_place : (d : ℕ) → f.stands d ≡ true → f.root d ≡ d → InPlace f g d
-  named_place d stands own = elim (same_or_not d dir) as (λ _. InPlace f g d) [
-    | inl e ↦ subst (λ n. InPlace f g n) (sym e) (InPlace-trans f h g dir place resizes.place)
-    | inr ne ↦ (both d stands (λ e. ne (sym own ∙ e))).place
-  ]
-
   -- any other is the same, but for where the blocks of inodes lie
-  pub renews_tree : (old new : ℕ → Option Fields) (c : ℕ) → f.stands c ≡ true → f.root c ≡ c → (c ≡ dir → ⊥) → (g.stands c ≡ true → new c ≡ old c) → RenewsTree f g old new c
-  renews_tree old new c stands own ne beside =
+  pub renews_tree : (old new : ℕ → Option Fields) (was then : Ref → Option Told) (c : ℕ) → f.stands c ≡ true → f.root c ≡ c → (c ≡ dir → ⊥) → (g.stands c ≡ true → new c ≡ old c) → RenewsTree (record { forest = f; holds = old; tells = was }) (record { forest = g; holds = new; tells = then }) c
+  renews_tree old new was then c stands own ne beside =
       let other : f.root c ≡ dir → ⊥ = λ e. ne (sym own ∙ e) in
       let P : ℕ → Type 0 = λ m. (f.stands m ≡ true) × (f.root m ≡ dir → ⊥) in
       let closed : (m k d : ℕ) → P m → f.link m k ≡ loaded d → P d = λ m k d p link. let child = (sound.node m p.0).child k d link in (child.stands, λ e. p.1 (sym child.root ∙ e)) in
@@ -154,5 +166,6 @@ module _ (f h g : Forest) (dir : ℕ) (sound : IsSound f) (sound_then : IsSound 
         inode = λ i is. inode_renewed old new c i other (beside (both c stands other).place.stands) is;
         leaves = λ l leaves. trees_renewed f g dir sound both c stands other l leaves;
         paths = λ key o path. reaches_renew f g P closed (λ m p. both m p.0 p.1) (stands, other) path;
-        named = λ key d is. named_stays f g c key d (both c stands other).place (named_place d is.stands is.root) is;
+        named = named_on c (both c stands other).place;
+        unloaded = unloaded_on c (both c stands other).place;
       }

@@ -27,11 +27,15 @@ abbrev pub entry_ref : ℕ → ℕ → List ℕ → Option (Block × Check) → 
 entry_ref epoch key name None number target = record { kind = kinds.Dirent; key = key; keybits = 0; place = 0; radix = 0; id = epoch; check = Nothing; dirent = Some (short_entry name number target) }
 entry_ref epoch key name (Some named) number target = record { kind = kinds.Dirent; key = key; keybits = 0; place = named.0.place; radix = named.0.radix; id = epoch; check = named.1; dirent = Some (long_entry name number target) }
 
--- A name without a block stands in the entry. One with a block has more than 64 bytes, and the forest tells that the
--- block holds it.
+-- a name has a block, with its check, exactly where it is longer than 64 bytes
+abbrev pub HasBlockIfLong : List ℕ → Option (Block × Check) → Type 0
+HasBlockIfLong name None = length name ≤ 64
+HasBlockIfLong name (Some named) = 65 ≤ length name
+
+-- A name without a block stands in the entry. Of one with a block, the forest tells that the block holds it.
 abbrev pub TellsName : Forest → Ref → List ℕ → Option (Block × Check) → Type 0
 TellsName f leaf name None = ⊤
-TellsName f leaf name (Some named) = (65 ≤ length name) × (f.name leaf ≡ Some name)
+TellsName f leaf name (Some named) = f.name leaf ≡ Some name
 
 -- an inode with references
 pub record HasRefs (i : Inode) : Type 0 where

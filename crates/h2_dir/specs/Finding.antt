@@ -5,7 +5,7 @@ use Rattle.h2_ref.specs.declared.faults.Trouble.{Trouble}
 use Rattle.h2_ref.specs.declared.faults.Trouble.TheVariants.{NoMemory}
 use Rattle.h2_ref.specs.declared.reference.Dirent.{Dirent}
 use Rattle.h2_ref.specs.declared.reference.Ref.{Ref}
-use Rattle.h2_set.specs.Forest.{Forest, Reaches, HasCause}
+use Rattle.h2_set.specs.Forest.{Forest, Reaches, HasCause, IsBad}
 use Rattle.h2_tree.specs.Changes.{RangeUnloaded}
 use Rattle.h2_dirkey.specs.Name.{IsName}
 use Rattle.h2_dirkey.specs.Key.{upper_bits, least_key, IsNameUnder}
@@ -59,6 +59,13 @@ FindFails f g kind dir name fault.NoEntry = (kind ≡ Directory) × IsMissing g 
 FindFails f g kind dir name fault.Exists = ⊥
 FindFails f g kind dir name fault.NotDir = kind ≡ Directory → ⊥
 FindFails f g kind dir name (fault.Trouble e) = (kind ≡ Directory) × HasCause f g e × MayLoad f g dir name e
+
+-- a block wasn't what it should be
+abbrev pub IsBadBlock : DirFault → Type 0
+IsBadBlock fault.NoEntry = ⊥
+IsBadBlock fault.Exists = ⊥
+IsBadBlock fault.NotDir = ⊥
+IsBadBlock (fault.Trouble e) = IsBad e
 
 -- what was found agrees with the entries of the directory: the number that the name has, or that it has none
 abbrev pub AgreesOn : Entries → List ℕ → Result (ℕ × Dirent) DirFault → Type 0

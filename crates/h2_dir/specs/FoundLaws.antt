@@ -1,19 +1,14 @@
 -- What was found and what is missing agree with the entries of the directory.
-use Rattle.std.specs.Prelude.{◌≡◌, ◌+◌, ◌<◌, ◌^◌, ℕ, zero, suc, Bool, true, false, List, [], ◌∷◌, ◌++◌, Option, Some, None, slice_get, refl}
-use Rattle.std.proofs.Common.{ap, sym, ◌∙◌, arith, inl, inr, subst}
-use Rattle.std.proofs.lemmas.Nat.{pow_pos}
+use Rattle.std.specs.Prelude.{◌≡◌, ℕ, zero, suc, Bool, true, false, List, [], ◌∷◌, ◌++◌, Option, Some, None, slice_get, refl}
+use Rattle.std.proofs.Common.{ap, sym, ◌∙◌, subst}
 use Rattle.std.proofs.lemmas.Option.{none-some, same_Some}
 use Rattle.std.specs.FinMap.{get}
 use Rattle.h2_ref.specs.declared.reference.Dirent.{Dirent}
 use Rattle.h2_ref.specs.declared.reference.Ref.{Ref}
-use Rattle.h2_set.specs.Ranges.{limit, is_indirect}
+use Rattle.h2_set.specs.Ranges.{is_indirect}
 use Rattle.h2_set.specs.Forest.{Forest, refs, loaded, told, HasLeaves, done, one, near, far, LeavesOf, Reaches, nowhere, here, below}
-use Rattle.h2_set.specs.LeafLaws.{place_above}
-use Rattle.h2_set.specs.SplitLaws.{below_high}
-use Rattle.h2_set.specs.PathLaws.{in_holds}
-use Rattle.h2_tree.specs.Changes.{is_between, RangeUnloaded, missing, deeper}
-use Rattle.h2_tree.specs.ListLaws.{In, has_left, has_right, has_either}
-use Rattle.h2_tree.specs.TreeLaws.{between_touches}
+use Rattle.h2_tree.specs.ListLaws.{In, has_left, has_right}
+use Rattle.h2_tree.specs.TreeLaws.{leaves_reached}
 use Rattle.h2_dirkey.specs.Key.{least_key}
 use Rattle.h2_inode.specs.Nodes.{Fields, Told}
 use Rattle.h2_inode.specs.Directory.{Entries}
@@ -57,49 +52,10 @@ kids_in {f} (far {at = at} {r = q} {below = b} is to inside rest) zero c r read 
     absurd (cc)
 kids_in (far {r = q} {below = b} {l = l} is to inside rest) (suc i) c r read ind link = let h = kids_in rest i c r read ind link in record { kids = h.kids; leaves = h.leaves; within = λ x at. has_right b l x (h.within x at) }
 
-reached_in : {f : Forest} {key at : ℕ} {o : Option Ref} → Reaches f key at o → (leaf : Ref) → o ≡ Some leaf → (l : List Ref) → LeavesOf f at l → In l leaf
+pub reached_in : {f : Forest} {key at : ℕ} {o : Option Ref} → Reaches f key at o → (leaf : Ref) → o ≡ Some leaf → (l : List Ref) → LeavesOf f at l → In l leaf
 reached_in (nowhere none) leaf is l has = absurd (none-some leaf is)
 reached_in (here {r = r} i read in_r is_leaf) leaf is l has = subst (λ q. In l q) (same_Some r leaf is) (leaf_in has i r read is_leaf)
 reached_in (below {c = c} {r = r} i read in_r ind link rest) leaf is l has = let h = kids_in has i c r read ind link in h.within leaf (reached_in rest leaf is h.kids h.leaves)
-
--- Where no node that they need is unloaded, loaded paths lead to all leaves of a range.
-
--- all of rs stand in node at
-abbrev StandIn : Forest → ℕ → List Ref → Type 0
-StandIn f at rs = (j : ℕ) (r : Ref) → slice_get rs j ≡ Some r → In (refs f at) r
-
-reached_all : {f : Forest} {at : ℕ} {rs l : List Ref} → StandIn f at rs → HasLeaves f at rs l → (from to : ℕ) → (RangeUnloaded f from to at → ⊥) → (i : ℕ) (x : Ref) → slice_get l i ≡ Some x → is_between from to x ≡ true → Reaches f x.key at (Some x)
-reached_all all done from to none i x read mid = absurd (none-some x read)
-reached_all {f} all (one {at = at} {r = r} leaf rest) from to none zero x read mid =
-    let is : r ≡ x = same_Some r x read in
-    let it = all 0 r refl in
-    let pos = pow_pos r.keybits in
-    let path : Reaches f r.key at (Some r) = here {r = r} it.0 it.1 (in_holds r.key r (omega arith) (omega (arith, pos))) leaf in
-    subst (λ (y : Ref). Reaches f y.key at (Some y)) is path
-reached_all all (one leaf rest) from to none (suc i) x read mid = reached_all (λ j q at. all (suc j) q at) rest from to none i x read mid
-reached_all {f} all (near {at = at} {c = c} {r = r} {below = b} {l = l} ind link kids inside rest) from to none i x read mid =
-    elim (has_either b l x i read) as (λ _. Reaches f x.key at (Some x)) [
-      | inl it ↦
-          let there = all 0 r refl in
-          let low = place_above r.key (limit r) b it.0 x inside it.1 in
-          let high = below_high r.key (limit r) b it.0 x inside it.1 in
-          let pos = pow_pos x.keybits in
-          let on = between_touches from to x r mid low (omega (arith, high, pos)) in
-          let path = reached_all (λ j q at. (j, at)) kids from to (λ u. none (deeper {r = r} there.0 there.1 ind on link u)) it.0 x it.1 mid in
-          below {r = r} there.0 there.1 (in_holds x.key r low (omega (arith, high, pos))) ind link path
-      | inr it ↦ reached_all (λ j q at. all (suc j) q at) rest from to none it.0 x it.1 mid
-    ]
-reached_all {f} all (far {at = at} {r = r} {below = b} {l = l} ind link inside rest) from to none i x read mid =
-    elim (has_either b l x i read) as (λ _. Reaches f x.key at (Some x)) [
-      | inl it ↦
-          let there = all 0 r refl in
-          let low = place_above r.key (limit r) b it.0 x inside it.1 in
-          let high = below_high r.key (limit r) b it.0 x inside it.1 in
-          let pos = pow_pos x.keybits in
-          let on = between_touches from to x r mid low (omega (arith, high, pos)) in
-          absurd (none (missing {r = r} there.0 there.1 ind on (λ c e. let clash : told b ≡ loaded c = sym link ∙ e in cc)))
-      | inr it ↦ reached_all (λ j q at. all (suc j) q at) rest from to none it.0 x it.1 mid
-    ]
 
 -- an entry that was found has the number of its name
 pub found_number : (f : Forest) (holds : ℕ → Option Fields) (tells : Ref → Option Told) (may : ℕ → ℕ → Bool) (dir size : ℕ) (entries : Entries) (name : List ℕ) (key : ℕ) (entry : Dirent) → IsFound f dir name key entry → HoldsEntries f holds tells may dir size entries → get entries name ≡ Some entry.number
@@ -111,4 +67,4 @@ found_number f holds tells may dir size entries name key entry is h =
 pub missing_number : (f : Forest) (holds : ℕ → Option Fields) (tells : Ref → Option Told) (may : ℕ → ℕ → Bool) (dir size : ℕ) (entries : Entries) (name : List ℕ) → IsMissing f dir name → HoldsEntries f holds tells may dir size entries → get entries name ≡ None
 missing_number f holds tells may dir size entries name is h = missing_agrees f holds tells may dir size entries h name (λ leaf at under named.
     let it = has_place h.leaves leaf at in
-    is.none leaf (reached_all (λ j q read. (j, read)) h.has.read (least_key name) (last_key name) (is.loaded under.good) it.0 leaf it.1 (key_between name leaf under)) under named)
+    is.none leaf (leaves_reached (λ j q read. (j, read)) h.has.read (least_key name) (last_key name) (is.loaded under.good) it.0 leaf it.1 (key_between name leaf under)) under named)

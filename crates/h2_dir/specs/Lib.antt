@@ -6,6 +6,8 @@ pub mod Agreeing
 pub mod FoundLaws
 pub mod Placing
 pub mod Changing
+pub mod RootLaws
 pub mod Others
 pub mod Walking
+pub mod Knowing
 pub mod Listing

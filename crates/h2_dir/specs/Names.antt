@@ -34,6 +34,10 @@ pub record AnyLongCandidate (leaves : List Ref) (name : List ℕ) : Type 0 where
   pub read : slice_get leaves place ≡ Some leaf
   pub long : IsLongCandidate leaf name
 
+-- each leaf of the list is an entry that is known to have a name
+abbrev pub AllNamed : Forest → List Ref → Type 0
+AllNamed f leaves = (i : ℕ) (leaf : Ref) → slice_get leaves i ≡ Some leaf → (name : List ℕ) × IsNamed f leaf name
+
 -- no leaf of the list is known to have the name
 abbrev pub NoneNamed : Forest → List Ref → List ℕ → Type 0
 NoneNamed f leaves name = (i : ℕ) (leaf : Ref) → slice_get leaves i ≡ Some leaf → IsNamed f leaf name → ⊥

@@ -7,11 +7,13 @@ ghost use Rattle.h2_set.specs.Forest.{IsSound, LeavesOf, Reaches, KeepsBeside};
 ghost use Rattle.h2_tree.specs.Changes.{Takes, Inserts, KeepsPaths};
 ghost use Rattle.h2_dirkey.specs.Key.{IsNameUnder};
 ghost use Rattle.h2_inode.specs.declared.inode.Inode.{Inode};
-ghost use Rattle.h2_inode.specs.Nodes.{held_by, HasInode, KeepsOthersBeside};
+ghost use Rattle.h2_inode.specs.Nodes.{held_by, HasInode, NamesOne, KeepsOthersBeside};
+ghost use Rattle.h2_inode.specs.Loaded.{view_of};
+ghost use Rattle.h2_inode.specs.Others.{RenewsOthers};
 ghost use Rattle.h2_inode.specs.Directory.{Entries};
 ghost use Rattle.h2_dir.specs.Finding.{HoldsEntries};
-ghost use Rattle.h2_dir.specs.Changing.{HasRoom, Adds, TellsName, entry_ref, with_entries};
-ghost use Rattle.h2_dir.specs.Others.{KeepsOtherTrees, KeepsOtherEntries, RenewsOtherTrees};
+ghost use Rattle.h2_dir.specs.Changing.{HasRoom, HasBlockIfLong, Adds, TellsName, entry_ref, with_entries};
+ghost use Rattle.h2_dir.specs.Others.{KeepsOtherTrees, KeepsOtherEntries};
 
 use crate::entry::entry_ref;
 use crate::resizing::resize;
@@ -48,7 +50,7 @@ fn put_in<N: Sets>(alloc: Global, n: &mut N, root: NodeId, leaf: Ref)
 /// of more than 64 bytes has a block of 1 KiB, and no other has: it is given with its check. At least one node is
 /// spare, and the room is at least 63; they are lowered by at most this. It can't be refused. No node is unloaded, and
 /// all loaded paths stay. Other directories and files stay the same, and the trees of PFSs do, but for where the blocks
-/// of inodes lie.
+/// of inodes lie. No root comes, and leaves that named one root each still do.
 pub fn add_at<N: Nodes>(
     alloc: Global,
     n: &mut N,
@@ -63,6 +65,7 @@ pub fn add_at<N: Nodes>(
     requires directory { HasRoom (N.forest n.old) (held_by N.fields (N.beside n.old)) dir.0 }
     requires under { IsNameUnder key name.now }
     requires free { Reaches (N.forest n.old) key dir.0 None }
+    requires block { HasBlockIfLong name.now block }
     requires valid { let f = N.forest n.old in IsValid (entry_ref f.epoch key name.now block number target) }
     requires space { let f = N.forest n.old in (1 ≤ f.spare) × (63 ≤ f.room) }
     ensures adds { let f = N.forest n.old in Adds f (N.forest n.new) dir.0 (entry_ref f.epoch key name.now block number target) }
@@ -72,9 +75,10 @@ pub fn add_at<N: Nodes>(
         → HoldsEntries (N.forest n.new) (held_by N.fields (N.beside n.new)) (N.told n.new) may dir.0 (size + 1) (insert entries name.now number) }
     ensures path { let f = N.forest n.old in Reaches (N.forest n.new) key dir.0 (Some (entry_ref f.epoch key name.now block number target)) }
     ensures paths { let f = N.forest n.old in KeepsPaths f (N.forest n.new) dir.0 (entry_ref f.epoch key name.now block number target) }
-    ensures others { KeepsOtherTrees (N.forest n.old) (N.forest n.new) (held_by N.fields (N.beside n.old)) (held_by N.fields (N.beside n.new)) dir.0 }
-    ensures above { RenewsOtherTrees (N.forest n.old) (N.forest n.new) (held_by N.fields (N.beside n.old)) (held_by N.fields (N.beside n.new)) dir.0 }
+    ensures others { KeepsOtherTrees (view_of N.fields (N.forest n.old) (N.beside n.old) (N.told n.old)) (view_of N.fields (N.forest n.new) (N.beside n.new) (N.told n.new)) dir.0 }
+    ensures above { RenewsOthers (view_of N.fields (N.forest n.old) (N.beside n.old) (N.told n.old)) (view_of N.fields (N.forest n.new) (N.beside n.new) (N.told n.new)) dir.0 }
     ensures other_entries { KeepsOtherEntries (N.forest n.old) (N.forest n.new) (held_by N.fields (N.beside n.old)) (held_by N.fields (N.beside n.new)) (N.told n.old) (N.told n.new) dir.0 }
+    ensures one { NamesOne (N.forest n.old) → NamesOne (N.forest n.new) }
     ensures beside { KeepsOthersBeside (N.forest n.old) (N.forest n.new) dir.0 (N.beside n.old) (N.beside n.new) }
     ensures spends { let f = N.forest n.old in let g = N.forest n.new in (f.room ≤ g.room + 63) × (f.spare ≤ g.spare + 1) }
     ensures later { N.later n.old n.new }

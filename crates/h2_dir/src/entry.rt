@@ -39,8 +39,9 @@ fn short_ref(epoch: u64, key: u64, name: &[u8], number: u64, target: u8) -> Ref
     }
 }
 
-/// The reference of an entry: its name stands in it, or in a block with this check.
-pub(crate) fn entry_ref(
+/// The reference of an entry, which `add_at` puts in: its name stands in it, or in a block with this check. The epoch is
+/// its id. The name has at most 255 bytes, and without a block at most 64.
+pub fn entry_ref(
     epoch: u64,
     key: u64,
     name: &[u8],

@@ -23,6 +23,7 @@ mod searching;
 mod walking;
 
 pub use adding::add_at;
+pub use entry::entry_ref;
 pub use fault::DirFault;
 pub use finding::find;
 pub use laws::found_law;

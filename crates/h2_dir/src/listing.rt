@@ -1,13 +1,14 @@
 ghost use Rattle.std.specs.Prelude.{◌≡◌, ◌≤◌, ◌⊎◌, ◌-◌, ◌^◌, ℕ, Bool, true, IfOk, IfErr, List, All, Some, IsPermutation, IsSorted};
 ghost use Rattle.h2_ref.specs.declared.reference.Ref.{Ref};
-ghost use Rattle.h2_set.specs.Forest.{Forest, IsSound, Walks, Unchanged, HasCause, KeepsBeside};
+ghost use Rattle.h2_set.specs.Forest.{Forest, IsBad, IsSound, Walks, Unchanged, HasCause, KeepsBeside};
 ghost use Rattle.h2_tree.specs.Changes.{LoadsIn};
 ghost use Rattle.h2_inode.specs.declared.inode.Inode.{Inode};
 ghost use Rattle.h2_inode.specs.declared.kind.InodeKind.TheVariants.{Directory};
 ghost use Rattle.h2_inode.specs.Access.{OneByOne};
 ghost use Rattle.h2_inode.specs.Nodes.{held_by, HasInode};
 ghost use Rattle.h2_inode.specs.Directory.{Entries};
-ghost use Rattle.h2_dir.specs.Finding.{HoldsEntries};
+ghost use Rattle.h2_dir.specs.Names.{IsNamed, AllNamed};
+ghost use Rattle.h2_dir.specs.Finding.{HoldsEntries, IsBadBlock};
 ghost use Rattle.h2_dir.specs.Listing.{IsEntryLeaf, SaysEntry, HasLongName, AnyLongName, IsListing, ListFails, by_name, entries_of};
 
 use crate::fault::DirFault;
@@ -30,6 +31,7 @@ fn entry_of<N: Sets>(alloc: Global, n: &mut N, leaf: &Ref) -> Result<(Name, u64)
     ensures says { IfOk result (SaysEntry (N.forest n.old) leaf.now) }
     ensures err { IfErr result (HasCause (N.forest n.old) (N.forest n.new)) }
     ensures unread { IfErr result (λ e. (e ≡ Trouble.NoMemory) ⊎ HasLongName leaf.now) }
+    ensures good { let f = N.forest n.old in IfErr result (λ e. (own : List ℕ) → IsNamed f leaf.now own → IsBad e → ⊥) }
     ensures beside { KeepsBeside (N.forest n.old) (N.forest n.new) (N.beside n.old) (N.beside n.new) }
     ensures later { N.later n.old n.new }
 {
@@ -51,6 +53,7 @@ fn all_named<N: Sets>(alloc: Global, n: &mut N, leaves: &[Ref]) -> Result<Vec<(N
     ensures each { IfOk result (λ v. OneByOne (SaysEntry (N.forest n.old)) leaves.now v.items) }
     ensures err { IfErr result (HasCause (N.forest n.old) (N.forest n.new)) }
     ensures unread { IfErr result (λ e. (e ≡ Trouble.NoMemory) ⊎ AnyLongName leaves.now) }
+    ensures good { let f = N.forest n.old in IfErr result (λ e. AllNamed f leaves.now → IsBad e → ⊥) }
     ensures beside { KeepsBeside (N.forest n.old) (N.forest n.new) (N.beside n.old) (N.beside n.new) }
     ensures later { N.later n.old n.new }
 {
@@ -77,7 +80,8 @@ fn sort_by_name(all: &mut Vec<(Name, u64)>) -> Result<(), AllocError>
 /// and the name of each entry with more than 64 bytes is read; no node is loaded but of this tree.
 ///
 /// NotDir exactly where the inode isn't that of a directory; never NoEntry or Exists. Trouble only where a node that may
-/// have entries isn't loaded or an entry has such a name, or for want of memory.
+/// have entries isn't loaded or an entry has such a name, or for want of memory; never a bad block where the directory's
+/// entries are known.
 pub fn list<N: Nodes>(alloc: Global, n: &mut N, dir: NodeId) -> Result<Vec<(Name, u64)>, DirFault>
     requires sound { IsSound (N.forest n.old) }
     requires inode { (i : Inode) × HasInode (N.forest n.old) (held_by N.fields (N.beside n.old)) dir.0 i }
@@ -86,6 +90,7 @@ pub fn list<N: Nodes>(alloc: Global, n: &mut N, dir: NodeId) -> Result<Vec<(Name
     ensures entries { (may : ℕ → ℕ → Bool) (size : ℕ) (entries : Entries) → HoldsEntries (N.forest n.old) (held_by N.fields (N.beside n.old)) (N.told n.old) may dir.0 size entries → IfOk result (λ v. v.items ≡ entries_of entries) }
     ensures kind { (i : Inode) → HasInode (N.forest n.old) (held_by N.fields (N.beside n.old)) dir.0 i → IfOk result (λ v. i.kind ≡ Directory) }
     ensures err { (i : Inode) → HasInode (N.forest n.old) (held_by N.fields (N.beside n.old)) dir.0 i → IfErr result (ListFails (N.forest n.old) (N.forest n.new) i.kind dir.0) }
+    ensures good { (may : ℕ → ℕ → Bool) (size : ℕ) (entries : Entries) → HoldsEntries (N.forest n.old) (held_by N.fields (N.beside n.old)) (N.told n.old) may dir.0 size entries → IfErr result (λ e. IsBadBlock e → ⊥) }
     ensures touched { LoadsIn (N.forest n.old) (N.forest n.new) dir.0 (2 ^ 63) (2 ^ 64 - 1) }
     ensures beside { KeepsBeside (N.forest n.old) (N.forest n.new) (N.beside n.old) (N.beside n.new) }
     ensures later { N.later n.old n.new }

@@ -1,8 +1,8 @@
-ghost use Rattle.std.specs.Prelude.{◌≡◌, ◌≤◌, ◌⊎◌, true, false, Some, IfOk, IfErr, All, take, length};
+ghost use Rattle.std.specs.Prelude.{◌≡◌, ◌≤◌, ◌⊎◌, ℕ, List, true, false, Some, IfOk, IfErr, All, take, length};
 ghost use Rattle.h2_ref.specs.Ref.{IsValid};
 ghost use Rattle.h2_ref.specs.declared.reference.Ref.{Ref};
-ghost use Rattle.h2_set.specs.Forest.{IsSound, Unchanged, HasCause, KeepsBeside};
-ghost use Rattle.h2_dir.specs.Names.{IsNamed, MayBeNamed, IsLongCandidate, AnyLongCandidate, Scanned};
+ghost use Rattle.h2_set.specs.Forest.{IsBad, IsSound, Unchanged, HasCause, KeepsBeside};
+ghost use Rattle.h2_dir.specs.Names.{IsNamed, MayBeNamed, AllNamed, IsLongCandidate, AnyLongCandidate, Scanned};
 
 use h2_ref::{Dirent, Ref, Trouble};
 use h2_set::Sets;
@@ -21,7 +21,8 @@ fn is_short_name(entry: &Dirent, name: &[u8]) -> bool
     &entry.name[..name.len()] == name
 }
 
-/// Whether an entry of a directory has the name. A short name needs no load, nor does one of another length.
+/// Whether an entry of a directory has the name. A short name needs no load, nor does one of another length. The block of
+/// a name that is told is never bad.
 pub(crate) fn has_name<N: Sets>(
     alloc: Global,
     n: &mut N,
@@ -35,6 +36,7 @@ pub(crate) fn has_name<N: Sets>(
     ensures no { IfOk result (λ b. b ≡ false → IsNamed (N.forest n.old) leaf.now name.now → ⊥) }
     ensures err { IfErr result (HasCause (N.forest n.old) (N.forest n.new)) }
     ensures unread { IfErr result (λ e. (e ≡ Trouble.NoMemory) ⊎ IsLongCandidate leaf.now name.now) }
+    ensures good { let f = N.forest n.old in IfErr result (λ e. (own : List ℕ) → IsNamed f leaf.now own → IsBad e → ⊥) }
     ensures beside { KeepsBeside (N.forest n.old) (N.forest n.new) (N.beside n.old) (N.beside n.new) }
     ensures later { N.later n.old n.new }
 {
@@ -65,6 +67,7 @@ pub(crate) fn scan<N: Sets>(
     ensures scanned { IfOk result (Scanned (N.forest n.old) leaves.now name.now) }
     ensures err { IfErr result (HasCause (N.forest n.old) (N.forest n.new)) }
     ensures unread { IfErr result (λ e. (e ≡ Trouble.NoMemory) ⊎ AnyLongCandidate leaves.now name.now) }
+    ensures good { let f = N.forest n.old in IfErr result (λ e. AllNamed f leaves.now → IsBad e → ⊥) }
     ensures beside { KeepsBeside (N.forest n.old) (N.forest n.new) (N.beside n.old) (N.beside n.new) }
     ensures later { N.later n.old n.new }
 {

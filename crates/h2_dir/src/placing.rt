@@ -8,7 +8,7 @@ ghost use Rattle.h2_inode.specs.declared.inode.Inode.{Inode};
 ghost use Rattle.h2_inode.specs.declared.kind.InodeKind.TheVariants.{Directory};
 ghost use Rattle.h2_inode.specs.Nodes.{held_by, HasInode};
 ghost use Rattle.h2_inode.specs.Directory.{Entries};
-ghost use Rattle.h2_dir.specs.Finding.{last_key, HoldsEntries};
+ghost use Rattle.h2_dir.specs.Finding.{last_key, HoldsEntries, IsBadBlock};
 ghost use Rattle.h2_dir.specs.Placing.{IsSpot, SpotFails, SpotAgrees};
 
 use crate::fault::DirFault;
@@ -60,6 +60,7 @@ pub fn spot<N: Nodes>(alloc: Global, n: &mut N, dir: NodeId, name: &[u8]) -> Res
     ensures kind { (i : Inode) → HasInode (N.forest n.old) (held_by N.fields (N.beside n.old)) dir.0 i → IfOk result (λ x. i.kind ≡ Directory) }
     ensures err { (i : Inode) → HasInode (N.forest n.old) (held_by N.fields (N.beside n.old)) dir.0 i → IfErr result (SpotFails (N.forest n.old) (N.forest n.new) i.kind dir.0 name.now) }
     ensures agrees { (may : ℕ → ℕ → Bool) (size : ℕ) (entries : Entries) → HoldsEntries (N.forest n.old) (held_by N.fields (N.beside n.old)) (N.told n.old) may dir.0 size entries → SpotAgrees entries name.now result }
+    ensures good { (may : ℕ → ℕ → Bool) (size : ℕ) (entries : Entries) → HoldsEntries (N.forest n.old) (held_by N.fields (N.beside n.old)) (N.told n.old) may dir.0 size entries → IfErr result (λ e. IsBadBlock e → ⊥) }
     ensures touched { LoadsIn (N.forest n.old) (N.forest n.new) dir.0 (least_key name.now) (last_key name.now) }
     ensures beside { KeepsBeside (N.forest n.old) (N.forest n.new) (N.beside n.old) (N.beside n.new) }
     ensures later { N.later n.old n.new }

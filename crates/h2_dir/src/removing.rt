@@ -6,11 +6,13 @@ ghost use Rattle.h2_set.specs.Ranges.{without};
 ghost use Rattle.h2_set.specs.Forest.{IsSound, LeavesOf, Reaches, KeepsBeside};
 ghost use Rattle.h2_tree.specs.Changes.{IsFree, Removes, KeepsPaths};
 ghost use Rattle.h2_inode.specs.declared.inode.Inode.{Inode};
-ghost use Rattle.h2_inode.specs.Nodes.{held_by, HasInode, KeepsOthersBeside};
+ghost use Rattle.h2_inode.specs.Nodes.{held_by, HasInode, NamesOne, KeepsOthersBeside};
+ghost use Rattle.h2_inode.specs.Loaded.{view_of};
+ghost use Rattle.h2_inode.specs.Others.{RenewsOthers};
 ghost use Rattle.h2_inode.specs.Directory.{Entries};
 ghost use Rattle.h2_dir.specs.Finding.{HoldsEntries, IsFound};
 ghost use Rattle.h2_dir.specs.Changing.{IsDirectoryRoot, TakesAway, with_entries};
-ghost use Rattle.h2_dir.specs.Others.{KeepsOtherTrees, KeepsOtherEntries, RenewsOtherTrees};
+ghost use Rattle.h2_dir.specs.Others.{KeepsOtherTrees, KeepsOtherEntries};
 
 use crate::resizing::resize;
 use h2_inode::Nodes;
@@ -75,7 +77,8 @@ fn says(leaf: Ref) -> Dirent
 ///
 /// The entry is there, its path is loaded, and the room is at least 62, and lowered by at most this. It can't be
 /// refused. Of the tree nothing goes but indirect blocks that would be left empty, and loaded paths to other keys stay.
-/// Other directories and files stay the same, and the trees of PFSs do, but for where the blocks of inodes lie.
+/// Other directories and files stay the same, and the trees of PFSs do, but for where the blocks of inodes lie. No root
+/// comes, and leaves that named one root each still do.
 pub fn remove_at<N: Nodes>(alloc: Global, n: &mut N, dir: NodeId, key: u64) -> Dirent
     requires sound { IsSound (N.forest n.old) }
     requires directory { IsDirectoryRoot (N.forest n.old) (held_by N.fields (N.beside n.old)) dir.0 }
@@ -89,9 +92,10 @@ pub fn remove_at<N: Nodes>(alloc: Global, n: &mut N, dir: NodeId, key: u64) -> D
         → (get entries name ≡ Some result.number) × HoldsEntries (N.forest n.new) (held_by N.fields (N.beside n.new)) (N.told n.new) may dir.0 (size - 1) (remove entries name) }
     ensures path { Reaches (N.forest n.new) key dir.0 None }
     ensures paths { (leaf : Ref) → Reaches (N.forest n.old) key dir.0 (Some leaf) → KeepsPaths (N.forest n.old) (N.forest n.new) dir.0 leaf }
-    ensures others { KeepsOtherTrees (N.forest n.old) (N.forest n.new) (held_by N.fields (N.beside n.old)) (held_by N.fields (N.beside n.new)) dir.0 }
-    ensures above { RenewsOtherTrees (N.forest n.old) (N.forest n.new) (held_by N.fields (N.beside n.old)) (held_by N.fields (N.beside n.new)) dir.0 }
+    ensures others { KeepsOtherTrees (view_of N.fields (N.forest n.old) (N.beside n.old) (N.told n.old)) (view_of N.fields (N.forest n.new) (N.beside n.new) (N.told n.new)) dir.0 }
+    ensures above { RenewsOthers (view_of N.fields (N.forest n.old) (N.beside n.old) (N.told n.old)) (view_of N.fields (N.forest n.new) (N.beside n.new) (N.told n.new)) dir.0 }
     ensures other_entries { KeepsOtherEntries (N.forest n.old) (N.forest n.new) (held_by N.fields (N.beside n.old)) (held_by N.fields (N.beside n.new)) (N.told n.old) (N.told n.new) dir.0 }
+    ensures one { NamesOne (N.forest n.old) → NamesOne (N.forest n.new) }
     ensures beside { KeepsOthersBeside (N.forest n.old) (N.forest n.new) dir.0 (N.beside n.old) (N.beside n.new) }
     ensures spends { let f = N.forest n.old in let g = N.forest n.new in (f.room ≤ g.room + 62) × (g.spare ≡ f.spare) }
     ensures later { N.later n.old n.new }

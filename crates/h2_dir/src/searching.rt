@@ -1,11 +1,11 @@
 ghost use Rattle.std.specs.Prelude.{◌≡◌, IfOk, IfErr, List, filter};
 ghost use Rattle.h2_ref.specs.declared.reference.Ref.{Ref};
-ghost use Rattle.h2_set.specs.Forest.{IsSound, Walks, HasCause, KeepsBeside, LeavesOf};
+ghost use Rattle.h2_set.specs.Forest.{IsBad, IsSound, Walks, HasCause, KeepsBeside, LeavesOf};
 ghost use Rattle.h2_tree.specs.Changes.{LoadsIn, Lists, is_between};
 ghost use Rattle.h2_dirkey.specs.Key.{least_key};
 ghost use Rattle.h2_inode.specs.declared.inode.Inode.{Inode};
 ghost use Rattle.h2_inode.specs.Nodes.{held_by, HasInode};
-ghost use Rattle.h2_dir.specs.Names.{Scanned};
+ghost use Rattle.h2_dir.specs.Names.{AllNamed, Scanned};
 ghost use Rattle.h2_dir.specs.Finding.{last_key, MayLoad};
 
 use crate::naming::scan;
@@ -44,6 +44,7 @@ pub(crate) fn search<N: Nodes>(
     ensures err { IfErr result (HasCause (N.forest n.old) (N.forest n.new)) }
     ensures touched { LoadsIn (N.forest n.old) (N.forest n.new) dir.0 (least_key name.now) (last_key name.now) }
     ensures unread { IfErr result (MayLoad (N.forest n.old) (N.forest n.new) dir.0 name.now) }
+    ensures good { let f = N.forest n.old in IfErr result (λ e. (l : List Ref) → LeavesOf f dir.0 l → AllNamed f l → IsBad e → ⊥) }
     ensures beside { KeepsBeside (N.forest n.old) (N.forest n.new) (N.beside n.old) (N.beside n.new) }
     ensures later { N.later n.old n.new }
 {

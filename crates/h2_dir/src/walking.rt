@@ -1,8 +1,11 @@
-ghost use Rattle.std.specs.Prelude.{◌≡◌, true, drop, IfOk, IfErr, OnErr};
-ghost use Rattle.h2_set.specs.Forest.{IsSound, Walks, HasCause, Reaches, KeepsBeside};
+ghost use Rattle.std.specs.Prelude.{◌≡◌, ℕ, Bool, true, List, ◌∷◌, drop, IfOk, IfErr, OnErr};
+ghost use Rattle.h2_ref.specs.declared.reference.Ref.{Ref};
+ghost use Rattle.h2_set.specs.Forest.{IsBad, IsSound, Walks, HasCause, LeavesOf, Reaches, KeepsBeside};
 ghost use Rattle.h2_tree.specs.Changes.{LoadsIn, PathUnloaded};
 ghost use Rattle.h2_inode.specs.Nodes.{held_by, Visits};
 ghost use Rattle.h2_inode.specs.Loaded.{StandsAlike, view_of};
+ghost use Rattle.h2_dir.specs.Finding.{IsBadBlock};
+ghost use Rattle.h2_dir.specs.Knowing.{KnowsWay};
 ghost use Rattle.h2_dir.specs.Walking.{IsPfsRoot, LoadsStep, LoadsWalk, WalkEnds, StepEnds};
 
 use crate::fault::DirFault;
@@ -31,6 +34,7 @@ fn leaf_of<N: Nodes>(
     ensures tree { LoadsIn (N.forest n.old) (N.forest n.new) pfs.0 number number }
     ensures err { IfErr result (HasCause (N.forest n.old) (N.forest n.new)) }
     ensures unloaded { OnErr result (PathUnloaded (N.forest n.old) pfs.0 number) }
+    ensures good { let f = N.forest n.old in IfErr result (λ e. (l : List Ref) → LeavesOf f pfs.0 l → IsBad e → ⊥) }
     ensures beside { KeepsBeside (N.forest n.old) (N.forest n.new) (N.beside n.old) (N.beside n.new) }
     ensures later { N.later n.old n.new }
 {
@@ -50,6 +54,8 @@ fn step<N: Nodes>(
     ensures visits { Visits (N.forest n.old) (N.forest n.new) }
     ensures ends { StepEnds (N.forest n.old) (N.forest n.new) (held_by N.fields (N.beside n.new)) pfs.0 number name.now result }
     ensures loads { LoadsStep (N.forest n.old) (N.forest n.new) (held_by N.fields (N.beside n.new)) pfs.0 number name.now }
+    ensures good { (may : ℕ → ℕ → Bool) (l : List Ref) (names : List (List ℕ)) → LeavesOf (N.forest n.old) pfs.0 l → KnowsWay (view_of N.fields (N.forest n.old) (N.beside n.old) (N.told n.old)) may pfs.0 l number (name.now ∷ names) → IfErr result (λ e. IsBadBlock e → ⊥) }
+    ensures onward { (may : ℕ → ℕ → Bool) (l : List Ref) (names : List (List ℕ)) → LeavesOf (N.forest n.old) pfs.0 l → KnowsWay (view_of N.fields (N.forest n.old) (N.beside n.old) (N.told n.old)) may pfs.0 l number (name.now ∷ names) → IfOk result (λ next. KnowsWay (view_of N.fields (N.forest n.new) (N.beside n.new) (N.told n.new)) may pfs.0 l next names) }
     ensures alike { StandsAlike (view_of N.fields (N.forest n.old) (N.beside n.old) (N.told n.old)) (view_of N.fields (N.forest n.new) (N.beside n.new) (N.told n.new)) }
     ensures beside { KeepsBeside (N.forest n.old) (N.forest n.new) (N.beside n.old) (N.beside n.new) }
     ensures later { N.later n.old n.new }
@@ -79,6 +85,7 @@ fn walk_on<N: Nodes>(
     ensures visits { Visits (N.forest n.old) (N.forest n.new) }
     ensures ends { WalkEnds (N.forest n.old) (N.forest n.new) (held_by N.fields (N.beside n.new)) pfs.0 number (drop i names.now) result }
     ensures loads { LoadsWalk (N.forest n.old) (N.forest n.new) (held_by N.fields (N.beside n.new)) pfs.0 number (drop i names.now) }
+    ensures good { (may : ℕ → ℕ → Bool) (l : List Ref) → LeavesOf (N.forest n.old) pfs.0 l → KnowsWay (view_of N.fields (N.forest n.old) (N.beside n.old) (N.told n.old)) may pfs.0 l number (drop i names.now) → IfErr result (λ e. IsBadBlock e → ⊥) }
     ensures alike { StandsAlike (view_of N.fields (N.forest n.old) (N.beside n.old) (N.told n.old)) (view_of N.fields (N.forest n.new) (N.beside n.new) (N.told n.new)) }
     ensures beside { KeepsBeside (N.forest n.old) (N.forest n.new) (N.beside n.old) (N.beside n.new) }
     ensures later { N.later n.old n.new }
@@ -97,7 +104,8 @@ fn walk_on<N: Nodes>(
 /// Names are looked up from left to right: NoEntry exactly where one is missing in its directory, NotDir exactly where
 /// one is looked up in what isn't a directory: in a file, or in a number that the PFS has no inode of, which no sound
 /// volume has. Never Exists. Trouble only where a node on the path of a number, an inode on the way or a node that a
-/// search for a name needs isn't loaded, or a name of more than 64 bytes was to be read, or for want of memory.
+/// search for a name needs isn't loaded, or a name of more than 64 bytes was to be read, or for want of memory; never a
+/// bad block where the leaves of the PFS are known, and all inodes and directories on the way.
 ///
 /// Nothing but loads takes place, whatever is answered, and all trees stand for what they stood for. No node is loaded
 /// but those on the paths of the numbers on the way, the roots of the inodes with these numbers, and in a directory on
@@ -108,6 +116,7 @@ pub fn walk<N: Nodes>(alloc: Global, n: &mut N, pfs: NodeId, names: &Names) -> R
     ensures visits { Visits (N.forest n.old) (N.forest n.new) }
     ensures ends { WalkEnds (N.forest n.old) (N.forest n.new) (held_by N.fields (N.beside n.new)) pfs.0 1 names.now result }
     ensures loads { LoadsWalk (N.forest n.old) (N.forest n.new) (held_by N.fields (N.beside n.new)) pfs.0 1 names.now }
+    ensures good { (may : ℕ → ℕ → Bool) (l : List Ref) → LeavesOf (N.forest n.old) pfs.0 l → KnowsWay (view_of N.fields (N.forest n.old) (N.beside n.old) (N.told n.old)) may pfs.0 l 1 names.now → IfErr result (λ e. IsBadBlock e → ⊥) }
     ensures alike { StandsAlike (view_of N.fields (N.forest n.old) (N.beside n.old) (N.told n.old)) (view_of N.fields (N.forest n.new) (N.beside n.new) (N.told n.new)) }
     ensures beside { KeepsBeside (N.forest n.old) (N.forest n.new) (N.beside n.old) (N.beside n.new) }
     ensures later { N.later n.old n.new }

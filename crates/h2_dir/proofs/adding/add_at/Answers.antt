@@ -1,9 +1,6 @@
 use Rattle.std.proofs.Common.{◌≡◌, ◌+◌, None, Some, sym, subst, ap, ◌∙◌, arith, false, refl}
 use Rattle.std.specs.Prelude.{Option}
-use Rattle.h2_num.specs.declared.block.Block.{Block}
-use Rattle.h2_ref.specs.declared.reference.Check.{Check}
 use Rattle.h2_ref.specs.declared.reference.Ref.{Ref}
-use Rattle.h2_ref.specs.Ref.{IsValid}
 use Rattle.h2_set.specs.Ranges.{put, holds, find}
 use Rattle.h2_set.specs.Forest.{Reaches, LeavesOf}
 use Rattle.h2_set.specs.LeafLaws.{reaches_find}
@@ -11,13 +8,14 @@ use Rattle.h2_tree.specs.Changes.{Takes}
 use Rattle.h2_inode.specs.declared.inode.Inode.{Inode}
 use Rattle.h2_inode.specs.declared.kind.InodeKind.TheVariants.{Directory, Pfs}
 use Rattle.h2_inode.specs.Nodes.{Fields, held_by, HasInode}
-use Rattle.h2_dir.specs.Changing.{entry_ref, with_entries, Adds}
-use Rattle.h2_dir.proofs.Leaf.{takes_entry, ref_kind, short_name}
+use Rattle.h2_dir.specs.Changing.{HasBlockIfLong, entry_ref, with_entries, Adds}
+use Rattle.h2_dir.proofs.Leaf.{takes_entry, ref_kind}
 use Rattle.h2_dir.proofs.Growing.{same_but_set, writable_in, beside_on}
 use Rattle.h2_dir.proofs.Resized.{root_leaves, root_path, same_fields, regrown}
 use Rattle.h2_dir.proofs.Renewed.{keeps_tree, renews_tree}
 use Rattle.h2_dir.proofs.Others.{inserted_renews, inserted_exact}
 use Rattle.h2_dir.proofs.Entries.{tree_rising, tells_later, new_entry, entries_same, entries_more}
+use Rattle.h2_dir.specs.RootLaws.{added_roots, added_place, added_one}
 use Rattle.h2_dir.proofs.adding.add_at.Goals as goal
 
 pub inode-requires : goal.inode-requires
@@ -27,9 +25,7 @@ pub entry_ref-leaf-requires-clause-few : goal.entry_ref-leaf-requires-clause-few
 entry_ref-leaf-requires-clause-few g c = c.requires.under.good.few
 
 pub entry_ref-leaf-requires-clause-short : goal.entry_ref-leaf-requires-clause-short
-entry_ref-leaf-requires-clause-short g c none =
-    let f = g.N.Sets.forest c.args.n.now in
-    short_name f.epoch c.args.key c.args.name.now c.args.number c.args.target (subst (λ (b : Option (Block × Check)). IsValid (entry_ref f.epoch c.args.key c.args.name.now b c.args.number c.args.target)) none c.requires.valid)
+entry_ref-leaf-requires-clause-short g c none = subst (HasBlockIfLong c.args.name.now) none c.requires.block
 
 pub put_in-requires-clause-takes : goal.put_in-requires-clause-takes
 put_in-requires-clause-takes g c =
@@ -118,8 +114,10 @@ returns-clause-others g c m i has not ne =
     let ins = c.put_in.ensures.inserts in
     let dir = c.args.dir.0 in
     let leaf = c.entry_ref-leaf.result in
+    let now = g.N.Sets.forest c.resize.new.n in
+    let adds : Adds f now dir leaf = record { between = h; inserts = ins; paths = c.put_in.ensures.paths; path = c.put_in.ensures.path; resizes = c.resize.ensures.replaces } in
     let kept = beside_on _ _ _ _ _ _ _ (λ m old new. c.resize.ensures.replaces.none_new m new) c.put_in.ensures.beside c.resize.ensures.beside in
-    keeps_tree f h (g.N.Sets.forest c.resize.new.n) dir c.requires.sound ins.sound ins.place d.has.root (inserted_renews f h dir leaf c.requires.sound d.has.stands d.has.root ins) (inserted_exact f h dir leaf c.requires.sound d.has.stands d.has.root ins) ins.fixed c.resize.ensures.replaces _ _ m i has not ne
+    keeps_tree f h now dir c.requires.sound ins.sound ins.place d.has.root (inserted_renews f h dir leaf c.requires.sound d.has.stands d.has.root ins) (inserted_exact f h dir leaf c.requires.sound d.has.stands d.has.root ins) ins.fixed c.resize.ensures.replaces (added_roots f now dir leaf c.requires.sound d.has.stands adds) (added_place f now dir leaf c.requires.sound d.has.stands adds) _ _ _ _ m i has not ne
     (λ stands. ap g.N.Nodes.fields (kept.same m ne has.stands stands))
 
 pub returns-clause-above : goal.returns-clause-above
@@ -130,8 +128,10 @@ returns-clause-above g c m stands root ne =
     let ins = c.put_in.ensures.inserts in
     let dir = c.args.dir.0 in
     let leaf = c.entry_ref-leaf.result in
+    let now = g.N.Sets.forest c.resize.new.n in
+    let adds : Adds f now dir leaf = record { between = h; inserts = ins; paths = c.put_in.ensures.paths; path = c.put_in.ensures.path; resizes = c.resize.ensures.replaces } in
     let kept = beside_on _ _ _ _ _ _ _ (λ m old new. c.resize.ensures.replaces.none_new m new) c.put_in.ensures.beside c.resize.ensures.beside in
-    renews_tree f h (g.N.Sets.forest c.resize.new.n) dir c.requires.sound ins.sound ins.place d.has.root (inserted_renews f h dir leaf c.requires.sound d.has.stands d.has.root ins) (inserted_exact f h dir leaf c.requires.sound d.has.stands d.has.root ins) ins.fixed c.resize.ensures.replaces _ _ m stands root ne
+    renews_tree f h now dir c.requires.sound ins.sound ins.place d.has.root (inserted_renews f h dir leaf c.requires.sound d.has.stands d.has.root ins) (inserted_exact f h dir leaf c.requires.sound d.has.stands d.has.root ins) ins.fixed c.resize.ensures.replaces (added_roots f now dir leaf c.requires.sound d.has.stands adds) (added_place f now dir leaf c.requires.sound d.has.stands adds) _ _ _ _ m stands root ne
     (λ now. ap g.N.Nodes.fields (kept.same m ne stands now))
 
 pub returns-clause-later : goal.returns-clause-later
@@ -150,7 +150,7 @@ returns-clause-entries g c may size entries h none fits tells =
     let free : find r.key h.leaves ≡ None = ap (λ k. find k h.leaves) own ∙ sym (reaches_find c.requires.sound c.requires.free d.has.stands h.leaves h.has.read) in
     let leaves : LeavesOf now dir (put r h.leaves) = returns-clause-leaves g c h.leaves h.has.read in
     let rising = tree_rising now dir (put r h.leaves) c.resize.ensures.replaces.sound c.resize.ensures.replaces.place.stands leaves in
-    let one = new_entry now (held_by g.N.Nodes.fields (g.N.Sets.beside c.resize.new.n)) (g.N.Nodes.told c.resize.new.n) may dir f.epoch c.args.key c.args.name.now c.args.block c.args.number c.args.target c.requires.valid c.requires.under fits (tells_later f now r c.args.name.now c.args.block names tells) in
+    let one = new_entry now (held_by g.N.Nodes.fields (g.N.Sets.beside c.resize.new.n)) (g.N.Nodes.told c.resize.new.n) may dir f.epoch c.args.key c.args.name.now c.args.block c.args.number c.args.target c.requires.block c.requires.under fits (tells_later f now r c.args.name.now c.args.block names tells) in
     entries_more f now _ _ _ _ may dir size entries h names r c.args.name.now c.args.number one free none leaves rising
 
 pub returns-clause-other_entries : goal.returns-clause-other_entries
@@ -165,3 +165,6 @@ returns-clause-spends g c =
     let change = c.put_in.ensures.inserts in
     let resizes = c.resize.ensures.replaces in
     (omega (arith, change.room, resizes.room), omega (arith, change.spare, resizes.spare))
+
+pub returns-clause-one : goal.returns-clause-one
+returns-clause-one g c = added_one _ _ c.args.dir.0 _ c.requires.sound c.requires.directory.has.stands (returns-clause-adds g c)

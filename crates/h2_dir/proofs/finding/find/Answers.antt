@@ -1,10 +1,13 @@
-use Rattle.std.proofs.Common.{◌≡◌, ℕ, List, Some, sym, subst}
+use Rattle.std.proofs.Common.{◌≡◌, ℕ, List, Some, sym, subst, rules}
 use Rattle.std.specs.Prelude.{slice_get, Option}
 use Rattle.h2_ref.specs.declared.reference.Ref.{Ref}
 use Rattle.h2_set.specs.StayLaws.{Walks-refl}
 use Rattle.h2_dirkey.specs.NameLaws.{no_fault}
 use Rattle.h2_dir.specs.Names.{Scanned, NoneNamed, IsPlaceOfName}
 use Rattle.h2_dir.specs.Agreeing.{found_between, missing_between, missing_agrees}
+use Rattle.h2_dir.specs.declared.fault.DirFault.TheVariants as fault
+use Rattle.h2_dir.specs.Finding.{IsBadBlock}
+use Rattle.h2_dir.proofs.Known.{entries_named}
 use Rattle.h2_dir.proofs.Searched.{found_there, missing_there, scanned_stays, loads_none}
 use Rattle.h2_dir.proofs.finding.find.Goals as goal
 
@@ -68,3 +71,8 @@ returns-in-Some-clause-none g c i h not = absurd (not ((c.is_directory.ensures i
 
 pub returns-clause-none : goal.returns-clause-none
 returns-clause-none g c i h not = absurd (not ((c.is_directory.ensures i h).0 c.if-not-is_directory.false))
+
+pub returns-in_err-candidates-clause-good : goal.returns-in_err-candidates-clause-good
+returns-in_err-candidates-clause-good g c may size entries h =
+    let good : IsBadBlock (fault.Trouble c.in_err-candidates.field-0.0) → ⊥ = c.in_err-candidates.ensures.good h.leaves h.has.read (entries_named _ _ _ _ _ _ _ h) in
+    search (good, rules)

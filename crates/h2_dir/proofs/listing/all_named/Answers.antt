@@ -2,6 +2,9 @@ use Rattle.std.proofs.Common.{◌≡◌, sym, arith, length, rules}
 use Rattle.std.specs.Prelude.{◌⊎◌}
 use Rattle.h2_ref.specs.declared.faults.Trouble.TheVariants.{NoMemory}
 use Rattle.h2_dir.specs.Listing.{AnyLongName}
+use Rattle.h2_set.specs.Forest.{IsBad}
+use Rattle.h2_dir.specs.Names.{AllNamed}
+use Rattle.h2_dir.proofs.Known.{named_at}
 use Rattle.h2_dir.proofs.Told.{any_long}
 use Rattle.h2_dir.proofs.Unchanging.{unchanged_trans, beside_unchanged}
 use Rattle.h2_dir.proofs.Listed.{each_more, each_all, says_stays}
@@ -33,3 +36,9 @@ pub returns-in_err-named-clause-unread : goal.returns-in_err-named-clause-unread
 returns-in_err-named-clause-unread g c =
     let long : (c.in_err-named.field-0.0 ≡ NoMemory) ⊎ AnyLongName c.args.leaves.now = any_long _ _ _ _ c.loop-i-test.true c.in_err-named.ensures.unread in
     search (long, rules)
+
+pub returns-in_err-named-clause-good : goal.returns-in_err-named-clause-good
+returns-in_err-named-clause-good g c =
+    let f = g.N.Sets.forest c.args.n.now in
+    let good : AllNamed f c.args.leaves.now → IsBad c.in_err-named.field-0.0 → ⊥ = λ all bad. let own = named_at f _ _ _ _ c.loop-i.invariant.same.fixed.name c.loop-i-test.true all in c.in_err-named.ensures.good own.0 own.1 bad in
+    search (good, rules)

@@ -7,7 +7,10 @@ use Rattle.h2_inode.specs.VisitLaws.{walks_visit, visits_inode}
 use Rattle.h2_inode.specs.Access.{OneByOne}
 use Rattle.h2_dir.specs.Listing.{IsEntryLeaf, SaysEntry, AnyLongName, ListMayLoad, ListFails}
 use Rattle.h2_dir.specs.declared.fault.DirFault.TheVariants as fault
-use Rattle.h2_set.specs.Forest.{HasCause}
+use Rattle.h2_set.specs.Forest.{HasCause, IsBad}
+use Rattle.h2_dir.specs.Names.{AllNamed}
+use Rattle.h2_dir.specs.Finding.{IsBadBlock}
+use Rattle.h2_dir.proofs.Known.{named_kept, entries_named}
 use Rattle.h2_dir.proofs.Walked.{cause_earlier}
 use Rattle.h2_dir.proofs.Listed.{entry_leaves, each_stays}
 use Rattle.h2_dir.proofs.Paths.{lists_same}
@@ -84,3 +87,18 @@ returns-clause-touched g c = loads_same _ _ _ _ _ _ c.in_ok-leaves.ensures.tree 
 
 pub returns-then-not-is_directory-clause-touched : goal.returns-then-not-is_directory-clause-touched
 returns-then-not-is_directory-clause-touched g c = loads_none _ _ _ _
+
+pub returns-in_err-leaves-clause-good : goal.returns-in_err-leaves-clause-good
+returns-in_err-leaves-clause-good g c may size es h =
+    let good : IsBadBlock (fault.Trouble c.in_err-leaves.field-0.0) → ⊥ = c.in_err-leaves.ensures.good h.leaves h.has.read in
+    search (good, rules)
+
+pub returns-in_err-all-clause-good : goal.returns-in_err-all-clause-good
+returns-in_err-all-clause-good g c may size es h =
+    let f = g.N.Sets.forest c.args.n.now in
+    let middle = g.N.Sets.forest c.range.new.n in
+    let items = c.in_ok-leaves.leaves.items in
+    let e = c.in_err-all.field-0.0 in
+    let named = named_kept f middle _ h.leaves items c.in_ok-leaves.ensures.walks.fixed.name (c.in_ok-leaves.ensures.found h.leaves h.has.read) (entries_named _ _ _ _ _ _ _ h) in
+    let good : IsBadBlock (fault.Trouble e) → ⊥ = subst (λ (xs : List Ref). AllNamed middle xs → IsBad e → ⊥) c.deref.ensures.value c.in_err-all.ensures.good named in
+    search (good, rules)

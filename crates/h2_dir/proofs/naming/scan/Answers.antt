@@ -1,6 +1,9 @@
-use Rattle.std.proofs.Common.{◌<◌, ◌≤◌, length, arith}
+use Rattle.std.proofs.Common.{◌<◌, ◌≤◌, length, arith, rules}
 use Rattle.std.proofs.lemmas.Option.{slice_get_within}
 use Rattle.h2_dir.proofs.Unchanging.{unchanged_trans, beside_unchanged}
+use Rattle.h2_set.specs.Forest.{IsBad}
+use Rattle.h2_dir.specs.Names.{AllNamed}
+use Rattle.h2_dir.proofs.Known.{named_at}
 use Rattle.h2_dir.proofs.Scanning.{place_found, none_more}
 use Rattle.h2_dir.proofs.naming.scan.Goals as goal
 
@@ -29,3 +32,9 @@ returns-clause-scanned g c i leaf read named =
     let within : i < length c.args.leaves.now = slice_get_within _ _ _ read in
     let end : length c.args.leaves.now ≤ c.loop-i.i = c.loop-i-test.false in
     c.loop-i.invariant.none i leaf (omega arith) read named
+
+pub returns-in_err-has_name-clause-good : goal.returns-in_err-has_name-clause-good
+returns-in_err-has_name-clause-good g c =
+    let f = g.N.Sets.forest c.args.n.now in
+    let good : AllNamed f c.args.leaves.now → IsBad c.in_err-has_name.field-0.0 → ⊥ = λ all bad. let own = named_at f _ _ _ _ c.loop-i.invariant.same.fixed.name c.loop-i-test.true all in c.in_err-has_name.ensures.good own.0 own.1 bad in
+    search (good, rules)

@@ -1,4 +1,4 @@
-use Rattle.std.proofs.Common.{ℕ, List, subst}
+use Rattle.std.proofs.Common.{ℕ, List, subst, rules}
 use Rattle.std.specs.Prelude.{Option, map}
 use Rattle.h2_ref.specs.declared.reference.Ref.{Ref}
 use Rattle.h2_set.specs.StayLaws.{Walks-refl}
@@ -7,6 +7,9 @@ use Rattle.h2_dirkey.specs.Key.{IsPicked}
 use Rattle.h2_dirkey.specs.NameLaws.{no_fault}
 use Rattle.h2_dir.specs.Names.{Scanned, NoneNamed, IsPlaceOfName}
 use Rattle.h2_dir.specs.Agreeing.{found_between, missing_between}
+use Rattle.h2_dir.specs.declared.fault.DirFault.TheVariants as fault
+use Rattle.h2_dir.specs.Finding.{IsBadBlock}
+use Rattle.h2_dir.proofs.Known.{entries_named}
 use Rattle.h2_dir.proofs.Searched.{scanned_stays, loads_none}
 use Rattle.h2_dir.proofs.Spotting.{spot_there, taken_there, is_some}
 use Rattle.h2_dir.proofs.placing.spot.Goals as goal
@@ -55,3 +58,8 @@ returns-in-Ok-free_key-clause-agrees g c may size entries h =
 
 pub returns-then-not-is_directory-clause-touched : goal.returns-then-not-is_directory-clause-touched
 returns-then-not-is_directory-clause-touched g c = loads_none _ _ _ _
+
+pub returns-in_err-candidates-clause-good : goal.returns-in_err-candidates-clause-good
+returns-in_err-candidates-clause-good g c may size entries h =
+    let good : IsBadBlock (fault.Trouble c.in_err-candidates.field-0.0) → ⊥ = c.in_err-candidates.ensures.good h.leaves h.has.read (entries_named _ _ _ _ _ _ _ h) in
+    search (good, rules)

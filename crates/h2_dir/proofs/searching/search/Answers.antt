@@ -1,5 +1,6 @@
 use Rattle.std.proofs.Common.{◌≡◌, ◌+◌, sym, subst, List, rules}
 use Rattle.std.specs.Prelude.{All, ◌⊎◌}
+use Rattle.h2_ref.specs.declared.faults.Trouble.{Trouble}
 use Rattle.h2_ref.specs.declared.faults.Trouble.TheVariants.{NoMemory}
 use Rattle.h2_ref.specs.declared.reference.Ref.{Ref}
 use Rattle.h2_ref.specs.Ref.{IsValid}
@@ -7,7 +8,9 @@ use Rattle.h2_set.specs.StayLaws.{Walks-trans, Unchanged-walks}
 use Rattle.h2_tree.specs.Changes.{LoadsIn, Lists}
 use Rattle.h2_inode.specs.VisitLaws.{walks_visit, visits_inode}
 use Rattle.h2_dir.proofs.Paths.{lists_valid, lists_same}
-use Rattle.h2_dir.specs.Names.{AnyLongCandidate}
+use Rattle.h2_set.specs.Forest.{IsBad, LeavesOf}
+use Rattle.h2_dir.specs.Names.{AllNamed, AnyLongCandidate}
+use Rattle.h2_dir.proofs.Known.{carried_err, no_bad_search}
 use Rattle.h2_dir.specs.Finding.{MayLoad}
 use Rattle.h2_dir.proofs.Unchanging.{beside_walks}
 use Rattle.h2_dir.proofs.Searched.{loads_same, scanned_stays, candidate_loads}
@@ -67,3 +70,16 @@ returns-in_err-place-clause-unread g c =
 
 pub returns-clause-beside : goal.returns-clause-beside
 returns-clause-beside g c = beside_walks _ _ _ _ _ _ c.in_ok-leaves.ensures.walks c.in_ok-leaves.ensures.beside c.in_ok-place.ensures.beside
+
+pub returns-in_err-leaves-clause-good : goal.returns-in_err-leaves-clause-good
+returns-in_err-leaves-clause-good g c =
+    let f = g.N.Sets.forest c.args.n.now in
+    let good : (l : List Ref) → LeavesOf f c.args.dir.0 l → AllNamed f l → IsBad c.in_err-leaves.field-0.0 → ⊥ = λ l has named. c.in_err-leaves.ensures.good l has in
+    search (good, rules)
+
+pub returns-in_err-place-clause-good : goal.returns-in_err-place-clause-good
+returns-in_err-place-clause-good g c =
+    let f = g.N.Sets.forest c.args.n.now in
+    let Good : Trouble → Type 0 = λ e. (l : List Ref) → LeavesOf f c.args.dir.0 l → AllNamed f l → IsBad e → ⊥ in
+    carried_err Good c.from_residual-in_err-place.result c.in_err-place.field-0.0 c.from_residual-in_err-place.ensures.1
+    (no_bad_search f (g.N.Sets.forest c.range.new.n) _ c.in_ok-leaves.leaves.items _ c.args.dir.0 c.in_err-place.field-0.0 c.in_ok-leaves.ensures.walks.fixed.name c.deref.ensures.value c.in_ok-leaves.ensures.found c.in_err-place.ensures.good)

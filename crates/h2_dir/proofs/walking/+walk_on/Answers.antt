@@ -4,8 +4,9 @@ use Rattle.h2_inode.specs.Nodes.{held_by}
 use Rattle.h2_inode.specs.VisitLaws.{visits_trans}
 use Rattle.h2_dir.specs.Walking.{Leads, arrived, WalkEnds, LoadsWalk}
 use Rattle.h2_dir.proofs.Unchanging.{beside_visits, visits_refl}
-use Rattle.h2_inode.specs.Loaded.{as_before}
-use Rattle.h2_inode.specs.LoadedLaws.{alike_trans}
+use Rattle.h2_inode.specs.Loaded.{as_before, view_of}
+use Rattle.h2_inode.specs.LoadedLaws.{alike_trans, alike_leaves}
+use Rattle.h2_dir.specs.Knowing.{KnowsWay}
 use Rattle.h2_dir.proofs.Loading.{no_loads, step_alone, steps_load}
 use Rattle.h2_dir.proofs.Walked.{pfs_stays, names_at, names_end, ends_err, ends_on}
 use Rattle.h2_dir.proofs.walking.+walk_on.Goals as goal
@@ -73,3 +74,20 @@ returns-in-Ok-clause-loads g t c =
 
 pub returns-in-Ok-clause-alike : goal.returns-in-Ok-clause-alike
 returns-in-Ok-clause-alike g t c = alike_trans c.in-Ok.ensures.alike c.walk_on.ensures.alike
+
+-- what is known on the way
+
+pub returns-in-Err-clause-good : goal.returns-in-Err-clause-good
+returns-in-Err-clause-good g t c may l has way =
+    let name = c.as_slice.result.now in
+    let at : drop c.args.i c.args.names.now ≡ name ∷ drop (c.args.i + 1) c.args.names.now = names_at c.args.names.now c.args.i name c.if-i-names.false (subst (λ (x : List ℕ). get_or c.args.names.now c.args.i x ≡ x) (sym c.as_slice.ensures) (sym c.index-names-i.is)) in
+    let known = subst (λ (xs : List (List ℕ)). KnowsWay (view_of g.N.Nodes.fields (g.N.Sets.forest c.args.n.now) (g.N.Sets.beside c.args.n.now) (g.N.Nodes.told c.args.n.now)) may c.args.pfs.0 l c.args.number xs) at way in
+    c.in-Err.ensures.good may l (drop (c.args.i + 1) c.args.names.now) has known
+
+pub returns-in-Ok-clause-good : goal.returns-in-Ok-clause-good
+returns-in-Ok-clause-good g t c may l has way =
+    let name = c.as_slice.result.now in
+    let at : drop c.args.i c.args.names.now ≡ name ∷ drop (c.args.i + 1) c.args.names.now = names_at c.args.names.now c.args.i name c.if-i-names.false (subst (λ (x : List ℕ). get_or c.args.names.now c.args.i x ≡ x) (sym c.as_slice.ensures) (sym c.index-names-i.is)) in
+    let known = subst (λ (xs : List (List ℕ)). KnowsWay (view_of g.N.Nodes.fields (g.N.Sets.forest c.args.n.now) (g.N.Sets.beside c.args.n.now) (g.N.Nodes.told c.args.n.now)) may c.args.pfs.0 l c.args.number xs) at way in
+    let step = c.in-Ok.ensures in
+    c.walk_on.ensures.good may l (alike_leaves step.alike c.args.pfs.0 c.requires.pfs.has.stands l has) (step.onward may l (drop (c.args.i + 1) c.args.names.now) has known)

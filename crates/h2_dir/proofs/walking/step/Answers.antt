@@ -1,12 +1,14 @@
-use Rattle.std.proofs.Common.{Some, Err, subst, Option, inl, inr}
+use Rattle.std.proofs.Common.{◌∷◌, Some, Err, subst, sym, Option, inl, inr}
 use Rattle.h2_ref.specs.declared.reference.Ref.{Ref}
 use Rattle.h2_set.specs.Forest.{Reaches}
 use Rattle.h2_inode.specs.Nodes.{held_by, IsNamed, IsUnloaded, Seeks}
 use Rattle.h2_inode.specs.VisitLaws.{walks_visit, seeks_visit, unchanged_visits, visits_trans, visits_leaf}
 use Rattle.h2_dir.specs.declared.fault.DirFault.TheVariants as fault
 use Rattle.h2_dir.specs.Walking.{IsMember, StepEnds, LoadsStep, by_inode}
-use Rattle.h2_inode.specs.Loaded.{StandsAlike, view_of}
-use Rattle.h2_inode.specs.LoadedLaws.{alike_trans}
+use Rattle.h2_inode.specs.Loaded.{View, StandsAlike, view_of}
+use Rattle.h2_inode.specs.LoadedLaws.{alike_trans, walks_reread, seeks_reread, beside_holds}
+use Rattle.h2_dir.specs.Knowing.{KnowsWay}
+use Rattle.h2_dir.proofs.Way.{way_alike, way_block, way_found, way_next, good_trouble}
 use Rattle.h2_dir.proofs.Unchanging.{beside_visits}
 use Rattle.h2_dir.proofs.Searched.{loads_same}
 use Rattle.h2_dir.proofs.Alike.{walks_alike, unchanged_alike, seeks_alike}
@@ -213,3 +215,60 @@ returns-in-Err-clause-loads g c =
     let sought = subst (λ n. Seeks h k c.args.pfs.0 n c.in_ok-dir.dir.0) there.1 seeks in
     let second = inode_loads g.N.Nodes.fields f h k _ _ c.args.pfs.0 c.args.number c.in_ok-dir.dir.0 inode c.args.name.now walks.sound c.in_ok-dir.ensures.beside (seeks_visit _ _ _ _ _ seeks) sought member first in
     failed_loads g.N.Nodes.fields f k (g.N.Sets.forest c.find.new.n) _ _ c.args.pfs.0 c.args.number c.in_ok-dir.dir.0 inode c.args.name.now seeks.brings.sound (walks_visit _ _ c.in-Err.ensures.walks) c.in-Err.ensures.beside member c.in-Err.ensures.touched second c.in-Err.fault (c.in-Err.ensures.err inode has) (c.in-Err.ensures.none inode has)
+
+-- what is known on the way
+
+pub returns-in_err-found-clause-good : goal.returns-in_err-found-clause-good
+returns-in_err-found-clause-good g c may l names has way = good_trouble c.in_err-found.field-0.0 c.from_residual.result c.from_residual.ensures.1 (c.in_err-found.ensures.good l has)
+
+pub returns-in_err-dir-clause-good : goal.returns-in_err-dir-clause-good
+returns-in_err-dir-clause-good g c may l names has way =
+    let f = g.N.Sets.forest c.args.n.now in
+    let h = g.N.Sets.forest c.leaf_of.new.n in
+    let walks = c.in_ok-found.ensures.walks in
+    let root = pfs_stays g.N.Nodes.fields f h _ _ c.args.pfs.0 (walks_visit f h walks) c.in_ok-found.ensures.beside c.requires.pfs in
+    let path : Reaches h c.args.number c.args.pfs.0 (Some c.in-Some.leaf) = subst (λ (o : Option Ref). Reaches h c.args.number c.args.pfs.0 o) c.in-Some.is c.in_ok-found.ensures.path in
+    let there = pfs_leaf h _ c.args.pfs.0 c.args.number c.in-Some.leaf walks.sound root path in
+    let u : View = view_of g.N.Nodes.fields f (g.N.Sets.beside c.args.n.now) (g.N.Nodes.told c.args.n.now) in
+    let w : View = view_of g.N.Nodes.fields h (g.N.Sets.beside c.leaf_of.new.n) (g.N.Nodes.told c.leaf_of.new.n) in
+    let first = walks_reread u w c.requires.sound walks (beside_holds g.N.Nodes.fields f h _ _ (g.N.Nodes.told c.args.n.now) (g.N.Nodes.told c.leaf_of.new.n) c.in_ok-found.ensures.beside) (g.met.N.Nodes.told_later _ _ c.in_ok-found.ensures.later) in
+    let known = subst (λ n. KnowsWay u may c.args.pfs.0 l n (c.args.name.now ∷ names)) (sym there.1) way in
+    let good = way_block u w first may c.args.pfs.0 l c.in-Some.leaf c.args.name.now names c.requires.pfs.has.stands has (there.0).path c.in_err-dir.field-0.0 known c.in_err-dir.ensures.unloaded c.in_err-dir.ensures.good in
+    good_trouble c.in_err-dir.field-0.0 c.from_residual-in_err-dir.result c.from_residual-in_err-dir.ensures.1 good
+
+pub returns-in-Err-clause-good : goal.returns-in-Err-clause-good
+returns-in-Err-clause-good g c may l names has way =
+    let f = g.N.Sets.forest c.args.n.now in
+    let h = g.N.Sets.forest c.leaf_of.new.n in
+    let k = g.N.Sets.forest c.seek.new.self in
+    let walks = c.in_ok-found.ensures.walks in
+    let root = pfs_stays g.N.Nodes.fields f h _ _ c.args.pfs.0 (walks_visit f h walks) c.in_ok-found.ensures.beside c.requires.pfs in
+    let path : Reaches h c.args.number c.args.pfs.0 (Some c.in-Some.leaf) = subst (λ (o : Option Ref). Reaches h c.args.number c.args.pfs.0 o) c.in-Some.is c.in_ok-found.ensures.path in
+    let there = pfs_leaf h _ c.args.pfs.0 c.args.number c.in-Some.leaf walks.sound root path in
+    let u : View = view_of g.N.Nodes.fields f (g.N.Sets.beside c.args.n.now) (g.N.Nodes.told c.args.n.now) in
+    let w : View = view_of g.N.Nodes.fields h (g.N.Sets.beside c.leaf_of.new.n) (g.N.Nodes.told c.leaf_of.new.n) in
+    let first = walks_reread u w c.requires.sound walks (beside_holds g.N.Nodes.fields f h _ _ (g.N.Nodes.told c.args.n.now) (g.N.Nodes.told c.leaf_of.new.n) c.in_ok-found.ensures.beside) (g.met.N.Nodes.told_later _ _ c.in_ok-found.ensures.later) in
+    let known = subst (λ n. KnowsWay u may c.args.pfs.0 l n (c.args.name.now ∷ names)) (sym there.1) way in
+    let v : View = view_of g.N.Nodes.fields k (g.N.Sets.beside c.seek.new.self) (g.N.Nodes.told c.seek.new.self) in
+    let seeks = c.in_ok-dir.ensures.ok in
+    let second = seeks_reread w v c.args.pfs.0 c.in_ok-dir.dir.0 c.in-Some.leaf walks.sound there.0 seeks (beside_holds g.N.Nodes.fields h k _ _ (g.N.Nodes.told c.leaf_of.new.n) (g.N.Nodes.told c.seek.new.self) c.in_ok-dir.ensures.beside) (g.met.N.Nodes.told_later _ _ c.in_ok-dir.ensures.later) c.in_ok-dir.ensures.told in
+    way_found u w first may c.args.pfs.0 l c.in-Some.leaf c.args.name.now names c.requires.pfs.has.stands has (there.0).path v second c.in_ok-dir.dir.0 seeks (g.N.Sets.forest c.find.new.n) c.in-Err.fault c.in-Err.ensures.err (c.in-Err.ensures.good may) known
+
+pub returns-in-Ok-clause-onward : goal.returns-in-Ok-clause-onward
+returns-in-Ok-clause-onward g c may l names has way =
+    let f = g.N.Sets.forest c.args.n.now in
+    let h = g.N.Sets.forest c.leaf_of.new.n in
+    let k = g.N.Sets.forest c.seek.new.self in
+    let walks = c.in_ok-found.ensures.walks in
+    let root = pfs_stays g.N.Nodes.fields f h _ _ c.args.pfs.0 (walks_visit f h walks) c.in_ok-found.ensures.beside c.requires.pfs in
+    let path : Reaches h c.args.number c.args.pfs.0 (Some c.in-Some.leaf) = subst (λ (o : Option Ref). Reaches h c.args.number c.args.pfs.0 o) c.in-Some.is c.in_ok-found.ensures.path in
+    let there = pfs_leaf h _ c.args.pfs.0 c.args.number c.in-Some.leaf walks.sound root path in
+    let u : View = view_of g.N.Nodes.fields f (g.N.Sets.beside c.args.n.now) (g.N.Nodes.told c.args.n.now) in
+    let w : View = view_of g.N.Nodes.fields h (g.N.Sets.beside c.leaf_of.new.n) (g.N.Nodes.told c.leaf_of.new.n) in
+    let first = walks_reread u w c.requires.sound walks (beside_holds g.N.Nodes.fields f h _ _ (g.N.Nodes.told c.args.n.now) (g.N.Nodes.told c.leaf_of.new.n) c.in_ok-found.ensures.beside) (g.met.N.Nodes.told_later _ _ c.in_ok-found.ensures.later) in
+    let known = subst (λ n. KnowsWay u may c.args.pfs.0 l n (c.args.name.now ∷ names)) (sym there.1) way in
+    let v : View = view_of g.N.Nodes.fields k (g.N.Sets.beside c.seek.new.self) (g.N.Nodes.told c.seek.new.self) in
+    let seeks = c.in_ok-dir.ensures.ok in
+    let second = seeks_reread w v c.args.pfs.0 c.in_ok-dir.dir.0 c.in-Some.leaf walks.sound there.0 seeks (beside_holds g.N.Nodes.fields h k _ _ (g.N.Nodes.told c.leaf_of.new.n) (g.N.Nodes.told c.seek.new.self) c.in_ok-dir.ensures.beside) (g.met.N.Nodes.told_later _ _ c.in_ok-dir.ensures.later) c.in_ok-dir.ensures.told in
+    let next = way_next u w first may c.args.pfs.0 l c.in-Some.leaf c.args.name.now names c.requires.pfs.has.stands has (there.0).path v second c.in_ok-dir.dir.0 seeks c.in-Ok.entry.number c.in-Ok.ensures.kind (c.in-Ok.ensures.agrees may) known in
+    way_alike (returns-in-Ok-clause-alike g c) may c.args.pfs.0 l names c.in-Ok.entry.number c.requires.pfs.has.stands has next
