@@ -13,6 +13,7 @@ mod Opened
 mod Linked
 mod Loaded
 mod LinkHeld
+mod Others
 mod Watched
 mod Spent
 mod SpentAll

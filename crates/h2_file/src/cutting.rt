@@ -12,6 +12,7 @@ ghost use Rattle.h2_file.specs.Blocks.{IsFileOfRefs, HasContents};
 ghost use Rattle.h2_file.specs.FileContents.{FileHas, EndsIn};
 ghost use Rattle.h2_file.specs.Sizing.{HasResized};
 ghost use Rattle.h2_file.specs.Cutting.{IsCutBlock, cut_to, front, FitsLast, IsChanged, KeepsFront, Shortens, Cuts, CutsNodes, CutsFile, Remains};
+ghost use Rattle.h2_file.specs.Others.{RenewsOtherTrees};
 ghost use Rattle.h2_file.specs.declared.cutting.Left.{Left};
 
 use crate::sizing::set_size;
@@ -221,6 +222,7 @@ pub fn cut_blocks<N: Nodes>(
     requires last { IfSome last (IsCutBlock size) }
     ensures cuts { OnOk result (CutsFile (N.forest n.old) (N.forest n.new) inode.0 size last) }
     ensures contents { (blocks : Ref → Option Places) (old : ℕ) (bytes : List ℕ) → FileHas (N.forest n.old) (held_by N.fields (N.beside n.old)) (N.told n.old) blocks inode.0 old bytes → EndsIn blocks size bytes last → OnOk result (FileHas (N.forest n.new) (held_by N.fields (N.beside n.new)) (N.told n.new) blocks inode.0 size (bytes_to bytes size)) }
+    ensures others { OnOk result (RenewsOtherTrees (N.forest n.old) (N.forest n.new) (held_by N.fields (N.beside n.old)) (held_by N.fields (N.beside n.new)) inode.0) }
     ensures inode { OnOk result ((file : IsFileOfRefs (N.forest n.old) (held_by N.fields (N.beside n.old)) inode.0) → HasResized (N.forest n.new) (held_by N.fields (N.beside n.new)) inode.0 file.inode size) }
     ensures walks { OnErr result (Walks (N.forest n.old) (N.forest n.new)) }
     ensures err { IfErr result (HasCause (N.forest n.old) (N.forest n.new)) }

@@ -11,6 +11,7 @@ ghost use Rattle.h2_inode.specs.Nodes.{held_by, HasInode, Replaces, KeepsOthersB
 ghost use Rattle.h2_file.specs.Blocks.{IsFile, IsFileOfRefs, HasContents};
 ghost use Rattle.h2_file.specs.FileContents.{FileHas, LinksBytes};
 ghost use Rattle.h2_file.specs.Sizing.{HasResized};
+ghost use Rattle.h2_file.specs.Others.{RenewsOtherTrees};
 ghost use Rattle.h2_file.specs.Linking.{empty_set, IsBlock, AreBlocks, PathsLoaded, LoadsEach, PathMissing, Opens, Puts, PutsEach, LinksFile};
 
 use crate::sizing::{resized, set_size};
@@ -148,6 +149,7 @@ pub fn link_blocks<N: Nodes>(
     requires room { let f = N.forest n.old in 7 * length refs.now + 186 ≤ f.room }
     ensures links { OnOk result (LinksFile (N.forest n.old) (N.forest n.new) inode.0 refs.now) }
     ensures contents { (blocks : Ref → Option Places) (old : ℕ) (bytes new : List ℕ) → FileHas (N.forest n.old) (held_by N.fields (N.beside n.old)) (N.told n.old) blocks inode.0 old bytes → LinksBytes blocks refs.now size bytes new → OnOk result (FileHas (N.forest n.new) (held_by N.fields (N.beside n.new)) (N.told n.new) blocks inode.0 size new) }
+    ensures others { OnOk result (RenewsOtherTrees (N.forest n.old) (N.forest n.new) (held_by N.fields (N.beside n.old)) (held_by N.fields (N.beside n.new)) inode.0) }
     ensures inode { OnOk result ((i : Inode) → HasInode (N.forest n.old) (held_by N.fields (N.beside n.old)) inode.0 i → HasResized (N.forest n.new) (held_by N.fields (N.beside n.new)) inode.0 i size) }
     ensures walks { OnErr result (Walks (N.forest n.old) (N.forest n.new)) }
     ensures err { IfErr result (HasCause (N.forest n.old) (N.forest n.new)) }

@@ -5,6 +5,7 @@ use Rattle.h2_file.proofs.Chained.{run_few}
 use Rattle.h2_file.proofs.Linked.{file_kept, inode_kept, links_file, linked_inode, linked_beside, opened_stands, opened_from, put_from}
 use Rattle.h2_file.proofs.Loaded.{loaded_on}
 use Rattle.h2_file.proofs.LinkHeld.{link_has}
+use Rattle.h2_file.proofs.Others.{linked_others}
 use Rattle.h2_file.proofs.linking.link_blocks.Goals as goal
 
 pub prepare-requires-clause-few : goal.prepare-requires-clause-few
@@ -85,3 +86,6 @@ returns-clause-beside g c =
 
 pub returns-clause-later : goal.returns-clause-later
 returns-clause-later g c = g.met.N.Sets.later_later _ _ _ (g.met.N.Sets.later_later _ _ _ (g.met.N.Sets.later_later _ _ _ c.in_ok-prepare.ensures.later c.open_body.ensures.later) c.put_blocks.ensures.later) c.set_size.ensures.later
+
+pub returns-clause-others : goal.returns-clause-others
+returns-clause-others g c = linked_others g.N.Nodes.fields _ _ c.args.inode.0 c.args.refs.now _ _ c.requires.sound c.requires.file.has.root (returns-clause-links g c) (returns-clause-beside g c)
