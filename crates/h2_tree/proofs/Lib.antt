@@ -16,3 +16,4 @@ mod RemoveBelow
 mod Taking
 mod TakeBelow
 mod Gathering
+mod Known

@@ -7,7 +7,7 @@ use Rattle.h2_set.specs.Forest.{Forest, refs, loaded, LeavesOf, IsSoundNode, IsS
 use Rattle.h2_set.specs.StayLaws.{Walks-trans, Walks-leaves}
 use Rattle.h2_set.specs.LeafLaws.{leaves_rising, find_below}
 use Rattle.h2_set.specs.ChangeLaws.{Keeps-trans}
-use Rattle.h2_tree.specs.Changes.{WalksUnder, LeadsOnly, down, IsFree, LoadsIn, LacksLeaf, Removes, TakesOut, PathUnloaded}
+use Rattle.h2_tree.specs.Changes.{Under, WalksUnder, LeadsOnly, down, IsFree, LoadsIn, LacksLeaf, Removes, TakesOut, PathUnloaded}
 use Rattle.h2_tree.specs.declared.removing.Taken.{Taken}
 use Rattle.h2_tree.specs.declared.removing.Taken.TheVariants.{Nothing, Out, Sole}
 use Rattle.h2_tree.proofs.Climb.{reaches_child}
@@ -27,6 +27,26 @@ under_on f h g at stands first second =
             low = omega (arith, u.low, kept.place.low, there.low);
             high = omega (arith, u.high, kept.place.low, ap (λ z. 2 ^ z) kept.place.bits, there.low, ap (λ z. 2 ^ z) there.bits);
           })));
+    }
+
+-- a load at a node that lies under the first one
+pub under_step : (f h g : Forest) (root at k : ℕ) → f.stands root ≡ true → WalksUnder f h root → h.root at ≡ f.root root → Under h at root → Walks h g → Loads h g at k → WalksUnder f g root
+under_step f h g root at k stands first tree inside walks loads =
+    let there = (first.walks.stays root stands).place in
+    under_on f h g root stands first (record {
+      walks = walks;
+      keeps = λ m st out. loads.keeps m st (λ e. out (ap h.root e ∙ tree ∙ sym there.root) (subst (λ z. Under h z root) (sym e) inside));
+    })
+
+-- and its child lies under it too
+pub under_next : (f h : Forest) (root at c k : ℕ) → Walks f h → f.stands root ≡ true → f.stands at ≡ true → h.link at k ≡ loaded c → Under f at root → Under h c root
+under_next f h root at c k walks st_root stands link inside =
+    let top = (walks.stays root st_root).place in
+    let there = (walks.stays at stands).place in
+    let child = (walks.sound.node at there.stands).child k c link in
+    record {
+      low = omega (arith, inside.low, child.above, top.low, there.low);
+      high = omega (arith, inside.high, child.within, top.low, ap (λ z. 2 ^ z) top.bits, there.low, ap (λ z. 2 ^ z) there.bits);
     }
 
 -- what was taken out after loads under the node

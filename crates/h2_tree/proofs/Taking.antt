@@ -79,7 +79,7 @@ only_first f at i leaf one only = subst (λ z. LeadsOnly f at z leaf) (place_of 
 pub under_refl : (f : Forest) (at : ℕ) → f.stands at ≡ true → IsSound f → WalksUnder f f at
 under_refl f at stands sound = record { walks = Walks-refl f sound; keeps = λ m st out. Keeps-refl f m st }
 
-itself_under : (f : Forest) (at : ℕ) → Under f at at
+pub itself_under : (f : Forest) (at : ℕ) → Under f at at
 itself_under f at = record { low = omega arith; high = omega arith }
 
 -- a load at one key of node at

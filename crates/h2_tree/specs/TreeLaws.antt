@@ -10,7 +10,6 @@ use Rattle.h2_set.specs.Forest.{Link, loaded, told, untold, Forest, refs, HasLea
 use Rattle.h2_set.specs.LeafLaws.{leaves_rising, place_above, reaches_find}
 use Rattle.h2_set.specs.SplitLaws.{below_high}
 use Rattle.h2_set.specs.PutLaws.{Rising-filter}
-use Rattle.h2_set.specs.StayLaws.{stands_below}
 use Rattle.h2_set.specs.PathLaws.{in_holds, reaches_one}
 use Rattle.h2_tree.specs.Changes.{Descends, TakesIn, replaced, placed, parted, ChangesOnly, Inserts, is_between, touches, RangeUnloaded, missing, deeper, Lists}
 use Rattle.h2_tree.specs.PathLaws.{way_leads}
@@ -47,7 +46,7 @@ insert_fresh stands ins =
     fresh_in it.prepares.sound ins.sound (it.prepares.stays _ stands).place.stands it.stands it.way it.only it.change refl
 
 -- all of rs stand in node at
-abbrev StandsIn : Forest → ℕ → List Ref → Type 0
+abbrev pub StandsIn : Forest → ℕ → List Ref → Type 0
 StandsIn f at rs = (j : ℕ) (r : Ref) → slice_get rs j ≡ Some r → In (refs f at) r
 
 -- a leaf between lies in the range of no reference that isn't touched
@@ -55,16 +54,16 @@ pub between_touches : (from to : ℕ) (q x : Ref) → is_between from to q ≡ t
 between_touches from to q x mid low high = grind (arith, nat_tests)
 
 -- where nothing that is needed is unloaded, loaded nodes lead to each leaf between
-leaves_reached : {f : Forest} {at : ℕ} {rs l : List Ref} → IsSound f → f.stands at ≡ true → StandsIn f at rs → HasLeaves f at rs l → (from to : ℕ) → (RangeUnloaded f from to at → ⊥) → (i : ℕ) (x : Ref) → slice_get l i ≡ Some x → is_between from to x ≡ true → Reaches f x.key at (Some x)
-leaves_reached sound stands all done from to none i x read mid = absurd (none-some x read)
-leaves_reached {f} sound stands all (one {at = at} {r = r} leaf rest) from to none zero x read mid =
+pub leaves_reached : {f : Forest} {at : ℕ} {rs l : List Ref} → StandsIn f at rs → HasLeaves f at rs l → (from to : ℕ) → (RangeUnloaded f from to at → ⊥) → (i : ℕ) (x : Ref) → slice_get l i ≡ Some x → is_between from to x ≡ true → Reaches f x.key at (Some x)
+leaves_reached all done from to none i x read mid = absurd (none-some x read)
+leaves_reached {f} all (one {at = at} {r = r} leaf rest) from to none zero x read mid =
     let is : r ≡ x = (cc) in
     let it = all 0 r refl in
     let pos = pow_pos r.keybits in
     let path : Reaches f r.key at (Some r) = here {r = r} it.0 it.1 (in_holds r.key r (omega arith) (omega (arith, pos))) leaf in
     subst (λ (y : Ref). Reaches f y.key at (Some y)) is path
-leaves_reached sound stands all (one leaf rest) from to none (suc i) x read mid = leaves_reached sound stands (λ j q read'. all (suc j) q read') rest from to none i x read mid
-leaves_reached {f} sound stands all (near {at = at} {c = c} {r = r} {below = b} {l = l} ind link kids inside rest) from to none i x read mid =
+leaves_reached all (one leaf rest) from to none (suc i) x read mid = leaves_reached (λ j q read'. all (suc j) q read') rest from to none i x read mid
+leaves_reached {f} all (near {at = at} {c = c} {r = r} {below = b} {l = l} ind link kids inside rest) from to none i x read mid =
     elim (has_either b l x i read) as (λ _. Reaches f x.key at (Some x)) [
       | inl it ↦
           let there = all 0 r refl in
@@ -72,11 +71,11 @@ leaves_reached {f} sound stands all (near {at = at} {c = c} {r = r} {below = b} 
           let high = below_high r.key (limit r) b it.0 x inside it.1 in
           let pos = pow_pos x.keybits in
           let on = between_touches from to x r mid low (omega (arith, high, pos)) in
-          let path = leaves_reached sound (stands_below f sound at r.key c stands link) (λ j q read'. (j, read')) kids from to (λ u. none (deeper {r = r} there.0 there.1 ind on link u)) it.0 x it.1 mid in
+          let path = leaves_reached (λ j q read'. (j, read')) kids from to (λ u. none (deeper {r = r} there.0 there.1 ind on link u)) it.0 x it.1 mid in
           below {r = r} there.0 there.1 (in_holds x.key r low (omega (arith, high, pos))) ind link path
-      | inr it ↦ leaves_reached sound stands (λ j q read'. all (suc j) q read') rest from to none it.0 x it.1 mid
+      | inr it ↦ leaves_reached (λ j q read'. all (suc j) q read') rest from to none it.0 x it.1 mid
     ]
-leaves_reached {f} sound stands all (far {at = at} {r = r} {below = b} {l = l} ind link inside rest) from to none i x read mid =
+leaves_reached {f} all (far {at = at} {r = r} {below = b} {l = l} ind link inside rest) from to none i x read mid =
     elim (has_either b l x i read) as (λ _. Reaches f x.key at (Some x)) [
       | inl it ↦
           let there = all 0 r refl in
@@ -85,7 +84,7 @@ leaves_reached {f} sound stands all (far {at = at} {r = r} {below = b} {l = l} i
           let pos = pow_pos x.keybits in
           let on = between_touches from to x r mid low (omega (arith, high, pos)) in
           absurd (none (missing {r = r} there.0 there.1 ind on (λ c e. let clash : told b ≡ loaded c = sym link ∙ e in cc)))
-      | inr it ↦ leaves_reached sound stands (λ j q read'. all (suc j) q read') rest from to none it.0 x it.1 mid
+      | inr it ↦ leaves_reached (λ j q read'. all (suc j) q read') rest from to none it.0 x it.1 mid
     ]
 
 -- what is listed of a tree whose leaves are known is the part of them with keys from `from` to `to`
@@ -100,7 +99,7 @@ lists_agree f at from to listed l sound stands lists leaves =
     let found = find_in r.key l r (sym (reaches_find sound each.1 stands l leaves)) in
     filter_has p l found.0 r found.1 each.0) (λ r it.
     let there = filter_from p l it.0 r it.1 in
-    lists.all r.key r (leaves_reached sound stands (λ j q read. (j, read)) leaves from to lists.loaded there.1.0 r there.1.1 there.0) there.0)
+    lists.all r.key r (leaves_reached (λ j q read. (j, read)) leaves from to lists.loaded there.1.0 r there.1.1 there.0) there.0)
 
 in_range : (f : Forest) (c : ℕ) (r : Ref) → f.low c ≡ r.key → f.bits c ≡ r.keybits → (l : List Ref) → Rising (f.low c) (f.low c + 2 ^ f.bits c) l → Rising r.key (limit r) l
 in_range f c r low bits l rising = rw (low, bits) at rising

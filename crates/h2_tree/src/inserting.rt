@@ -1,7 +1,7 @@
 ghost use Rattle.std.specs.Prelude.{◌≡◌, ◌<◌, ◌≤◌, ◌⊎◌, true, false, ℕ, List, Some, None, slice_get, length, IfOk, IfErr, OnOk, OnErr};
 ghost use Rattle.h2_ref.specs.declared.reference.Ref.{Ref};
 ghost use Rattle.h2_set.specs.Ranges.{find, is_indirect, NoneHolds};
-ghost use Rattle.h2_set.specs.Forest.{Forest, refs, IsSound, Walks, HasCause, LeavesOf, Reaches, KeepsBeside, ReadiesOnly};
+ghost use Rattle.h2_set.specs.Forest.{Forest, refs, IsSound, Walks, HasCause, IsBad, LeavesOf, Reaches, KeepsBeside, ReadiesOnly};
 ghost use Rattle.h2_tree.specs.Changes.{Takes, Inserts, KeepsPaths, LoadsTouched, LoadsIn, PathUnloaded};
 
 use crate::loading::load_child;
@@ -96,7 +96,8 @@ fn add<N: Sets>(alloc: Global, n: &mut N, at: NodeId, leaf: Ref) -> Result<(), N
 /// there is none. It goes into the set of one node on the path of its key, and a full set is split by the split rule.
 /// The room is at least 63, and is lowered by the number of nodes that are copied and by one for a split, as spare is.
 /// No node is unloaded, none off the path of its key is loaded, and paths to all keys stay loaded. Trouble only where
-/// a node on the path of its key isn't loaded, or no node is spare; nothing but loads took place then.
+/// a node on the path of its key isn't loaded, or no node is spare, and never a bad block where the tree's leaves are
+/// known; nothing but loads took place then.
 pub fn insert<N: Sets>(
     alloc: Global,
     n: &mut N,
@@ -116,6 +117,7 @@ pub fn insert<N: Sets>(
     ensures touched { OnErr result (LoadsTouched (N.forest n.old) (N.forest n.new) leaf.key leaf.key) }
     ensures tree { OnErr result (LoadsIn (N.forest n.old) (N.forest n.new) root.0 leaf.key leaf.key) }
     ensures unloaded { let f = N.forest n.old in OnErr result (PathUnloaded f root.0 leaf.key ⊎ (f.spare ≡ 0)) }
+    ensures good { IfErr result (λ e. (l : List Ref) → LeavesOf (N.forest n.old) root.0 l → IsBad e → ⊥) }
     ensures beside { KeepsBeside (N.forest n.old) (N.forest n.new) (N.beside n.old) (N.beside n.new) }
     ensures later { N.later n.old n.new }
 {

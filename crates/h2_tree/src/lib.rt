@@ -3,8 +3,9 @@
 //! A tree over any [`Sets`](h2_set::Sets) is seen as one list of leaves, sorted by key (`LeavesOf` of
 //! `h2_set`). `lookup` and `range` read it and load what they need, `range` nothing but nodes that its keys touch;
 //! `insert` adds a leaf or replaces the one with its range, `remove` takes one out. After a trouble nothing but loads
-//! took place, so the list is as before. What is said of the list says nothing while no list is known; so each answer
-//! is also tied to what loaded nodes lead to: a leaf by its path (`Reaches`, `LacksLeaf`), a range by `Lists`.
+//! took place, so the list is as before; and where it is known, no bad block is met. What is said of the list says
+//! nothing while no list is known; so each answer is also tied to what loaded nodes lead to: a leaf by its path
+//! (`Reaches`, `LacksLeaf`), a range by `Lists`.
 //!
 //! An insertion or a removal changes the set of one node, once the path of the key is loaded (`GoesIn`, `GoesOut` in
 //! `specs/Changes`); a full set is split by the split rule, and no indirect block is left empty. All other nodes stay

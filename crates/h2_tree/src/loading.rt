@@ -1,6 +1,6 @@
-ghost use Rattle.std.specs.Prelude.{◌≡◌, ℕ, true, Some, slice_get, IfOk, IfErr, OnErr};
+ghost use Rattle.std.specs.Prelude.{◌≡◌, ℕ, true, List, Some, slice_get, IfOk, IfErr, OnErr};
 ghost use Rattle.h2_ref.specs.declared.reference.Ref.{Ref};
-ghost use Rattle.h2_set.specs.Forest.{refs, loaded, IsSound, IsIndirectAt, Walks, Loads, Unchanged, HasCause, KeepsBeside};
+ghost use Rattle.h2_set.specs.Forest.{refs, loaded, told, IsSound, IsIndirectAt, Walks, Loads, Unchanged, HasCause, IsBad, KeepsBeside};
 
 use h2_ref::Trouble;
 use h2_set::{NodeId, Sets};
@@ -22,6 +22,7 @@ pub(crate) fn load_child<N: Sets>(
     ensures same { OnErr result (Unchanged (N.forest n.old) (N.forest n.new)) }
     ensures err { IfErr result (HasCause (N.forest n.old) (N.forest n.new)) }
     ensures unloaded { let f = N.forest n.old in OnErr result ((r : Ref) (c : ℕ) → slice_get (refs f at.0) i ≡ Some r → f.link at.0 r.key ≡ loaded c → ⊥) }
+    ensures good { let f = N.forest n.old in IfErr result (λ e. (r : Ref) (l : List Ref) → slice_get (refs f at.0) i ≡ Some r → f.link at.0 r.key ≡ told l → IsBad e → ⊥) }
     ensures beside { KeepsBeside (N.forest n.old) (N.forest n.new) (N.beside n.old) (N.beside n.new) }
     ensures later { N.later n.old n.new }
 {

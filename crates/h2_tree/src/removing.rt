@@ -1,7 +1,7 @@
 ghost use Rattle.std.specs.Prelude.{◌≡◌, ◌<◌, ◌≤◌, ◌⊎◌, true, false, ℕ, List, Some, None, slice_get, length, IfOk, IfErr, IfSome, IfNone, OnOk, OnErr};
 ghost use Rattle.h2_ref.specs.declared.reference.Ref.{Ref};
 ghost use Rattle.h2_set.specs.Ranges.{at_key, is_indirect};
-ghost use Rattle.h2_set.specs.Forest.{Forest, refs, IsSound, Walks, HasCause, LeavesOf, Reaches, KeepsBeside};
+ghost use Rattle.h2_set.specs.Forest.{Forest, refs, IsSound, Walks, HasCause, IsBad, LeavesOf, Reaches, KeepsBeside};
 ghost use Rattle.h2_tree.specs.Changes.{IsFree, LeadsOnly, Removes, KeepsPaths, TakesOut, LacksLeaf, LoadsTouched, LoadsIn, PathUnloaded};
 
 use crate::loading::load_child;
@@ -66,6 +66,7 @@ fn take<N: Sets>(alloc: Global, n: &mut N, at: NodeId, key: u64) -> Result<Taken
     ensures err { IfErr result (HasCause (N.forest n.old) (N.forest n.new)) }
     ensures touched { OnErr result (LoadsIn (N.forest n.old) (N.forest n.new) at.0 key key) }
     ensures unloaded { OnErr result (PathUnloaded (N.forest n.old) at.0 key) }
+    ensures good { IfErr result (λ e. (l : List Ref) → LeavesOf (N.forest n.old) at.0 l → IsBad e → ⊥) }
     ensures beside { KeepsBeside (N.forest n.old) (N.forest n.new) (N.beside n.old) (N.beside n.new) }
     ensures later { N.later n.old n.new }
 {
@@ -92,8 +93,8 @@ fn take<N: Sets>(alloc: Global, n: &mut N, at: NodeId, key: u64) -> Result<Taken
 /// took place, and the loaded path of the key leads to no leaf of this key. No node off that path is loaded. What the
 /// leaf names isn't held, and the room is at least 62; it is lowered by the number of nodes that
 /// are copied. Of the tree nothing goes but indirect blocks that would be left empty: the reference to the uppermost of
-/// them is cut. Paths to other keys stay loaded. Trouble only where a node on the key's path isn't loaded; nothing but
-/// loads took place then.
+/// them is cut. Paths to other keys stay loaded. Trouble only where a node on the key's path isn't loaded, and never a
+/// bad block where the tree's leaves are known; nothing but loads took place then.
 pub fn remove<N: Sets>(
     alloc: Global,
     n: &mut N,
@@ -119,6 +120,7 @@ pub fn remove<N: Sets>(
     ensures off { IfOk result (λ o. IfNone o (LoadsTouched (N.forest n.old) (N.forest n.new) key key)) }
     ensures off_tree { IfOk result (λ o. IfNone o (LoadsIn (N.forest n.old) (N.forest n.new) root.0 key key)) }
     ensures unloaded { OnErr result (PathUnloaded (N.forest n.old) root.0 key) }
+    ensures good { IfErr result (λ e. (l : List Ref) → LeavesOf (N.forest n.old) root.0 l → IsBad e → ⊥) }
     ensures beside { KeepsBeside (N.forest n.old) (N.forest n.new) (N.beside n.old) (N.beside n.new) }
     ensures later { N.later n.old n.new }
 {

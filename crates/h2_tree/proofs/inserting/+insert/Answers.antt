@@ -9,6 +9,7 @@ use Rattle.h2_tree.proofs.Touching.{in_path, err_touched}
 use Rattle.h2_tree.proofs.Descend.{child_stands, child_fewer, child_takes, child_room, ok_below, old_below, walks_below, touched_below, unloaded_below}
 use Rattle.h2_tree.proofs.Answering.{always_err, beside_on}
 use Rattle.h2_tree.proofs.Paths.{inserts_paths, inserts_path, ok_paths, ok_path}
+use Rattle.h2_tree.proofs.Known.{child_good, good_above, carried_good, result_good}
 use Rattle.h2_tree.proofs.inserting.+insert.Goals as goal
 
 pub returns-in-Ok-clause-paths : goal.returns-in-Ok-clause-paths
@@ -52,6 +53,24 @@ returns-in_err-child-clause-unloaded g t c =
     let ind : is_indirect c.at.result.now ≡ true = sym c.is_indirect.ensures ∙ c.if-not-is_indirect.false in
     let in_r = c.in-Some.ensures.found.holds _ c.at.ensures in
     always_err c.from_residual.result (inl (λ o reached. reaches_loaded f c.args.leaf.key c.args.root.0 c.in-Some.i c.at.result.now o c.requires.sound c.requires.stands read in_r ind c.in_err-child.ensures.unloaded reached))
+
+pub returns-in_err-child-clause-good : goal.returns-in_err-child-clause-good
+returns-in_err-child-clause-good g t c =
+    let f = g.N.Sets.forest c.args.n.now in
+    let read : slice_get (refs f c.args.root.0) c.in-Some.i ≡ Some c.at.result.now = rw c.get-set.ensures at c.at.ensures in
+    let ind : is_indirect c.at.result.now ≡ true = sym c.is_indirect.ensures ∙ c.if-not-is_indirect.false in
+    carried_good _ _ c.from_residual.result c.in_err-child.field-0.0 c.from_residual.ensures.1 (child_good f c.args.root.0 c.in-Some.i c.at.result.now c.in_err-child.field-0.0 read ind c.in_err-child.ensures.unloaded c.in_err-child.ensures.good)
+
+pub returns-in-Err-clause-good : goal.returns-in-Err-clause-good
+returns-in-Err-clause-good g t c = λ l has bad. bad
+
+pub returns-clause-good : goal.returns-clause-good
+returns-clause-good g t c =
+    let f = g.N.Sets.forest c.args.n.now in
+    let read : slice_get (refs f c.args.root.0) c.in-Some.i ≡ Some c.at.result.now = rw c.get-set.ensures at c.at.ensures in
+    let ind : is_indirect c.at.result.now ≡ true = sym c.is_indirect.ensures ∙ c.if-not-is_indirect.false in
+    let child = c.in_ok-child.ensures in
+    result_good f _ c.args.root.0 c.in_ok-child.child.0 c.insert.result (good_above f _ c.args.root.0 c.in-Some.i c.in_ok-child.child.0 c.at.result.now c.requires.sound child.walks c.requires.stands read ind (child.ok _ read)) c.insert.ensures.good
 
 pub returns-in-Err-clause-touched : goal.returns-in-Err-clause-touched
 returns-in-Err-clause-touched g t c = c.in-Err.ensures.touched.touched

@@ -14,6 +14,7 @@ use Rattle.h2_tree.proofs.Climb.{next_node, next_root}
 use Rattle.h2_tree.proofs.Gathering.{adds_none, adds_more, adds_skipped, adds_taken, adds_entered}
 use Rattle.h2_tree.proofs.Answering.{beside_same, beside_on}
 use Rattle.h2_tree.proofs.Collect.{no_leaves, collected_more, leaf_step, child_step}
+use Rattle.h2_tree.proofs.Known.{child_good, good_above, good_before, no_memory_good, carried_good}
 use Rattle.h2_tree.proofs.listing.+collect.Goals as goal
 use Rattle.h2_tree.proofs.listing.+collect.Goals.{then-touches+then-is_indirect+in_ok-child+in_ok-collect, then-touches+else-is_indirect+in_ok-take_leaf, else-touches}
 
@@ -147,6 +148,27 @@ returns-in_err-child-clause-unloaded g t c =
     let on : touches c.args.from c.args.to c.at.result.now ≡ true = sym c.touches.ensures ∙ c.if-touches.true in
     let read : slice_get (refs f c.args.at.0) c.loop-i.i ≡ Some c.at.result.now = subst (λ (s : RefSet). slice_get s.refs c.loop-i.i ≡ Some c.at.result.now) c.get-in-loop-i.ensures c.at.ensures in
     always_unloaded c.from_residual.result (unloaded_back c.requires.sound inv.walks c.requires.stands (missing c.loop-i.i read ind on (λ d link. child.unloaded c.at.result.now d read link)))
+
+pub returns-in_err-child-clause-good : goal.returns-in_err-child-clause-good
+returns-in_err-child-clause-good g t c =
+    let f = g.N.Sets.forest c.loop-i.n in
+    let inv = c.loop-i.invariant in
+    let ind : is_indirect c.at.result.now ≡ true = sym c.is_indirect.ensures ∙ c.if-is_indirect.true in
+    let read : slice_get (refs f c.args.at.0) c.loop-i.i ≡ Some c.at.result.now = subst (λ (s : RefSet). slice_get s.refs c.loop-i.i ≡ Some c.at.result.now) c.get-in-loop-i.ensures c.at.ensures in
+    carried_good _ _ c.from_residual.result c.in_err-child.field-0.0 c.from_residual.ensures.1 (good_before _ f c.args.at.0 c.in_err-child.field-0.0 c.requires.sound inv.walks c.requires.stands (child_good f c.args.at.0 c.loop-i.i c.at.result.now c.in_err-child.field-0.0 read ind c.in_err-child.ensures.unloaded c.in_err-child.ensures.good))
+
+pub returns-in_err-collect-clause-good : goal.returns-in_err-collect-clause-good
+returns-in_err-collect-clause-good g t c =
+    let f = g.N.Sets.forest c.loop-i.n in
+    let inv = c.loop-i.invariant in
+    let child = c.in_ok-child.ensures in
+    let ind : is_indirect c.at.result.now ≡ true = sym c.is_indirect.ensures ∙ c.if-is_indirect.true in
+    let read : slice_get (refs f c.args.at.0) c.loop-i.i ≡ Some c.at.result.now = subst (λ (s : RefSet). slice_get s.refs c.loop-i.i ≡ Some c.at.result.now) c.get-in-loop-i.ensures c.at.ensures in
+    let there = (inv.walks.stays c.args.at.0 c.requires.stands).place.stands in
+    carried_good _ _ c.from_residual-in_err-collect.result c.in_err-collect.field-0.0 c.from_residual-in_err-collect.ensures.1 (good_before _ f c.args.at.0 c.in_err-collect.field-0.0 c.requires.sound inv.walks c.requires.stands (good_above f _ c.args.at.0 c.loop-i.i c.in_ok-child.child.0 c.at.result.now inv.walks.sound child.walks there read ind (child.ok _ read) c.in_err-collect.field-0.0 c.in_err-collect.ensures.good))
+
+pub returns-in_err-take_leaf-clause-good : goal.returns-in_err-take_leaf-clause-good
+returns-in_err-take_leaf-clause-good g t c = carried_good _ _ c.from_residual-in_err-take_leaf.result c.in_err-take_leaf.field-0.0 c.from_residual-in_err-take_leaf.ensures.1 (no_memory_good _ _ c.in_err-take_leaf.field-0.0 c.in_err-take_leaf.ensures.err)
 
 pub returns-in_err-collect-clause-touched : goal.returns-in_err-collect-clause-touched
 returns-in_err-collect-clause-touched g t c =

@@ -4,16 +4,22 @@ use Rattle.h2_set.specs.Forest.{refs, nowhere, here}
 use Rattle.h2_set.specs.StayLaws.{Walks-refl, Walks-trans}
 use Rattle.h2_tree.proofs.Climb.{next_root, leads_start, leads_on, next_node, found_in, led_start, led_on, not_led}
 use Rattle.h2_tree.proofs.Touching.{In-refl, In-trans, in_path}
+use Rattle.h2_tree.proofs.Taking.{itself_under, under_refl}
+use Rattle.h2_tree.proofs.TakeBelow.{under_step, under_next}
 use Rattle.h2_tree.proofs.Answering.{always_err, beside_same, beside_on}
+use Rattle.h2_tree.proofs.Known.{child_known, child_good, carried_good}
 use Rattle.h2_tree.proofs.looking_up.lookup.Goals as goal
 
 pub loop-i-init : goal.loop-i-init
 loop-i-init g c = record {
   walks = Walks-refl _ c.requires.sound;
+  under = under_refl _ _ c.requires.stands c.requires.sound;
+  inside = itself_under _ _;
   touched = In-refl _ _ _ _;
   stands = c.requires.stands;
   tree = refl;
   leads = leads_start _ _ _;
+  known = λ l has. (l, has);
   led = led_start _ _ _ c.requires.stands;
   beside = beside_same _ _;
   later = g.met.N.Sets.same_later _;
@@ -36,6 +42,14 @@ returns-then-not-is_indirect-clause-found g c = found_in _ _ _ _ _ c.requires.so
 
 pub returns-in_err-at-clause-walks : goal.returns-in_err-at-clause-walks
 returns-in_err-at-clause-walks g c = Walks-trans _ _ _ c.loop-i.invariant.walks c.in_err-at.ensures.walks
+
+pub returns-in_err-at-clause-under : goal.returns-in_err-at-clause-under
+returns-in_err-at-clause-under g c =
+    let f = g.N.Sets.forest c.loop-i.n in
+    let now = c.loop-i.invariant in
+    let child = c.in_err-at.ensures in
+    let read : slice_get (refs f c.loop-i.at.0) c.in-Some.i ≡ Some c.at.result.now = rw c.get-set.ensures at c.at.ensures in
+    under_step _ f _ c.args.root.0 c.loop-i.at.0 c.at.result.now.key c.requires.stands now.under now.tree now.inside child.walks (child.loads _ read)
 
 pub returns-in_err-at-clause-tree : goal.returns-in_err-at-clause-tree
 returns-in_err-at-clause-tree g c =
@@ -63,6 +77,16 @@ returns-in_err-at-clause-unloaded g c =
     let read : slice_get (refs f c.loop-i.at.0) c.in-Some.i ≡ Some c.at.result.now = rw c.get-set.ensures at c.at.ensures in
     always_err c.from_residual.result (not_led _ _ _ _ _ c.in-Some.i c.at.result.now c.requires.sound now.walks now.led read (c.in-Some.ensures.found.holds _ c.at.ensures) ind c.in_err-at.ensures.unloaded)
 
+pub returns-in_err-at-clause-good : goal.returns-in_err-at-clause-good
+returns-in_err-at-clause-good g c =
+    let f = g.N.Sets.forest c.loop-i.n in
+    let now = c.loop-i.invariant in
+    let ind : is_indirect c.at.result.now ≡ true = sym c.is_indirect.ensures ∙ c.if-not-is_indirect.false in
+    let read : slice_get (refs f c.loop-i.at.0) c.in-Some.i ≡ Some c.at.result.now = rw c.get-set.ensures at c.at.ensures in
+    carried_good _ _ c.from_residual.result c.in_err-at.field-0.0 c.from_residual.ensures.1 (λ l has bad.
+    let it = now.known l has in
+    child_good f c.loop-i.at.0 c.in-Some.i c.at.result.now c.in_err-at.field-0.0 read ind c.in_err-at.ensures.unloaded c.in_err-at.ensures.good it.0 it.1 bad)
+
 pub returns-in_err-at-clause-beside : goal.returns-in_err-at-clause-beside
 returns-in_err-at-clause-beside g c = beside_on _ _ _ _ _ _ (λ m st. (c.loop-i.invariant.walks.stays m st).place.stands) c.loop-i.invariant.beside c.in_err-at.ensures.beside
 
@@ -82,10 +106,13 @@ loop-i-preserved g c =
     let read : slice_get (refs f c.loop-i.at.0) c.in-Some.i ≡ Some c.at.result.now = rw c.get-set.ensures at c.at.ensures in
     record {
       walks = Walks-trans _ _ _ now.walks child.walks;
+      under = under_step _ f _ c.args.root.0 c.loop-i.at.0 c.at.result.now.key c.requires.stands now.under now.tree now.inside child.walks (child.loads _ read);
+      inside = under_next f _ c.args.root.0 c.loop-i.at.0 _ c.at.result.now.key child.walks (now.walks.stays c.args.root.0 c.requires.stands).place.stands now.stands (child.ok _ read) now.inside;
       touched = In-trans _ _ _ c.args.root.0 c.loop-i.at.0 _ _ now.tree child.walks now.touched (in_path f _ _ _ c.at.result.now _ now.stands read ind (c.in-Some.ensures.found.holds _ c.at.ensures) child.walks (child.loads _ read));
       tree = next_root f _ _ _ c.at.result.now.key child.walks now.stands (child.ok _ read) ∙ now.tree;
       stands = (next_node f _ _ _ _ c.at.result.now now.walks.sound child.walks now.stands read ind (child.ok _ read)).0;
       leads = leads_on f _ _ _ _ _ _ c.at.result.now now.leads child.walks now.stands read (c.in-Some.ensures.found.holds _ c.at.ensures) ind (child.ok _ read);
+      known = λ l has. let it = now.known l has in child_known f _ c.loop-i.at.0 c.in-Some.i c.in_ok-at.at.0 c.at.result.now now.walks.sound child.walks now.stands read ind (child.ok _ read) it.0 it.1;
       led = led_on _ _ _ _ _ c.in-Some.i c.at.result.now c.requires.sound now.walks now.led read (c.in-Some.ensures.found.holds _ c.at.ensures) ind _ _ child.walks (child.ok _ read);
       beside = beside_on _ _ _ _ _ _ (λ m st. (now.walks.stays m st).place.stands) now.beside child.beside;
       later = g.met.N.Sets.later_later _ _ _ now.later child.later;

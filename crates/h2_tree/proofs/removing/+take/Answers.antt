@@ -13,6 +13,7 @@ use Rattle.h2_tree.specs.declared.removing.Taken.TheVariants.{Nothing, Out, Sole
 use Rattle.h2_tree.proofs.Taking.{under_refl, at_key_none, at_key_other}
 use Rattle.h2_tree.proofs.RemoveBelow.{child_stands, child_fewer}
 use Rattle.h2_tree.proofs.TakeBelow.{nothing_below, out_below, under_sole, only_sole, free_sole, room_sole, taken_sole, child_free, child_room, unloaded_path}
+use Rattle.h2_tree.proofs.Known.{child_good, good_above, carried_good}
 use Rattle.h2_tree.proofs.removing.+take.Goals as goal
 
 pub returns-in_default-clause-taken : goal.returns-in_default-clause-taken
@@ -58,6 +59,21 @@ returns-in_err-child-clause-unloaded g t c =
     let in_r = c.in-Some.ensures.found.holds _ c.at.ensures in
     let ind : is_indirect c.at.result.now ≡ true = sym c.is_indirect.ensures ∙ c.if-not-is_indirect.false in
     always_err c.from_residual.result (λ o reached. reaches_loaded f c.args.key c.args.at.0 c.in-Some.i c.at.result.now o c.requires.sound c.requires.stands read in_r ind c.in_err-child.ensures.unloaded reached)
+
+pub returns-in_err-child-clause-good : goal.returns-in_err-child-clause-good
+returns-in_err-child-clause-good g t c =
+    let f = g.N.Sets.forest c.args.n.now in
+    let read : slice_get (refs f c.args.at.0) c.in-Some.i ≡ Some c.at.result.now = rw c.get-set.ensures at c.at.ensures in
+    let ind : is_indirect c.at.result.now ≡ true = sym c.is_indirect.ensures ∙ c.if-not-is_indirect.false in
+    carried_good _ _ c.from_residual.result c.in_err-child.field-0.0 c.from_residual.ensures.1 (child_good f c.args.at.0 c.in-Some.i c.at.result.now c.in_err-child.field-0.0 read ind c.in_err-child.ensures.unloaded c.in_err-child.ensures.good)
+
+pub returns-in_err-leaf-clause-good : goal.returns-in_err-leaf-clause-good
+returns-in_err-leaf-clause-good g t c =
+    let f = g.N.Sets.forest c.args.n.now in
+    let read : slice_get (refs f c.args.at.0) c.in-Some.i ≡ Some c.at.result.now = rw c.get-set.ensures at c.at.ensures in
+    let ind : is_indirect c.at.result.now ≡ true = sym c.is_indirect.ensures ∙ c.if-not-is_indirect.false in
+    let child = c.in_ok-child.ensures in
+    carried_good _ _ c.from_residual-in_err-leaf.result c.in_err-leaf.field-0.0 c.from_residual-in_err-leaf.ensures.1 (good_above f _ c.args.at.0 c.in-Some.i c.in_ok-child.child.0 c.at.result.now c.requires.sound child.walks c.requires.stands read ind (child.ok _ read) c.in_err-leaf.field-0.0 c.in_err-leaf.ensures.good)
 
 pub returns-in_err-child-clause-touched : goal.returns-in_err-child-clause-touched
 returns-in_err-child-clause-touched g t c =
