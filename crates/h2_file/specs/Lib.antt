@@ -4,4 +4,4 @@ pub mod Cutting
 pub mod Sizing
 pub mod FileContents
 pub mod Linking
-pub mod Others
+pub mod LiftLaws
