@@ -136,13 +136,13 @@ fn put_blocks<N: Sets>(alloc: Global, n: &mut N, at: NodeId, refs: &[Ref])
 }
 
 /// Makes these references the file's, and sets its size. They are those of at most 65 consecutive blocks, in order, and
-/// block 0 may stand before them. A body of bytes becomes an empty set of references first. Each reference is inserted by
-/// itself, in their order, in place of the one with its key. With `k` references the room is at least 7k + 186, and is
-/// lowered by at most 7k + 129. For what is copied is a node of 64 blocks or more on the path of block 0, the first block
-/// or the last one, of which each path has at most 43, or one of at most 6 smaller nodes on the path of the block itself;
-/// and a split takes one new block. Trouble only where a node on the path of one of the keys isn't loaded, or fewer nodes
-/// are spare than there are references, and never a bad block where the file's references are known; nothing but loads
-/// took place then.
+/// block 0 may stand before them. A body of bytes becomes an empty set of references first, so the blocks have to have
+/// those of its bytes that are to stay. Each reference is inserted by itself, in their order, in place of the one with
+/// its key. With `k` references the room is at least 7k + 186, and is lowered by at most 7k + 129. For what is copied
+/// is a node of 64 blocks or more on the path of block 0, the first block or the last one, of which each path has at
+/// most 43, or one of at most 6 smaller nodes on the path of the block itself; and a split takes one new block. Trouble
+/// only where a node on the path of one of the keys isn't loaded, or fewer nodes are spare than there are references,
+/// and never a bad block where the file's references are known; nothing but loads took place then.
 pub fn link_blocks<N: Nodes>(
     alloc: Global,
     n: &mut N,
