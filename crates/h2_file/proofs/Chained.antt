@@ -1,6 +1,7 @@
 -- References of blocks that go into a file's tree, one after the other.
 use Rattle.std.proofs.Common.{◌≡◌, ℕ, ◌+◌, ◌*◌, ◌%◌, ◌^◌, ◌<◌, ◌≤◌, true, false, arith, refl, sym, ◌∙◌, ap, List, [], ◌∷◌, ◌++◌, length, Option, Some, subst, inl, inr, slice_get, take, suc, zero}
 use Rattle.std.proofs.lemmas.Option.{none-some}
+use Rattle.std.proofs.lemmas.Bool.{cases_Bool}
 use Rattle.h2_ref.specs.declared.reference.Ref.{Ref}
 use Rattle.h2_set.specs.Ranges.{limit, holds, NoneHolds, put}
 use Rattle.h2_set.specs.Forest.{Forest, IsSound, LeavesOf, Fixed, InPlace, Renews, Reaches}
@@ -8,6 +9,7 @@ use Rattle.h2_set.specs.StayLaws.{Fixed-refl, Fixed-trans, InPlace-refl, InPlace
 use Rattle.h2_set.specs.LeafLaws.{outside_holds}
 use Rattle.h2_set.specs.ChangeLaws.{Keeps-refl}
 use Rattle.h2_set.specs.RenewLaws.{Keeps-Renews, Renews-trans}
+use Rattle.h2_tree.specs.Changes.{ChangesOnly, TakesIn, replaced, placed, parted, Inserts}
 use Rattle.h2_file.proofs.Parts.{take_from, take_next}
 use Rattle.h2_file.specs.Linking.{IsBlock, FollowFrom, IsRun, blocks, behind_zero, AreBlocks, put_each, Puts, PutsEach, none, first}
 
@@ -68,6 +70,33 @@ before_out x y le = outside_holds x.key y (inl (omega (arith, le)))
 
 -- What they leave
 
+-- no root is new where a leaf has gone in
+entered_root : {h g : Forest} {n blocks : ℕ} {leaf : Ref} {old : Option Ref} → IsSound h → IsSound g → h.stands n ≡ true → ChangesOnly h g n (λ m. ⊥) → TakesIn h g n leaf blocks old → (m : ℕ) → g.stands m ≡ true → g.root m ≡ m → h.stands m ≡ true
+entered_root sound sound' st_n only (replaced it) m st own = it.none_new m st
+entered_root sound sound' st_n only (placed it) m st own = it.none_new m st
+entered_root {h} {g} {n = n} sound sound' st_n only (parted it) m st own = elim (it.none_new m st) as (λ _. h.stands m ≡ true) [
+  | inr was ↦ was
+  | inl new ↦
+      let place = only.still n st_n (λ z. z) in
+      let child = (sound'.node n place.stands).child it.key it.node it.link in
+      let top : h.root n ≡ it.node = sym place.root ∙ (sym child.root ∙ (sym (ap g.root new) ∙ (own ∙ new))) in
+      let there : h.stands it.node ≡ true = subst (λ z. h.stands z ≡ true) top (sound.top n st_n).0 in
+      absurd (let clash : true ≡ false = sym there ∙ it.fresh in cc)
+]
+
+inserted_root : {f g : Forest} {at : ℕ} {leaf : Ref} {old : Option Ref} → IsSound f → f.stands at ≡ true → Inserts f g at leaf old → (m : ℕ) → g.stands m ≡ true → g.root m ≡ m → f.stands m ≡ true
+inserted_root {f} {g} {at} sound stands ins m st own =
+    let goes = ins.goes in
+    let h = goes.then in
+    let there : h.stands m ≡ true = entered_root goes.prepares.sound ins.sound goes.stands goes.only goes.change m st own in
+    let own_h : h.root m ≡ m = sym (goes.only.still m there (λ z. z)).root ∙ own in
+    elim (cases_Bool (f.stands m)) as (λ _. f.stands m ≡ true) [
+      | inl was ↦ was
+      | inr out ↦
+          let top : m ≡ f.root at = sym own_h ∙ goes.touched.tree m out there in
+          subst (λ z. f.stands z ≡ true) (sym top) (sound.top at stands).0
+    ]
+
 pub record PutAll (f g : Forest) (at : ℕ) (rs : List Ref) : Type 0 where
   pub sound : IsSound g
   pub fixed : Fixed f g
@@ -75,6 +104,7 @@ pub record PutAll (f g : Forest) (at : ℕ) (rs : List Ref) : Type 0 where
   pub leaves : (l : List Ref) → LeavesOf f at l → LeavesOf g at (put_each rs l)
   pub paths : (key : ℕ) (o : Option Ref) → NoneHolds key rs → Reaches f key at o → Reaches g key at o
   pub still : (m : ℕ) → f.stands m ≡ true → InPlace f g m
+  pub roots : (m : ℕ) → g.stands m ≡ true → g.root m ≡ m → f.stands m ≡ true
   pub above : (m : ℕ) → f.stands m ≡ true → (f.root m ≡ f.root at → ⊥) → Renews f g m
   pub room : f.room ≤ g.room + 63 * length rs
   pub room_falls : g.room ≤ f.room
@@ -88,6 +118,7 @@ puts_all {at} (none {f = f}) sound stands = record {
   leaves = λ l hl. hl;
   paths = λ key o miss reached. reached;
   still = λ m st. InPlace-refl f m st;
+  roots = λ m st own. st;
   above = λ m st root. Keeps-Renews f f m (Keeps-refl f m st);
   room = omega arith;
   room_falls = omega arith;
@@ -104,6 +135,7 @@ puts_all {at} (first {f = f} {h = h} {g = g} {r = r} {rs = rs} step rest) sound 
       leaves = λ l hl. tail.leaves (put r l) (ins.leaves l hl);
       paths = λ key o miss reached. tail.paths key o (λ i x read. miss (suc i) x read) (step.paths key o (miss 0 r refl) reached);
       still = λ m st. let there = ins.still m st in InPlace-trans f h g m there (tail.still m there.stands);
+      roots = λ m st own. let there = tail.roots m st own in inserted_root sound stands ins m there (sym (tail.still m there).root ∙ own);
       above = λ m st root. let there = ins.above m st root in Renews-trans f h g m there (tail.above m there.place.stands (λ e. root (sym there.place.root ∙ e ∙ ins.place.root)));
       room = omega (arith, ins.room, tail.room, n);
       room_falls = omega (arith, ins.room_falls, tail.room_falls);

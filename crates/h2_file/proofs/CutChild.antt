@@ -19,7 +19,8 @@ use Rattle.h2_file.specs.Cutting.{IsCutBlock, cut_to, front, leads, Cuts, cut_bl
 use Rattle.h2_file.proofs.Answering.{In-on}
 use Rattle.h2_file.proofs.Parts.{Alike-take, cut_append, Parted, leaves_parted, leaves_join, take_from, taken_at, take_next, in_order}
 use Rattle.h2_file.proofs.Onward.{contents_root, onward}
-use Rattle.h2_file.proofs.Fronts.{contents_keep, reaches_keeps, same_holds, same_holds_back}
+use Rattle.h2_file.proofs.Altered.{contents_keep}
+use Rattle.h2_file.proofs.Fronts.{reaches_keeps, same_holds, same_holds_back}
 use Rattle.h2_file.proofs.CutLevels.{Readied, FrontLeft, nothing_left, none_before, none_upto, none_of, own_below, cut_parts, block_le}
 
 -- A load of what the last reference below the size leads to

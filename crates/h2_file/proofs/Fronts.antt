@@ -1,15 +1,16 @@
 -- A node whose set is cut to its first references.
-use Rattle.std.proofs.Common.{◌≡◌, ℕ, ◌+◌, ◌-◌, ◌%◌, ◌<◌, ◌≤◌, ◌^◌, Bool, true, false, arith, refl, sym, ◌∙◌, ap, List, [], ◌∷◌, length, Option, Some, None, subst, ◌⊎◌, inl, inr, slice_get, take, suc, min}
+use Rattle.std.proofs.Common.{◌≡◌, ℕ, ◌+◌, ◌-◌, ◌%◌, ◌<◌, ◌≤◌, ◌^◌, Bool, true, false, arith, refl, sym, ◌∙◌, ap, List, [], ◌∷◌, length, Option, Some, None, subst, ◌⊎◌, inl, inr, slice_get, slice_set, take, suc, zero, min}
 use Rattle.std.specs.Prelude.{IfSome}
 use Rattle.std.proofs.lemmas.Nat.{pow_pos}
-use Rattle.std.proofs.lemmas.Option.{none-some}
+use Rattle.std.proofs.lemmas.Bool.{cases_lt}
+use Rattle.std.proofs.lemmas.Option.{none-some, slice_get_within}
 use Rattle.std.proofs.lemmas.List.{length-take}
 use Rattle.h2_ref.specs.declared.reference.Ref.{Ref}
 use Rattle.h2_ref.specs.declared.reference.Kind.{Kind}
-use Rattle.h2_ref.specs.declared.reference.Kind.TheVariants.{Inode, Content}
+use Rattle.h2_ref.specs.declared.reference.Kind.TheVariants.{Content}
 use Rattle.h2_set.specs.Ranges.{Rising, limit, holds, is_indirect, leads_on}
 use Rattle.h2_set.specs.RefSet.{RefSet}
-use Rattle.h2_set.specs.Forest.{Forest, refs, loaded, HasLeaves, KeepsLeaves, Fits, IsSoundNode, IsSound, InPlace, Fixed, Stays, Keeps, IsAlike, Alters, Stores, Storable, Same, AllRenewed, GoesBelow, GoesWith, OnWay, inside, across, IsAbove, itself, by, Reaches, nowhere, here, below}
+use Rattle.h2_set.specs.Forest.{Forest, refs, loaded, HasLeaves, KeepsLeaves, Fits, IsSoundNode, IsSound, InPlace, Fixed, Stays, Keeps, IsAlike, Alike, Alters, Stores, Storable, Same, AllRenewed, GoesBelow, GoesWith, OnWay, inside, across, IsAbove, itself, by, Reaches, nowhere, here, below}
 use Rattle.h2_set.specs.StayLaws.{Alike-refl, Fixed-trans, InPlace-trans, leaves_stay}
 use Rattle.h2_set.specs.LeafLaws.{holds_inside, place_above}
 use Rattle.h2_set.specs.EditLaws.{Rising-set, length-slice_set}
@@ -18,94 +19,9 @@ use Rattle.h2_set.specs.SplitLaws.{nested, below_high}
 use Rattle.h2_set.specs.RenewLaws.{Keeps-Renews, Renews-trans, Alike-length, Alike-sym, like_at}
 use Rattle.h2_tree.specs.Changes.{Under}
 use Rattle.h2_file.specs.Blocks.{HasContents}
-use Rattle.h2_file.specs.Cutting.{front, FitsLast, ReachesBy, misses, arrives, leads, KeepsFront}
-use Rattle.h2_file.proofs.Parts.{take_from, set_from, taken_at, Rising-take}
-
--- The set of a node that is altered
-
--- lists of one length, of which one has all that the other has, each at its place
-same_list : (rs qs : List Ref) → length qs ≡ length rs → ((i : ℕ) (r : Ref) → slice_get rs i ≡ Some r → slice_get qs i ≡ Some r) → qs ≡ rs
-same_list [] [] n each = refl
-same_list [] (q ∷ qs) n each = absurd (omega (arith, n))
-same_list (r ∷ rs) [] n each = absurd (omega (arith, n))
-same_list (r ∷ rs) (q ∷ qs) n each =
-    let first : slice_get (q ∷ qs) 0 ≡ Some r = each 0 r refl in
-    let head : q ≡ r = (cc) in
-    let tail : qs ≡ rs = same_list rs qs (omega (arith, n)) (λ i x read. each (suc i) x read) in
-    rw (head, tail) refl
-
-pub same_set : (s t : RefSet) → s.refs ≡ t.refs → s.capacity ≡ t.capacity → s ≡ t
-same_set s t refs_are capacity =
-    let with_refs : RefSet = record { refs = t.refs; capacity = s.capacity } in
-    let first : s ≡ with_refs = ap (λ z. let w : RefSet = record { refs = z; capacity = s.capacity } in w) refs_are in
-    let second : with_refs ≡ t = ap (λ z. let w : RefSet = record { refs = t.refs; capacity = z } in w) capacity in
-    first ∙ second
-
--- no reference of a node is on the way to it
-not_own : (f : Forest) (at i : ℕ) (r : Ref) → IsSoundNode f at → slice_get (refs f at) i ≡ Some r → OnWay f at r at → ⊥
-not_own f at i r node read (inside root ind in_r bits) = omega (arith, (node.fits i r read).falls ind, bits)
-not_own f at i r node read (across key other in_r belongs) = other refl
-
--- the set of a node that is altered stays
-pub own_set : (f h : Forest) (at : ℕ) → IsSound f → f.stands at ≡ true → Alters f h at → h.set at ≡ f.set at
-own_set f h at sound stands alters =
-    let node = sound.node at stands in
-    let n = Alike-length (refs f at) (refs h at) (alters.tree at stands refl).alike in
-    same_set (h.set at) (f.set at) (same_list (refs f at) (refs h at) n (λ i r read. alters.exact at i r stands read (not_own f at i r node read))) (alters.capacity at stands)
-
-pub altered_place : (f h : Forest) (at : ℕ) → Alters f h at → (m : ℕ) → f.stands m ≡ true → InPlace f h m
-altered_place f h at alters m st = elim (same_or_not (f.root m) (f.root at)) as (λ _. InPlace f h m) [
-  | inl same ↦ (alters.tree m st same).place
-  | inr differs ↦ (alters.above m st differs).place
-]
-
-renewed_length : (rs qs : List Ref) → AllRenewed rs qs → length qs ≡ length rs
-renewed_length [] [] a = refl
-renewed_length [] (q ∷ qs) a = absurd a
-renewed_length (r ∷ rs) [] a = absurd a
-renewed_length (r ∷ rs) (q ∷ qs) a = ap suc (renewed_length rs qs a.1)
-
-altered_length : (f h : Forest) (at : ℕ) → Alters f h at → (m : ℕ) → f.stands m ≡ true → length (refs h m) ≡ length (refs f m)
-altered_length f h at alters m st = elim (same_or_not (f.root m) (f.root at)) as (λ _. length (refs h m) ≡ length (refs f m)) [
-  | inl same ↦ Alike-length (refs f m) (refs h m) (alters.tree m st same).alike
-  | inr differs ↦ renewed_length (refs f m) (refs h m) (alters.above m st differs).renewed
-]
-
--- the set of a node that isn't above the one that is altered stays
-off_set : (f h : Forest) (at m : ℕ) → f.stands m ≡ true → Alters f h at → (IsAbove f m at → ⊥) → h.set m ≡ f.set m
-off_set f h at m st alters off = same_set (h.set m) (f.set m) (same_list (refs f m) (refs h m) (altered_length f h at alters m st) (λ i r read. alters.exact m i r st read (λ way. off (by i r read way)))) (alters.capacity m st)
-
--- A file's tree holds content alone, to which nothing belongs
-
--- a leaf that is reached is one that the tree may have
-pub reached_allowed : {f : Forest} {key at : ℕ} {o : Option Ref} → IsSound f → f.stands at ≡ true → Reaches f key at o → (leaf : Ref) → o ≡ Some leaf → f.allows (f.root at) leaf ≡ true
-reached_allowed sound stands (nowhere none) leaf e = absurd (none-some leaf e)
-reached_allowed {f} sound stands (here {at = at} {r = r} i read in_r k) leaf e =
-    let same : r ≡ leaf = (cc) in
-    subst (λ (y : Ref). f.allows (f.root at) y ≡ true) same (((sound.node at stands).fits i r read).allowed k)
-reached_allowed {f} sound stands (below {at = at} {c = c} {r = r} i read in_r ind link rest) leaf e =
-    let child = (sound.node at stands).child r.key c link in
-    subst (λ m. f.allows m leaf ≡ true) child.root (reached_allowed sound child.stands rest leaf e)
-
-pub nothing_goes : (f : Forest) (at : ℕ) (s : RefSet) → IsSound f → HasContents f at → (m : ℕ) → f.stands m ≡ true → GoesWith f m at s → ⊥
-nothing_goes f at s sound holds m st goes =
-    let it = sound.owner m (f.root at) goes.key st goes.belongs in
-    let may : f.allows (f.root (f.root at)) it.leaf ≡ true = reached_allowed sound it.stands it.path it.leaf refl in
-    let is : it.leaf.kind ≡ Content = (holds.kinds it.leaf (subst (λ n. f.allows n it.leaf ≡ true) it.root may)).0 in
-    let clash : Inode ≡ Content = sym it.kind_is ∙ is in
-    cc
-
-pub contents_keep : (f g : Forest) (at : ℕ) → IsSound f → IsSound g → f.stands at ≡ true → InPlace f g at → Fixed f g → HasContents f at → HasContents g at
-contents_keep f g at sound sound_g stands place fixed h =
-    let root : f.root at ≡ g.root at = sym place.root in
-    let top : f.stands (f.root at) ≡ true = (sound.top at stands).0 in
-    let top_g : g.stands (f.root at) ≡ true = subst (λ n. g.stands n ≡ true) place.root (sound_g.top at place.stands).0 in
-    let allows : (r : Ref) → g.allows (f.root at) r ≡ f.allows (f.root at) r = λ r. fixed.allows (f.root at) r top top_g in
-    record {
-      kinds = λ r e. h.kinds r (sym (allows r) ∙ subst (λ m. g.allows m r ≡ true) (sym root) e);
-      kinds_all = λ r e is. subst (λ m. g.allows m r ≡ true) root (allows r ∙ h.kinds_all r e is);
-      keybits = ap g.leaf_bits (sym root) ∙ (fixed.leaf_bits (f.root at) top top_g ∙ h.keybits);
-    }
+use Rattle.h2_file.specs.Cutting.{front, FitsLast, ReachesBy, misses, arrives, leads, GoesBehind, KeepsFront}
+use Rattle.h2_file.proofs.Altered.{own_set, altered_place, altered_link, altered_length, off_set, nothing_goes, contents_keep}
+use Rattle.h2_file.proofs.Parts.{take_from, set_from, taken_at, Rising-take, in_order}
 
 -- Loaded paths through nodes that keep what they have
 
@@ -142,8 +58,69 @@ Rising-front : (low high count : ℕ) (last : Option Ref) (rs : List Ref) → If
 Rising-front low high count None rs fits h = Rising-take low high count rs h
 Rising-front low high count (Some q) rs fits h = (let pos = fits.some in Rising-set low high (take count rs) (count - 1) q fits.ref (Rising-take low high count rs h) (taken_at count rs (count - 1) fits.ref fits.read (omega (arith, pos))) fits.key fits.keybits)
 
+set_here : (xs : List Ref) (n : ℕ) (q : Ref) → n < length xs → slice_get (slice_set xs n q) n ≡ Some q
+set_here [] n q lt = absurd (omega (arith, lt))
+set_here (x ∷ xs) zero q lt = refl
+set_here (x ∷ xs) (suc n) q lt = set_here xs n q (omega (arith, lt))
+
+set_other : (xs : List Ref) (n i : ℕ) (q r : Ref) → (i ≡ n → ⊥) → slice_get xs i ≡ Some r → slice_get (slice_set xs n q) i ≡ Some r
+set_other [] n i q r ne read = absurd (none-some r read)
+set_other (x ∷ xs) zero zero q r ne read = absurd (ne refl)
+set_other (x ∷ xs) zero (suc i) q r ne read = read
+set_other (x ∷ xs) (suc n) zero q r ne read = read
+set_other (x ∷ xs) (suc n) (suc i) q r ne read = set_other xs n i q r (λ e. ne (ap suc e)) read
+
+-- each of the first references is left, or one of its key in its place
+record LeftAs (qs : List Ref) (i : ℕ) (r : Ref) : Type 0 where
+  ref : Ref
+  read : slice_get qs i ≡ Some ref
+  key : ref.key ≡ r.key
+  leads : is_indirect ref ≡ is_indirect r
+
 content_leaf : (k : Kind) → k ≡ Content → leads_on k ≡ false
 content_leaf k e = rw e refl
+
+held_on : {a b : ℕ} (r : Ref) → a ≡ b → holds a r ≡ true → holds b r ≡ true
+held_on r e h = subst (λ z. holds z r ≡ true) e h
+
+front_left : (count : ℕ) (last : Option Ref) (rs : List Ref) → IfSome last (FitsLast rs count) → (i : ℕ) (r : Ref) → slice_get rs i ≡ Some r → i < count → LeftAs (front count last rs) i r
+front_left count None rs fits i r read lt = record { ref = r; read = taken_at count rs i r read lt; key = refl; leads = refl }
+front_left count (Some q) rs fits i r read lt = elim (same_or_not i (count - 1)) as (λ _. LeftAs (slice_set (take count rs) (count - 1) q) i r) [
+  | inl e ↦
+      let there : slice_get rs (count - 1) ≡ Some r = subst (λ z. slice_get rs z ≡ Some r) e read in
+      let first = fits.read in
+      let is : fits.ref ≡ r = (cc) in
+      let taken = taken_at count rs i r read lt in
+      let within = slice_get_within (take count rs) i r taken in
+      record {
+        ref = q;
+        read = subst (λ z. slice_get (slice_set (take count rs) (count - 1) q) z ≡ Some q) (sym e) (set_here (take count rs) (count - 1) q (omega (arith, within, e)));
+        key = sym fits.key ∙ ap (λ (y : Ref). y.key) is;
+        leads = content_leaf q.kind fits.kind ∙ sym fits.leaf_was ∙ ap (λ (y : Ref). is_indirect y) is;
+      }
+  | inr ne ↦ record { ref = r; read = set_other (take count rs) (count - 1) i q r ne (taken_at count rs i r read lt); key = refl; leads = refl }
+]
+
+-- and of those behind them none
+front_lost : (low high count : ℕ) (last : Option Ref) (rs : List Ref) → IfSome last (FitsLast rs count) → Rising low high rs → (place : ℕ) (lost : Ref) → slice_get rs place ≡ Some lost → count ≤ place → (i : ℕ) (r : Ref) → slice_get (front count last rs) i ≡ Some r → r.key ≡ lost.key → ⊥
+front_lost low high count None rs fits rising place lost was behind i r read key =
+    let it = take_from count rs i r read in
+    let order = in_order low high rs i place r lost rising it.1 was (let b = it.0 in omega (arith, b, behind)) in
+    let pos = pow_pos r.keybits in
+    omega (arith, order, pos, key)
+front_lost low high count (Some q) rs fits rising place lost was behind i r read key = elim (set_from (take count rs) (count - 1) q i r read) as (λ _. ⊥) [
+  | inl same ↦
+      let order = in_order low high rs (count - 1) place fits.ref lost rising fits.read was (let pos = fits.some in omega (arith, pos, behind)) in
+      let pos = pow_pos (let x = fits.ref in x.keybits) in
+      let e = ap (λ (y : Ref). y.key) same in
+      let k = fits.key in
+      omega (arith, order, pos, key, e, k)
+  | inr there ↦
+      let it = take_from count rs i r there in
+      let order = in_order low high rs i place r lost rising it.1 was (let b = it.0 in omega (arith, b, behind)) in
+      let pos = pow_pos r.keybits in
+      omega (arith, order, pos, key)
+]
 
 module _ (f h : Forest) (at count : ℕ) (last : Option Ref) (sound : IsSound f) (stands : f.stands at ≡ true) (alters : Alters f h at) (holds : HasContents f at) (fits : IfSome last (FitsLast (refs f at) count)) where
   here_at : Keeps f h at
@@ -292,6 +269,42 @@ module _ (f h : Forest) (at count : ℕ) (last : Option Ref) (sound : IsSound f)
         let in_g : Reaches g key c o = reaches_keeps h g (BelowRef r) (closed_below r) (keeps_below i r read ind) (starts_below i c r read ind link_h) in_h in
         below {r = r} i (subst (λ (t : RefSet). slice_get t.refs i ≡ Some r) (sym stores.set) read) in_r ind (stores.link i r read ind ∙ link_h) in_g
 
+    -- what goes below the node goes below a reference that is lost
+    behind : (m : ℕ) → f.stands m ≡ true → GoesBelow h m at s → GoesBehind f at count m
+    behind m st goes =
+        let place = altered_place f h at alters m st in
+        let own = here_at.place in
+        let lost = goes.loses.lost in
+        record {
+          place = goes.loses.place;
+          ref = lost;
+          read = subst (λ (t : RefSet). slice_get t.refs goes.loses.place ≡ Some lost) same goes.loses.was;
+          behind = elim (cases_lt goes.loses.place count) as (λ _. count ≤ goes.loses.place) [
+            | inr le ↦ le
+            | inl lt ↦ let it = front_left count last (refs h at) fits_h goes.loses.place lost goes.loses.was lt in absurd (goes.loses.lacks goes.loses.place it.ref it.read it.key it.leads)
+          ];
+          tree = sym place.root ∙ goes.tree ∙ own.root;
+          fewer = (let a = place.bits in let b = own.bits in let fewer = goes.fewer in omega (arith, a, b, fewer));
+          held = held_on lost place.low goes.loses.held;
+        }
+
+    ahead : (m : ℕ) → f.stands m ≡ true → GoesBehind f at count m → GoesBelow h m at s
+    ahead m st goes =
+        let place = altered_place f h at alters m st in
+        let own = here_at.place in
+        let was : slice_get (refs h at) goes.place ≡ Some goes.ref = subst (λ (t : RefSet). slice_get t.refs goes.place ≡ Some goes.ref) (sym same) goes.read in
+        record {
+          tree = place.root ∙ goes.tree ∙ sym own.root;
+          fewer = (let a = place.bits in let b = own.bits in let fewer = goes.fewer in omega (arith, a, b, fewer));
+          loses = record {
+            place = goes.place;
+            lost = goes.ref;
+            was = was;
+            lacks = λ i r read key ind. front_lost _ _ count last (refs h at) fits_h node.inside goes.place goes.ref was goes.behind i r read key;
+            held = held_on goes.ref (sym place.low) goes.held;
+          };
+        }
+
     pub keeps_front : KeepsFront f g at count last
     keeps_front = record {
       sound = stores.sound;
@@ -342,6 +355,16 @@ module _ (f h : Forest) (at count : ℕ) (last : Option Ref) (sound : IsSound f)
         | inl e ↦ subst (λ z. g.writable z ≡ true) (sym e) (stores.place.writable alters.writable)
         | inr ne ↦ (same_on m st st' ne).place.writable (alters.made m st way)
       ];
+      link = λ i r read ind. stores.link i r (subst (λ (t : RefSet). slice_get t.refs i ≡ Some r) stores.set read) ind ∙ here_at.link r.key;
+      links = λ m k st st' ne. (same_on m st st' ne).link k ∙ altered_link f h at alters m k st;
+      alike = λ m st st' root ne. subst (λ (t : RefSet). Alike (refs f m) t.refs) (sym (same_on m st st' ne).set) (alters.tree m st root).alike;
+      stand = λ m st stays. elim (same_or_not m at) as (λ _. g.stands m ≡ true) [
+        | inl e ↦ subst (λ z. g.stands z ≡ true) (sym e) stores.place.stands
+        | inr ne ↦ (others m (altered_place f h at alters m st).stands ne (λ goes. stays (behind m st goes))).place.stands
+      ];
+      gone = λ m st goes. stores.gone m (altered_place f h at alters m st).stands (inl (ahead m st goes));
+      kept = λ m i c r st st' ne read link w. subst (λ (t : RefSet). slice_get t.refs i ≡ Some r) (sym (same_on m st st' ne).set) (alters.kept m i c r st read link w);
+      dated = λ m i r q st st' ne read now. alters.dated m i r q st read (subst (λ (t : RefSet). slice_get t.refs i ≡ Some q) (same_on m st st' ne).set now);
       writable = stores.place.writable alters.writable;
       copies = stores.copies ∙ alters.copies;
       room = omega (arith, alters.room, stores.room);

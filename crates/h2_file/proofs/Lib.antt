@@ -2,10 +2,14 @@ pub mod Merged
 mod Parts
 mod Answering
 mod Onward
+mod Altered
 mod Fronts
+mod Trees
 mod CutLevels
 mod CutChild
 mod CutNodes
+mod CutOver
+mod CutWhole
 mod Sized
 mod Held
 mod Chained
@@ -13,6 +17,8 @@ mod Opened
 mod Linked
 mod Loaded
 mod LinkHeld
+mod Others
+mod Known
 mod Watched
 mod Spent
 mod SpentAll

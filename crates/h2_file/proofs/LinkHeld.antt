@@ -15,7 +15,7 @@ use Rattle.h2_tree.specs.ListLaws.{In, find_in}
 use Rattle.h2_inode.specs.Nodes.{Fields, Told}
 use Rattle.h2_inode.specs.Contents.{IsPart}
 use Rattle.h2_inode.specs.Loaded.{at_root}
-use Rattle.h2_file.specs.FileContents.{file_reading, FileHas, LinksBytes}
+use Rattle.h2_file.specs.FileContents.{file_reading, FileHas, LinksBytes, CoversBytes}
 use Rattle.h2_file.specs.Linking.{AreBlocks, PutsEach, none, first, put_each, LinksFile}
 use Rattle.h2_file.proofs.Chained.{block_limit, block_aligned}
 use Rattle.h2_file.proofs.Held.{all_head, all_tail}
@@ -225,5 +225,22 @@ module _ (f g : Forest) (holds_f holds_g : ℕ → Option Fields) (tells_f tells
         has = record { read = now; ordered = leaves_rising now 0 (2 ^ 64) (links.sound.node at links.place.stands).set.rising };
         parts = parts_now l hl sound stands in_opened opened.sound opened.place.stands has.sized has.parts;
         holes = λ k e. let it = holes_now l hl sound stands in_opened opened.sound opened.place.stands has.parts k e in puts_bytes.same k it.0 ∙ has.holes k it.1;
+        sized = puts_bytes.sized;
+      }
+
+  -- and where its bytes stood in its inode
+  pub link_lifted : IsSound f → f.stands at ≡ true → f.root at ≡ at → LeavesOf f at [] → CoversBytes rs bytes → old ≡ length bytes → FileHas g holds_g tells_g blocks at size new
+  link_lifted sound stands top bare covers sized =
+      let nodes = links.nodes in
+      let place = (nodes.prepares.stays at stands).place in
+      let opened = opened_all nodes.opens nodes.prepares.sound place.stands (place.root ∙ top) in
+      let in_opened : LeavesOf nodes.opened at [] = opened.leaves [] (leaves_stay_all f nodes.walked sound nodes.prepares.stays at stands [] bare) in
+      let now : LeavesOf g at (put_each rs []) = links.leaves [] bare in
+      let none_was : All Was [] = in_all Was [] (λ i x read. absurd (none-some x read)) in
+      record {
+        leaves = put_each rs [];
+        has = record { read = now; ordered = leaves_rising now 0 (2 ^ 64) (links.sound.node at links.place.stands).set.rising };
+        parts = parts_now [] bare sound stands in_opened opened.sound opened.place.stands (sym sized) none_was;
+        holes = λ k e. let it = holes_now [] bare sound stands in_opened opened.sound opened.place.stands none_was k e in puts_bytes.same k it.0 ∙ covers k it.0;
         sized = puts_bytes.sized;
       }

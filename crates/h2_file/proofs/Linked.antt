@@ -18,7 +18,7 @@ use Rattle.h2_inode.specs.Nodes.{Fields, fields_of, set_of, HasInode, KeepsOther
 use Rattle.h2_inode.specs.NodeLaws.{inode_held}
 use Rattle.h2_file.specs.Blocks.{IsFile, IsFileOfRefs, HasContents}
 use Rattle.h2_file.specs.Sizing.{IsResized, HasResized, Sizes}
-use Rattle.h2_file.specs.Linking.{empty_set, IsBlock, AreBlocks, PathsLoaded, LoadsEach, Opens, PutsEach, LinksNodes, LinksFile, put_each}
+use Rattle.h2_file.specs.Linking.{empty_set, IsBlock, AreBlocks, PathsLoaded, LoadsEach, KeepsOthers, Opens, PutsEach, LinksNodes, LinksFile, put_each}
 use Rattle.h2_file.proofs.Chained.{block_limit, blocks_ordered, PutAll, puts_all, puts_reach}
 use Rattle.h2_file.proofs.Opened.{Opened, opened_all}
 use Rattle.h2_file.proofs.Loaded.{loaded_on}
@@ -139,7 +139,7 @@ module _ (h : Forest) (holds : ℕ → Option Fields) (at : ℕ) (file : IsFile 
 
 -- The whole
 
-module _ (f w o p g : Forest) (at : ℕ) (rs : List Ref) (sound : IsSound f) (stands : f.stands at ≡ true) (top : f.root at ≡ at) (prepares : Prepares f w) (loads : LoadsEach f w at rs) (loaded : PathsLoaded w at rs) (opens : Opens w at o) (puts : PutsEach at o rs p) (sizes : Sizes p g at) (are : AreBlocks rs) (contents : HasContents o at) where
+module _ (f w o p g : Forest) (at : ℕ) (rs : List Ref) (sound : IsSound f) (stands : f.stands at ≡ true) (top : f.root at ≡ at) (prepares : Prepares f w) (loads : LoadsEach f w at rs) (apart : KeepsOthers f w at) (loaded : PathsLoaded w at rs) (opens : Opens w at o) (puts : PutsEach at o rs p) (sizes : Sizes p g at) (are : AreBlocks rs) (contents : HasContents o at) where
   place_w : (m : ℕ) → f.stands m ≡ true → InPlace f w m
   place_w m st = (prepares.stays m st).place
 
@@ -171,7 +171,7 @@ module _ (f w o p g : Forest) (at : ℕ) (rs : List Ref) (sound : IsSound f) (st
   still_all m st = InPlace-trans f w g m (place_w m st) (InPlace-trans w o g m (open_w.still m (stands_w m st)) (InPlace-trans o p g m (all.still m (stands_o m st)) (place_g m (stands_p m st))))
 
   abbrev linked_nodes : LinksNodes f g at rs
-  linked_nodes = record { walked = w; prepares = prepares; touched = loads; loaded = loaded; opened = o; opens = opens; linked = p; puts = puts; sizes = sizes }
+  linked_nodes = record { walked = w; prepares = prepares; touched = loads; apart = apart; loaded = loaded; opened = o; opens = opens; linked = p; puts = puts; sizes = sizes }
 
   pub links_file : LinksFile f g at rs
   links_file = record {
@@ -182,13 +182,25 @@ module _ (f w o p g : Forest) (at : ℕ) (rs : List Ref) (sound : IsSound f) (st
     place = still_all at stands;
     nodes = linked_nodes;
     others = λ m st root.
+        let walked = Keeps-Renews f w m (apart m st (λ e. root (e ∙ top))) in
         let at_w = place_w m st in
         let first = open_w.others m at_w.stands (λ e. root (sym at_w.root ∙ e)) in
         let root_o : o.root m ≡ f.root m = first.place.root ∙ at_w.root in
         let second = all.above m first.place.stands (λ e. root (sym root_o ∙ e ∙ open_w.place.root ∙ top_w)) in
         let third = sizes.others m second.place.stands (λ e. root (ap f.root e ∙ top)) in
-        Renews-trans w o g m first (Renews-trans o p g m second (Keeps-Renews p g m (Same-Keeps p g m third)));
+        Renews-trans f w g m walked (Renews-trans w o g m first (Renews-trans o p g m second (Keeps-Renews p g m (Same-Keeps p g m third))));
     still = still_all;
+    roots = λ m st own.
+        let in_p = sizes.none_new m st in
+        let own_p : p.root m ≡ m = sym (place_g m in_p).root ∙ own in
+        let in_o = all.roots m in_p own_p in
+        let own_o : o.root m ≡ m = sym (all.still m in_o).root ∙ own_p in
+        let in_w = open_w.none_new m in_o in
+        let own_w : w.root m ≡ m = sym (open_w.still m in_w).root ∙ own_o in
+        elim (loads.only m in_w) as (λ _. f.stands m ≡ true) [
+          | inl was ↦ was
+          | inr new ↦ subst (λ z. f.stands z ≡ true) (sym top ∙ (sym new.1 ∙ own_w)) stands
+        ];
     leaf_bits = λ m st. sizes.leaf_bits m (stands_p m st) ∙ all.fixed.leaf_bits m (stands_o m st) (stands_p m st) ∙ open_w.leaf_bits m (stands_w m st) ∙ prepares.fixed.leaf_bits m st (stands_w m st);
     allows = λ m r st ne. sizes.allows m r (stands_p m st) ∙ all.fixed.allows m r (stands_o m st) (stands_p m st) ∙ open_w.allows m r (stands_w m st) ne ∙ prepares.fixed.allows m r st (stands_w m st);
     held = λ m. sizes.held m ∙ all.fixed.held m ∙ open_w.held m ∙ prepares.fixed.held m;

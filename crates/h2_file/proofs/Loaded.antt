@@ -1,14 +1,14 @@
 -- Paths of several keys that are loaded one after the other.
-use Rattle.std.proofs.Common.{◌≡◌, ℕ, ◌+◌, ◌<◌, ◌^◌, true, arith, refl, ◌∙◌, ap, List, [], ◌∷◌, length, Option, Some, subst, ◌⊎◌, inl, inr, slice_get, suc, zero}
+use Rattle.std.proofs.Common.{◌≡◌, ℕ, ◌+◌, ◌<◌, ◌^◌, true, arith, refl, sym, ◌∙◌, ap, List, [], ◌∷◌, length, Option, Some, subst, ◌⊎◌, inl, inr, slice_get, suc, zero}
 use Rattle.std.specs.Prelude.{slice_index_or}
 use Rattle.std.proofs.lemmas.Bool.{cases_Bool}
 use Rattle.h2_ref.specs.declared.reference.Ref.{Ref}
 use Rattle.h2_set.specs.Forest.{Forest, IsSound, InPlace, Walks, ReadiesOnly, Reaches}
 use Rattle.h2_set.specs.StayLaws.{Reaches-walks, Same-Stays, stands_below}
 use Rattle.h2_set.specs.PathLaws.{reaches_stay}
-use Rattle.h2_set.specs.ChangeLaws.{same_or_not}
-use Rattle.h2_tree.specs.Changes.{LoadsIn, PathUnloaded}
-use Rattle.h2_file.specs.Linking.{PathsLoaded, IsOnPath, LoadsEach}
+use Rattle.h2_set.specs.ChangeLaws.{Keeps-refl, Keeps-trans, Same-Keeps, same_or_not}
+use Rattle.h2_tree.specs.Changes.{LoadsIn, PathUnloaded, WalksUnder}
+use Rattle.h2_file.specs.Linking.{PathsLoaded, IsOnPath, LoadsEach, KeepsOthers}
 
 pub Each-refl : (f : Forest) (at : ℕ) (rs : List Ref) → LoadsEach f f at rs
 Each-refl f at rs = record { only = λ m st. inl st }
@@ -75,3 +75,18 @@ loaded_more f g at rs i r o sound stands walks read path prior j x read' lt = el
 -- loaded paths stay where only spare nodes were made ready
 pub readied_paths : (f g : Forest) (at : ℕ) → IsSound f → f.stands at ≡ true → ReadiesOnly f g → (key : ℕ) (o : Option Ref) → Reaches f key at o → Reaches g key at o
 readied_paths f g at sound stands ready key o reached = reaches_stay f g (λ m. f.stands m ≡ true) (stands_below f sound) (λ m st. Same-Stays f g m (ready.same m st)) stands reached
+
+-- The nodes of other trees
+
+pub apart_refl : (f : Forest) (at : ℕ) → KeepsOthers f f at
+apart_refl f at m st other = Keeps-refl f m st
+
+pub apart_on : (f g h : Forest) (at : ℕ) → g.root at ≡ f.root at → KeepsOthers f g at → WalksUnder g h at → KeepsOthers f h at
+apart_on f g h at root first second m st other =
+    let there = first m st other in
+    Keeps-trans f g h m there (second.keeps m there.place.stands (λ same under. other (sym there.place.root ∙ (same ∙ root))))
+
+pub apart_readied : (f g h : Forest) (at : ℕ) → KeepsOthers f g at → ReadiesOnly g h → KeepsOthers f h at
+apart_readied f g h at first ready m st other =
+    let there = first m st other in
+    Keeps-trans f g h m there (Same-Keeps g h m (ready.same m there.place.stands))

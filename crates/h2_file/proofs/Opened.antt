@@ -11,7 +11,7 @@ use Rattle.h2_set.specs.RenewLaws.{Keeps-Renews, Renews-trans}
 use Rattle.h2_inode.specs.Nodes.{Replaces, Replaceable}
 use Rattle.h2_inode.specs.declared.kind.InodeKind.TheVariants.{File}
 use Rattle.h2_file.specs.Linking.{empty_set, Opens, body_of_refs, body_of_bytes}
-use Rattle.h2_file.proofs.Fronts.{altered_place}
+use Rattle.h2_file.proofs.Altered.{altered_place}
 use Rattle.h2_file.proofs.CutLevels.{none_of}
 
 pub record Opened (f g : Forest) (at : ℕ) : Type 0 where

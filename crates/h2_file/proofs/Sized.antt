@@ -20,7 +20,7 @@ use Rattle.h2_file.specs.Blocks.{IsFileOfRefs, HasContents}
 use Rattle.h2_file.specs.Sizing.{IsResized, HasResized, Sizes}
 use Rattle.h2_file.specs.Cutting.{Cuts, CutsNodes, CutsFile, cut_to}
 use Rattle.h2_file.proofs.Answering.{In-on, none_in}
-use Rattle.h2_file.proofs.CutNodes.{nodes_sized}
+use Rattle.h2_file.proofs.CutWhole.{nodes_sized}
 
 some_same : {X : Type 0} {x y : X} → Some x ≡ Some y → x ≡ y
 some_same e = (cc)
@@ -161,6 +161,7 @@ module _ (f : Forest) (holds : ℕ → Option Fields) (at size : ℕ) (sound : I
       bad = changes.bad;
       place = changes.place;
       set = same_set;
+      link = links;
       copies = changes.copies;
       leaves = same_leaves;
       paths = λ key o reached. same_path reached refl;
@@ -202,6 +203,10 @@ cuts_file f k g at size last sound stands top cuts nodes sizes = record {
       let first = cuts.above m st (λ e. root (e ∙ top)) in
       Renews-trans f k g m first (Keeps-Renews k g m (Same-Keeps k g m (sizes.others m first.place.stands (λ e. root (subst (λ z. f.root z ≡ at) (sym e) top)))));
   still = λ m st st'. let was = sizes.none_new m st' in InPlace-trans f k g m (cuts.still m st was) (place_on m was);
+  roots = λ m st own.
+      let in_k = sizes.none_new m st in
+      let in_w = nodes.none_new m in_k in
+      nodes.walks.roots m in_w (sym (nodes.still m in_w in_k).root ∙ (sym (place_on m in_k).root ∙ own));
   touched = In-on f k g at at size size cuts.place.root (λ m was st. place_on m was) cuts.touched (none_in k g at size size sizes.none_new);
   leaf_bits = λ m st st'. let was = sizes.none_new m st' in sizes.leaf_bits m was ∙ cuts.fixed.leaf_bits m st was;
   allows = λ m r st st'. let was = sizes.none_new m st' in sizes.allows m r was ∙ cuts.fixed.allows m r st was;

@@ -10,7 +10,7 @@ use Rattle.h2_set.specs.PathLaws.{in_holds}
 use Rattle.h2_set.specs.ChangeLaws.{same_or_not}
 use Rattle.h2_tree.specs.Changes.{Descends, arrived, onward, ChangesOnly, TakesIn, replaced, placed, parted, Prepares, Inserts}
 use Rattle.h2_file.specs.Blocks.{HasContents}
-use Rattle.h2_file.proofs.Fronts.{contents_keep}
+use Rattle.h2_file.proofs.Altered.{contents_keep}
 use Rattle.h2_file.proofs.Watched.{Among, unwritten, unwritten_same, Falls, fallen, HighPath, Watched, watched_prepared}
 
 -- Ways down

@@ -4,7 +4,7 @@ use Rattle.h2_ref.specs.declared.reference.Ref.{Ref}
 use Rattle.h2_ref.specs.declared.reference.Kind.TheVariants.{Content}
 use Rattle.h2_set.specs.Ranges.{limit, holds, NoneHolds, IsAligned, is_indirect}
 use Rattle.h2_set.specs.SetBytes.{IsHeld}
-use Rattle.h2_set.specs.Forest.{Forest, refs, loaded, IsSound, HasLeaves, LeavesOf, Fixed, InPlace, Keeps, Renews, Reaches, Walks, OnWay, IsAbove}
+use Rattle.h2_set.specs.Forest.{Forest, refs, loaded, IsSound, Alike, HasLeaves, LeavesOf, Fixed, InPlace, Keeps, Renews, Reaches, Walks, OnWay, IsAbove}
 use Rattle.h2_tree.specs.Changes.{Under, LoadsIn, WalksUnder, Descends}
 use Rattle.h2_file.specs.declared.cutting.Left.{Left}
 use Rattle.h2_file.specs.declared.cutting.Left.TheVariants.{Nothing, All, Something}
@@ -68,6 +68,23 @@ pub record LeadsLeft (f : Forest) (at size : ℕ) (last : Option Ref) (key : ℕ
 abbrev pub IsChanged : List Ref → ℕ → Option Ref → Type 0
 IsChanged rs count put = (count < length rs) ⊎ ((q : Ref) × (put ≡ Some q))
 
+-- node m stands below a reference of node n, at this place or behind it
+pub record GoesBehind (f : Forest) (n count m : ℕ) : Type 0 where
+  pub place : ℕ
+  pub ref : Ref
+  pub read : slice_get (refs f n) place ≡ Some ref
+  pub behind : count ≤ place
+  pub tree : f.root m ≡ f.root n
+  pub fewer : f.bits m < f.bits n
+  pub held : holds (f.low m) ref ≡ true
+
+-- node m goes in a cut: it stands below a reference of a node which loses that, and is left those before it
+pub record GoesPast (h g : Forest) (m : ℕ) : Type 0 where
+  pub node : ℕ
+  pub stood : h.stands node ≡ true
+  pub stays : g.stands node ≡ true
+  pub behind : GoesBehind h node (length (refs g node)) m
+
 -- Node at has its first references alone, and the last one; other nodes of its tree keep theirs, but for what is below
 -- those that it lost.
 pub record KeepsFront (f g : Forest) (at count : ℕ) (last : Option Ref) : Type 0 where
@@ -89,6 +106,16 @@ pub record KeepsFront (f g : Forest) (at count : ℕ) (last : Option Ref) : Type
   -- what isn't above the node has its set, and is as writable as before
   pub others : (m : ℕ) → f.stands m ≡ true → g.stands m ≡ true → (IsAbove f m at → ⊥) → (g.set m ≡ f.set m) × (g.writable m ≡ f.writable m)
   pub made : (m : ℕ) → f.stands m ≡ true → g.stands m ≡ true → IsAbove f m at → g.writable m ≡ true
+  -- what is loaded or told below the references that are left is so still, and below those of all other nodes
+  pub link : (i : ℕ) (r : Ref) → slice_get (refs g at) i ≡ Some r → is_indirect r ≡ true → g.link at r.key ≡ f.link at r.key
+  pub links : (m k : ℕ) → f.stands m ≡ true → g.stands m ≡ true → (m ≡ at → ⊥) → g.link m k ≡ f.link m k
+  pub alike : (m : ℕ) → f.stands m ≡ true → g.stands m ≡ true → f.root m ≡ f.root at → (m ≡ at → ⊥) → Alike (refs f m) (refs g m)
+  -- no node goes but below a reference that is lost, and each of those goes
+  pub stand : (m : ℕ) → f.stands m ≡ true → (GoesBehind f at count m → ⊥) → g.stands m ≡ true
+  pub gone : (m : ℕ) → f.stands m ≡ true → GoesBehind f at count m → g.stands m ≡ false
+  -- no reference of another node changes that names a node which was writable, and one that changes has the epoch as its id
+  pub kept : (m i c : ℕ) (r : Ref) → f.stands m ≡ true → g.stands m ≡ true → (m ≡ at → ⊥) → slice_get (refs f m) i ≡ Some r → f.link m r.key ≡ loaded c → f.writable c ≡ true → slice_get (refs g m) i ≡ Some r
+  pub dated : (m i : ℕ) (r q : Ref) → f.stands m ≡ true → g.stands m ≡ true → (m ≡ at → ⊥) → slice_get (refs f m) i ≡ Some r → slice_get (refs g m) i ≡ Some q → (q ≡ r) ⊎ (q.id ≡ f.epoch)
   pub writable : g.writable at ≡ true
   pub copies : g.copies at ≡ 0
   pub room : g.room + f.copies at ≡ f.room
@@ -143,8 +170,22 @@ pub record CutsNodes (f g : Forest) (at size : ℕ) (last : Option Ref) : Type 0
   -- each reference that ends by the size is left
   pub left : (m i : ℕ) (r : Ref) → walked.stands m ≡ true → g.stands m ≡ true → slice_get (refs walked m) i ≡ Some r → limit r ≤ size → i < length (refs g m)
   pub still : (m : ℕ) → walked.stands m ≡ true → g.stands m ≡ true → InPlace walked g m
+  -- no node goes but below a reference that goes, and each of those goes
+  pub stand : (m : ℕ) → walked.stands m ≡ true → (GoesPast walked g m → ⊥) → g.stands m ≡ true
+  pub gone : (m : ℕ) → walked.stands m ≡ true → GoesPast walked g m → g.stands m ≡ false
+  -- what is loaded or told below a reference that is left is so still
+  pub link : (m i : ℕ) (r : Ref) → walked.stands m ≡ true → g.stands m ≡ true → slice_get (refs g m) i ≡ Some r → is_indirect r ≡ true → g.link m r.key ≡ walked.link m r.key
+  -- of the other nodes of the tree the first references are left, but for where blocks of indirect ones lie
+  pub alike : (m : ℕ) → walked.stands m ≡ true → g.stands m ≡ true → walked.root m ≡ walked.root at → (m ≡ node → ⊥) → Alike (take (length (refs g m)) (refs walked m)) (refs g m)
+  -- and of those of other trees all, but for where blocks of inodes and indirect ones lie
+  pub renewed : (m : ℕ) → walked.stands m ≡ true → (walked.root m ≡ walked.root at → ⊥) → Renews walked g m
   -- no reference changes but on the way to the node
   pub exact : (m i : ℕ) (r : Ref) → walked.stands m ≡ true → g.stands m ≡ true → (m ≡ node → ⊥) → slice_get (refs walked m) i ≡ Some r → i < length (refs g m) → (OnWay walked m r node → ⊥) → slice_get (refs g m) i ≡ Some r
+  -- nor does one that names a node which was writable
+  pub kept : (m i c : ℕ) (r : Ref) → walked.stands m ≡ true → g.stands m ≡ true → (m ≡ node → ⊥) → slice_get (refs walked m) i ≡ Some r → i < length (refs g m) → walked.link m r.key ≡ loaded c → walked.writable c ≡ true → slice_get (refs g m) i ≡ Some r
+  -- one that changes has the epoch as its id
+  pub dated : (m i : ℕ) (r q : Ref) → walked.stands m ≡ true → g.stands m ≡ true → (m ≡ node → ⊥) → slice_get (refs walked m) i ≡ Some r → slice_get (refs g m) i ≡ Some q → (q ≡ r) ⊎ (q.id ≡ walked.epoch)
+  pub epoch : g.epoch ≡ walked.epoch
   -- what isn't above the node has its set, and is as writable as before
   pub others : (m : ℕ) → walked.stands m ≡ true → g.stands m ≡ true → (IsAbove walked m node → ⊥) → (g.set m ≡ walked.set m) × (g.writable m ≡ walked.writable m)
   pub made : (m : ℕ) → walked.stands m ≡ true → g.stands m ≡ true → IsAbove walked m node → g.writable m ≡ true
@@ -174,6 +215,8 @@ pub record CutsFile (f g : Forest) (at size : ℕ) (last : Option Ref) : Type 0 
   pub nodes : CutsNodes f g at size last
   pub others : (m : ℕ) → f.stands m ≡ true → (f.root m ≡ at → ⊥) → Renews f g m
   pub still : (m : ℕ) → f.stands m ≡ true → g.stands m ≡ true → InPlace f g m
+  -- no root is new
+  pub roots : (m : ℕ) → g.stands m ≡ true → g.root m ≡ m → f.stands m ≡ true
   -- no node off the path of the size was loaded, and none of another tree
   pub touched : LoadsIn f g at size size
   pub leaf_bits : (m : ℕ) → f.stands m ≡ true → g.stands m ≡ true → g.leaf_bits m ≡ f.leaf_bits m

@@ -38,3 +38,8 @@ pub record LinksBytes (blocks : Ref → Option Places) (rs : List Ref) (size : �
   pub below : (i : ℕ) (r : Ref) → slice_get rs i ≡ Some r → r.key < size
   pub put : (i : ℕ) (r : Ref) → slice_get rs i ≡ Some r → (block : Places) × (blocks r ≡ Some block) × ((k : ℕ) → k < 16384 → block k ≡ slice_index new (r.key + k))
   pub same : (k : ℕ) → NoneHolds k rs → slice_index new k ≡ slice_index bytes k
+
+-- Of bytes that leave the inode none is lost: the place of each that isn't zero is in one of the blocks. Block 0 has the
+-- places of all that may stand in an inode (`zero_covers`).
+abbrev pub CoversBytes : List Ref → List ℕ → Type 0
+CoversBytes rs bytes = (k : ℕ) → NoneHolds k rs → slice_index bytes k ≡ 0

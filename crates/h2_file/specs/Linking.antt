@@ -5,7 +5,7 @@ use Rattle.h2_ref.specs.declared.reference.Kind.TheVariants.{Content}
 use Rattle.h2_set.specs.Ranges.{NoneHolds, IsAligned, put}
 use Rattle.h2_set.specs.RefSet.{RefSet}
 use Rattle.h2_set.specs.SetBytes.{IsHeld}
-use Rattle.h2_set.specs.Forest.{Forest, IsSound, LeavesOf, InPlace, Renews, Reaches, Alters}
+use Rattle.h2_set.specs.Forest.{Forest, IsSound, LeavesOf, InPlace, Keeps, Renews, Reaches, Alters}
 use Rattle.h2_tree.specs.Changes.{Inserts, KeepsPaths, Prepares, PathUnloaded}
 use Rattle.h2_inode.specs.Nodes.{Replaces}
 use Rattle.h2_file.specs.Sizing.{Sizes}
@@ -56,6 +56,10 @@ pub record IsOnPath (f : Forest) (m : ℕ) (rs : List Ref) : Type 0 where
 pub record LoadsEach (f g : Forest) (at : ℕ) (rs : List Ref) : Type 0 where
   pub only : (m : ℕ) → g.stands m ≡ true → (f.stands m ≡ true) ⊎ (IsOnPath g m rs × (g.root m ≡ f.root at))
 
+-- the nodes of other trees than that of node at are as before, with the same nodes and blocks below them
+abbrev pub KeepsOthers : Forest → Forest → ℕ → Type 0
+KeepsOthers f g at = (m : ℕ) → f.stands m ≡ true → (f.root m ≡ f.root at → ⊥) → Keeps f g m
+
 -- a node on the path of the key of one of the references isn't loaded
 pub record PathMissing (f : Forest) (at : ℕ) (rs : List Ref) : Type 0 where
   pub place : ℕ
@@ -92,6 +96,7 @@ pub record LinksNodes (f g : Forest) (at : ℕ) (rs : List Ref) : Type 0 where
   pub prepares : Prepares f walked
   -- no node off the paths of the keys was loaded, and none of another tree
   pub touched : LoadsEach f walked at rs
+  pub apart : KeepsOthers f walked at
   pub loaded : PathsLoaded walked at rs
   -- once the root was made writable
   pub opened : Forest
@@ -113,8 +118,10 @@ pub record LinksFile (f g : Forest) (at : ℕ) (rs : List Ref) : Type 0 where
   pub place : InPlace f g at
   -- what was loaded, and which nodes and references change after that
   pub nodes : LinksNodes f g at rs
-  pub others : (m : ℕ) → f.stands m ≡ true → (f.root m ≡ at → ⊥) → Renews nodes.walked g m
+  pub others : (m : ℕ) → f.stands m ≡ true → (f.root m ≡ at → ⊥) → Renews f g m
   pub still : (m : ℕ) → f.stands m ≡ true → InPlace f g m
+  -- no root is new
+  pub roots : (m : ℕ) → g.stands m ≡ true → g.root m ≡ m → f.stands m ≡ true
   pub leaf_bits : (m : ℕ) → f.stands m ≡ true → g.leaf_bits m ≡ f.leaf_bits m
   pub allows : (m : ℕ) (r : Ref) → f.stands m ≡ true → (m ≡ at → ⊥) → g.allows m r ≡ f.allows m r
   pub held : (m : ℕ) → g.held m ≡ f.held m

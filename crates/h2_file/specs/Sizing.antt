@@ -1,8 +1,9 @@
 -- What giving a file another size does.
-use Rattle.std.specs.Prelude.{◌≡◌, ℕ, true, Option}
+use Rattle.std.specs.Prelude.{◌≡◌, ℕ, true, Option, Some, slice_get}
 use Rattle.h2_ref.specs.declared.reference.Ref.{Ref}
+use Rattle.h2_set.specs.Ranges.{is_indirect}
 use Rattle.h2_set.specs.RefSet.{RefSet}
-use Rattle.h2_set.specs.Forest.{Forest, KeepsLeaves, IsSound, InPlace, Same, Reaches}
+use Rattle.h2_set.specs.Forest.{Forest, refs, KeepsLeaves, IsSound, InPlace, Same, Reaches}
 use Rattle.h2_inode.specs.declared.inode.Body.TheVariants.{Refs}
 use Rattle.h2_inode.specs.declared.inode.Inode.{Inode}
 use Rattle.h2_inode.specs.Nodes.{Fields, HasInode}
@@ -35,6 +36,7 @@ pub record Sizes (f g : Forest) (at : ℕ) : Type 0 where
   pub bad : g.bad ≡ f.bad
   pub place : InPlace f g at
   pub set : g.set at ≡ f.set at
+  pub link : (i : ℕ) (r : Ref) → slice_get (refs f at) i ≡ Some r → is_indirect r ≡ true → g.link at r.key ≡ f.link at r.key
   pub copies : g.copies at ≡ f.copies at
   pub leaves : KeepsLeaves f g at
   pub paths : (key : ℕ) (o : Option Ref) → Reaches f key at o → Reaches g key at o

@@ -3,7 +3,7 @@ ghost use Rattle.h2_ref.specs.declared.reference.Ref.{Ref};
 ghost use Rattle.h2_ref.specs.declared.reference.Kind.{Kind};
 ghost use Rattle.h2_set.specs.Ranges.{is_indirect, limit};
 ghost use Rattle.h2_set.specs.RefSet.{RefSet};
-ghost use Rattle.h2_set.specs.Forest.{Forest, refs, IsSound, Walks, HasCause, LeavesOf, HasLeaves, KeepsBeside};
+ghost use Rattle.h2_set.specs.Forest.{Forest, refs, IsSound, Walks, HasCause, IsBad, LeavesOf, HasLeaves, KeepsBeside};
 ghost use Rattle.h2_tree.specs.Changes.{LoadsIn, PathUnloaded, WalksUnder};
 ghost use Rattle.h2_inode.specs.Nodes.{held_by, KeepsOthersBeside};
 ghost use Rattle.h2_num.specs.Places.{Places};
@@ -12,6 +12,8 @@ ghost use Rattle.h2_file.specs.Blocks.{IsFileOfRefs, HasContents};
 ghost use Rattle.h2_file.specs.FileContents.{FileHas, EndsIn};
 ghost use Rattle.h2_file.specs.Sizing.{HasResized};
 ghost use Rattle.h2_file.specs.Cutting.{IsCutBlock, cut_to, front, FitsLast, IsChanged, KeepsFront, Shortens, Cuts, CutsNodes, CutsFile, Remains};
+ghost use Rattle.h2_inode.specs.Loaded.{view_of};
+ghost use Rattle.h2_inode.specs.Others.{RenewsOthers};
 ghost use Rattle.h2_file.specs.declared.cutting.Left.{Left};
 
 use crate::sizing::set_size;
@@ -136,6 +138,7 @@ fn cut_below<N: Sets>(
     ensures err { IfErr result (HasCause (N.forest n.old) (N.forest n.new)) }
     ensures touched { OnErr result (LoadsIn (N.forest n.old) (N.forest n.new) at.0 size size) }
     ensures unloaded { OnErr result (PathUnloaded (N.forest n.old) at.0 size) }
+    ensures good { IfErr result (λ e. (l : List Ref) → LeavesOf (N.forest n.old) at.0 l → IsBad e → ⊥) }
     ensures beside { KeepsBeside (N.forest n.old) (N.forest n.new) (N.beside n.old) (N.beside n.new) }
     ensures later { N.later n.old n.new }
 {
@@ -185,6 +188,7 @@ fn cut_tree<N: Sets>(
     ensures err { IfErr result (HasCause (N.forest n.old) (N.forest n.new)) }
     ensures touched { OnErr result (LoadsIn (N.forest n.old) (N.forest n.new) root.0 size size) }
     ensures unloaded { OnErr result (PathUnloaded (N.forest n.old) root.0 size) }
+    ensures good { IfErr result (λ e. (l : List Ref) → LeavesOf (N.forest n.old) root.0 l → IsBad e → ⊥) }
     ensures beside { KeepsBeside (N.forest n.old) (N.forest n.new) (N.beside n.old) (N.beside n.new) }
     ensures later { N.later n.old n.new }
 {
@@ -206,8 +210,8 @@ fn cut_tree<N: Sets>(
 /// the reference of the block that the cut ends in, where there is one, and sets the size. The file's body is
 /// references. A node that lies wholly past the size goes without being made writable, and one of which nothing goes, nor
 /// below it, stays as it is: only the root, which has the size, is written in any case. The room is at least 62, and is
-/// lowered by the number of nodes that are copied. Trouble only where a node on the path of the size isn't loaded;
-/// nothing but loads took place then.
+/// lowered by the number of nodes that are copied. Trouble only where a node on the path of the size isn't loaded,
+/// and never a bad block where the file's references are known; nothing but loads took place then.
 pub fn cut_blocks<N: Nodes>(
     alloc: Global,
     n: &mut N,
@@ -221,11 +225,13 @@ pub fn cut_blocks<N: Nodes>(
     requires last { IfSome last (IsCutBlock size) }
     ensures cuts { OnOk result (CutsFile (N.forest n.old) (N.forest n.new) inode.0 size last) }
     ensures contents { (blocks : Ref → Option Places) (old : ℕ) (bytes : List ℕ) → FileHas (N.forest n.old) (held_by N.fields (N.beside n.old)) (N.told n.old) blocks inode.0 old bytes → EndsIn blocks size bytes last → OnOk result (FileHas (N.forest n.new) (held_by N.fields (N.beside n.new)) (N.told n.new) blocks inode.0 size (bytes_to bytes size)) }
+    ensures others { OnOk result (RenewsOthers (view_of N.fields (N.forest n.old) (N.beside n.old) (N.told n.old)) (view_of N.fields (N.forest n.new) (N.beside n.new) (N.told n.new)) inode.0) }
     ensures inode { OnOk result ((file : IsFileOfRefs (N.forest n.old) (held_by N.fields (N.beside n.old)) inode.0) → HasResized (N.forest n.new) (held_by N.fields (N.beside n.new)) inode.0 file.inode size) }
     ensures walks { OnErr result (Walks (N.forest n.old) (N.forest n.new)) }
     ensures err { IfErr result (HasCause (N.forest n.old) (N.forest n.new)) }
     ensures touched { OnErr result (LoadsIn (N.forest n.old) (N.forest n.new) inode.0 size size) }
     ensures unloaded { OnErr result (PathUnloaded (N.forest n.old) inode.0 size) }
+    ensures good { IfErr result (λ e. (l : List Ref) → LeavesOf (N.forest n.old) inode.0 l → IsBad e → ⊥) }
     ensures beside { KeepsOthersBeside (N.forest n.old) (N.forest n.new) inode.0 (N.beside n.old) (N.beside n.new) }
     ensures same { OnErr result (KeepsBeside (N.forest n.old) (N.forest n.new) (N.beside n.old) (N.beside n.new)) }
     ensures later { N.later n.old n.new }

@@ -8,10 +8,15 @@
 //! finds the one that holds a byte, and `cut_blocks` takes out those from a size on. What they say of a file's list of
 //! references, where it is known, is `find` and `cut_to` (`specs/Cutting`), of its bytes `FileHas`
 //! (`specs/FileContents`), and of loaded paths, whatever is known of others, `Reaches`. A cut copies the lowest
-//! node of which something goes, and those above it (`CutsNodes`).
+//! node of which something goes, and those above it, and takes away what stood below the references that it cuts, and
+//! nothing else (`CutsNodes`).
 //!
 //! `link_blocks` puts the references of new blocks in (`specs/Linking`): of the list it makes `put_each`, and of the bytes
 //! those of the blocks in their places (`LinksBytes`). It is the chain of insertions that it says it is (`LinksNodes`).
+//! Bytes that stood in the inode leave it for these blocks (`CoversBytes`).
+//!
+//! The trees of all other roots stay, but for where blocks of inodes and indirect ones lie (`RenewsOthers` of `h2_inode`),
+//! no root is new, and no bad block is met where the file's references are known.
 #![tactic(auto)]
 
 mod blocks;

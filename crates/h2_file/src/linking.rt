@@ -2,16 +2,19 @@ ghost use Rattle.std.specs.Prelude.{◌≡◌, ◌<◌, ◌≤◌, ◌⊎◌, �
 ghost use Rattle.h2_num.specs.Places.{Places};
 ghost use Rattle.h2_ref.specs.declared.reference.Ref.{Ref};
 ghost use Rattle.h2_set.specs.RefSet.{RefSet};
-ghost use Rattle.h2_set.specs.Forest.{Forest, IsSound, Walks, Reaches, HasCause, KeepsBeside};
+ghost use Rattle.h2_set.specs.Forest.{Forest, IsSound, Walks, Reaches, HasCause, IsBad, LeavesOf, KeepsBeside};
 ghost use Rattle.h2_tree.specs.Changes.{Prepares};
 ghost use Rattle.h2_inode.specs.declared.inode.Body.{Body};
 ghost use Rattle.h2_inode.specs.declared.inode.Body.TheVariants.{Refs, Bytes};
 ghost use Rattle.h2_inode.specs.declared.inode.Inode.{Inode};
+ghost use Rattle.h2_inode.specs.Embedded.{EmbedsBytes};
 ghost use Rattle.h2_inode.specs.Nodes.{held_by, HasInode, Replaces, KeepsOthersBeside};
 ghost use Rattle.h2_file.specs.Blocks.{IsFile, IsFileOfRefs, HasContents};
-ghost use Rattle.h2_file.specs.FileContents.{FileHas, LinksBytes};
+ghost use Rattle.h2_file.specs.FileContents.{FileHas, LinksBytes, CoversBytes};
 ghost use Rattle.h2_file.specs.Sizing.{HasResized};
-ghost use Rattle.h2_file.specs.Linking.{empty_set, IsBlock, AreBlocks, PathsLoaded, LoadsEach, PathMissing, Opens, Puts, PutsEach, LinksFile};
+ghost use Rattle.h2_inode.specs.Loaded.{view_of};
+ghost use Rattle.h2_inode.specs.Others.{RenewsOthers};
+ghost use Rattle.h2_file.specs.Linking.{empty_set, IsBlock, AreBlocks, PathsLoaded, LoadsEach, KeepsOthers, PathMissing, Opens, Puts, PutsEach, LinksFile};
 
 use crate::sizing::{resized, set_size};
 use h2_inode::{Body, Inode, Nodes};
@@ -28,8 +31,10 @@ fn load_paths<N: Sets>(alloc: Global, n: &mut N, root: NodeId, refs: &[Ref]) -> 
     ensures loaded { OnOk result (PathsLoaded (N.forest n.new) root.0 refs.now) }
     ensures walks { Walks (N.forest n.old) (N.forest n.new) }
     ensures touched { LoadsEach (N.forest n.old) (N.forest n.new) root.0 refs.now }
+    ensures apart { KeepsOthers (N.forest n.old) (N.forest n.new) root.0 }
     ensures err { IfErr result (HasCause (N.forest n.old) (N.forest n.new)) }
     ensures unloaded { OnErr result (PathMissing (N.forest n.old) root.0 refs.now) }
+    ensures good { IfErr result (λ e. (l : List Ref) → LeavesOf (N.forest n.old) root.0 l → IsBad e → ⊥) }
     ensures beside { KeepsBeside (N.forest n.old) (N.forest n.new) (N.beside n.old) (N.beside n.new) }
     ensures later { N.later n.old n.new }
 {
@@ -49,8 +54,10 @@ fn prepare<N: Sets>(alloc: Global, n: &mut N, root: NodeId, refs: &[Ref]) -> Res
     ensures spare { OnOk result (let g = N.forest n.new in length refs.now ≤ g.spare) }
     ensures walks { OnErr result (Walks (N.forest n.old) (N.forest n.new)) }
     ensures touched { LoadsEach (N.forest n.old) (N.forest n.new) root.0 refs.now }
+    ensures apart { KeepsOthers (N.forest n.old) (N.forest n.new) root.0 }
     ensures err { IfErr result (HasCause (N.forest n.old) (N.forest n.new)) }
     ensures unloaded { OnErr result (let f = N.forest n.old in PathMissing f root.0 refs.now ⊎ (f.spare < length refs.now)) }
+    ensures good { IfErr result (λ e. (l : List Ref) → LeavesOf (N.forest n.old) root.0 l → IsBad e → ⊥) }
     ensures beside { KeepsBeside (N.forest n.old) (N.forest n.new) (N.beside n.old) (N.beside n.new) }
     ensures later { N.later n.old n.new }
 {
@@ -129,12 +136,13 @@ fn put_blocks<N: Sets>(alloc: Global, n: &mut N, at: NodeId, refs: &[Ref])
 }
 
 /// Makes these references the file's, and sets its size. They are those of at most 65 consecutive blocks, in order, and
-/// block 0 may stand before them. A body of bytes becomes an empty set of references first. Each reference is inserted by
-/// itself, in their order, in place of the one with its key. With `k` references the room is at least 7k + 186, and is
-/// lowered by at most 7k + 129. For what is copied is a node of 64 blocks or more on the path of block 0, the first block
-/// or the last one, of which each path has at most 43, or one of at most 6 smaller nodes on the path of the block itself;
-/// and a split takes one new block. Trouble only where a node on the path of one of the keys isn't loaded, or fewer nodes
-/// are spare than there are references; nothing but loads took place then.
+/// block 0 may stand before them. A body of bytes becomes an empty set of references first, so the blocks have to have
+/// those of its bytes that are to stay. Each reference is inserted by itself, in their order, in place of the one with
+/// its key. With `k` references the room is at least 7k + 186, and is lowered by at most 7k + 129. For what is copied
+/// is a node of 64 blocks or more on the path of block 0, the first block or the last one, of which each path has at
+/// most 43, or one of at most 6 smaller nodes on the path of the block itself; and a split takes one new block. Trouble
+/// only where a node on the path of one of the keys isn't loaded, or fewer nodes are spare than there are references,
+/// and never a bad block where the file's references are known; nothing but loads took place then.
 pub fn link_blocks<N: Nodes>(
     alloc: Global,
     n: &mut N,
@@ -148,11 +156,14 @@ pub fn link_blocks<N: Nodes>(
     requires room { let f = N.forest n.old in 7 * length refs.now + 186 ≤ f.room }
     ensures links { OnOk result (LinksFile (N.forest n.old) (N.forest n.new) inode.0 refs.now) }
     ensures contents { (blocks : Ref → Option Places) (old : ℕ) (bytes new : List ℕ) → FileHas (N.forest n.old) (held_by N.fields (N.beside n.old)) (N.told n.old) blocks inode.0 old bytes → LinksBytes blocks refs.now size bytes new → OnOk result (FileHas (N.forest n.new) (held_by N.fields (N.beside n.new)) (N.told n.new) blocks inode.0 size new) }
+    ensures lifted { (blocks : Ref → Option Places) (i : Inode) (body bytes new : List ℕ) → HasInode (N.forest n.old) (held_by N.fields (N.beside n.old)) inode.0 i → i.body ≡ Bytes body → EmbedsBytes i.size body bytes → CoversBytes refs.now bytes → LinksBytes blocks refs.now size bytes new → OnOk result (FileHas (N.forest n.new) (held_by N.fields (N.beside n.new)) (N.told n.new) blocks inode.0 size new) }
+    ensures others { OnOk result (RenewsOthers (view_of N.fields (N.forest n.old) (N.beside n.old) (N.told n.old)) (view_of N.fields (N.forest n.new) (N.beside n.new) (N.told n.new)) inode.0) }
     ensures inode { OnOk result ((i : Inode) → HasInode (N.forest n.old) (held_by N.fields (N.beside n.old)) inode.0 i → HasResized (N.forest n.new) (held_by N.fields (N.beside n.new)) inode.0 i size) }
     ensures walks { OnErr result (Walks (N.forest n.old) (N.forest n.new)) }
     ensures err { IfErr result (HasCause (N.forest n.old) (N.forest n.new)) }
     ensures touched { OnErr result (LoadsEach (N.forest n.old) (N.forest n.new) inode.0 refs.now) }
     ensures unloaded { OnErr result (let f = N.forest n.old in PathMissing f inode.0 refs.now ⊎ (f.spare < length refs.now)) }
+    ensures good { IfErr result (λ e. (l : List Ref) → LeavesOf (N.forest n.old) inode.0 l → IsBad e → ⊥) }
     ensures beside { KeepsOthersBeside (N.forest n.old) (N.forest n.new) inode.0 (N.beside n.old) (N.beside n.new) }
     ensures same { OnErr result (KeepsBeside (N.forest n.old) (N.forest n.new) (N.beside n.old) (N.beside n.new)) }
     ensures later { N.later n.old n.new }

@@ -17,7 +17,7 @@ fn copy_of(name: &PfsName) -> PfsName
     }
 }
 
-// The inode with this size and these references.
+/// The inode with this size, in bytes, and these references as its body. All else of it is as it was.
 pub(crate) fn resized(inode: &Inode, set: Set, size: u64) -> Inode
     ensures { IsResized inode.now result size set }
 {

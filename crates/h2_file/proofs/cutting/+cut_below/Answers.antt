@@ -8,11 +8,14 @@ use Rattle.h2_set.specs.StayLaws.{Walks-trans}
 use Rattle.h2_file.specs.Cutting.{Cuts, CutsNodes, Remains}
 use Rattle.h2_file.specs.declared.cutting.Left.TheVariants.{Nothing, All, Something}
 use Rattle.h2_file.proofs.Answering.{always_err, beside_over, In-refl, In-on}
-use Rattle.h2_file.proofs.Fronts.{contents_keep}
+use Rattle.h2_file.proofs.Altered.{contents_keep}
 use Rattle.h2_file.proofs.Parts.{all_past}
 use Rattle.h2_file.proofs.CutLevels.{readied_here, under_refl, cuts_front, ends_here, past_here, ends_in, past_in, last_fits, before_here, before_in, clear_here}
 use Rattle.h2_file.proofs.CutChild.{child_root, kept, none_to_copy, load_touched, unloaded_child, child_stands, child_fewer, child_room, child_contents, unloaded_below, ready_cut, stands_cut, copies_cut, length_cut, ready_none, under_none, touched_none, leaves_cut, past_cut, leaves_front, past_front, leaves_none, before_cut, before_front, clear_none}
-use Rattle.h2_file.proofs.CutNodes.{ends_before, ends_below, cut_short, nodes_here, nodes_over, none_given, short_none_new}
+use Rattle.h2_file.proofs.CutNodes.{ends_before, ends_below, nodes_here}
+use Rattle.h2_file.proofs.CutWhole.{cut_short, none_given, short_none_new}
+use Rattle.h2_file.proofs.CutOver.{nodes_over}
+use Rattle.h2_file.proofs.Known.{good_load, good_below, carried_good}
 use Rattle.h2_file.proofs.cutting.+cut_below.Goals as goal
 
 pub returns-then-count-eq0-clause-left : goal.returns-then-count-eq0-clause-left
@@ -381,3 +384,22 @@ keep_front-requires-in-Nothing-clause-some g t c =
     let within : count ≤ length (refs f c.args.at.0) = rw c.get-set.ensures at c.count_below-count.ensures.within in
     let same : length (refs (g.N.Sets.forest c.cut_below.new.n) c.args.at.0) ≡ length (refs f c.args.at.0) = ap (λ (s : RefSet). length s.refs) (under.walks.sets c.args.at.0 c.requires.stands) in
     inr (let more = c.if-count-eq1.false in omega (arith, pos, more), omega (arith, pos, within, same))
+
+pub returns-in_err-child-clause-good : goal.returns-in_err-child-clause-good
+returns-in_err-child-clause-good g t c =
+    let f = g.N.Sets.forest c.args.n.now in
+    let count = c.count_below-count.result in
+    let pos : 0 < count = (let e = c.if-count-eq0.false in omega (arith, e)) in
+    let read : slice_get (refs f c.args.at.0) (count - 1) ≡ Some c.at.result.now = rw c.get-set.ensures at c.at.ensures in
+    let ind : is_indirect c.at.result.now ≡ true = sym c.is_indirect.ensures ∙ c.if-not-is_indirect.false in
+    carried_good _ _ c.from_residual.result c.in_err-child.field-0.0 c.from_residual.ensures.1 (good_load f c.args.at.0 (count - 1) c.at.result.now c.in_err-child.field-0.0 read ind c.in_err-child.ensures.unloaded c.in_err-child.ensures.good)
+
+pub returns-in_err-cut_below-clause-good : goal.returns-in_err-cut_below-clause-good
+returns-in_err-cut_below-clause-good g t c =
+    let f = g.N.Sets.forest c.args.n.now in
+    let count = c.count_below-count.result in
+    let pos : 0 < count = (let e = c.if-count-eq0.false in omega (arith, e)) in
+    let read : slice_get (refs f c.args.at.0) (count - 1) ≡ Some c.at.result.now = rw c.get-set.ensures at c.at.ensures in
+    let ind : is_indirect c.at.result.now ≡ true = sym c.is_indirect.ensures ∙ c.if-not-is_indirect.false in
+    let child = c.in_ok-child.ensures in
+    carried_good _ _ c.from_residual-in_err-cut_below.result c.in_err-cut_below.field-0.0 c.from_residual-in_err-cut_below.ensures.1 (good_below f _ c.args.at.0 (count - 1) c.in_ok-child.child.0 c.at.result.now c.in_err-cut_below.field-0.0 c.requires.sound c.requires.stands child.walks read ind (child.ok _ read) c.in_err-cut_below.ensures.good)

@@ -1,5 +1,6 @@
 use Rattle.h2_file.proofs.Held.{cut_has}
 use Rattle.h2_file.proofs.Sized.{cuts_file, kept_file, kept_resized, others_beside}
+use Rattle.h2_file.proofs.Others.{cut_others}
 use Rattle.h2_file.proofs.cutting.cut_blocks.Goals as goal
 
 pub set_size-requires-clause-file : goal.set_size-requires-clause-file
@@ -19,3 +20,6 @@ returns-clause-beside g c = others_beside _ _ _ _ _ _ _ c.set_size.ensures.sizes
 
 pub returns-clause-later : goal.returns-clause-later
 returns-clause-later g c = g.met.N.Sets.later_later _ _ _ c.in_ok-cut_tree.ensures.later c.set_size.ensures.later
+
+pub returns-clause-others : goal.returns-clause-others
+returns-clause-others g c = cut_others g.N.Nodes.fields _ _ c.args.inode.0 c.args.size c.args.last _ _ _ _ c.requires.sound (returns-clause-cuts g c) (returns-clause-beside g c)

@@ -5,7 +5,7 @@ use Rattle.h2_set.specs.Forest.{refs}
 use Rattle.h2_file.specs.Cutting.{Remains}
 use Rattle.h2_file.specs.declared.cutting.Left.TheVariants.{Nothing, All}
 use Rattle.h2_file.proofs.CutLevels.{root_cut}
-use Rattle.h2_file.proofs.CutNodes.{root_kept, root_nodes}
+use Rattle.h2_file.proofs.CutWhole.{root_kept, root_nodes}
 use Rattle.h2_file.proofs.cutting.cut_tree.Goals as goal
 
 pub returns-in-Nothing-clause-cuts : goal.returns-in-Nothing-clause-cuts

@@ -1,10 +1,14 @@
-use Rattle.std.proofs.Common.{◌∙◌, arith, ap}
+use Rattle.std.proofs.Common.{◌∙◌, arith, ap, refl, length}
 use Rattle.h2_inode.specs.Inode.{keys_from}
+use Rattle.h2_inode.specs.Block.{refs_of_body}
+use Rattle.h2_inode.specs.Nodes.{held_by}
+use Rattle.h2_inode.specs.NodeLaws.{no_leaves}
 use Rattle.h2_file.proofs.Sized.{file_contents, kept_file, kept_resized}
 use Rattle.h2_file.proofs.Chained.{run_few}
 use Rattle.h2_file.proofs.Linked.{file_kept, inode_kept, links_file, linked_inode, linked_beside, opened_stands, opened_from, put_from}
 use Rattle.h2_file.proofs.Loaded.{loaded_on}
-use Rattle.h2_file.proofs.LinkHeld.{link_has}
+use Rattle.h2_file.proofs.LinkHeld.{link_has, link_lifted}
+use Rattle.h2_file.proofs.Others.{linked_others}
 use Rattle.h2_file.proofs.linking.link_blocks.Goals as goal
 
 pub prepare-requires-clause-few : goal.prepare-requires-clause-few
@@ -62,7 +66,7 @@ set_size-requires-clause-writable g c =
 pub returns-clause-links : goal.returns-clause-links
 returns-clause-links g c =
     let ready = c.in_ok-prepare.ensures in
-    links_file _ _ _ _ _ _ _ c.requires.sound c.requires.file.has.stands c.requires.file.has.root ready.prepares ready.touched ready.loaded c.open_body.ensures.opens c.put_blocks.ensures.puts c.set_size.ensures.sizes c.requires.blocks (file_contents _ _ _ c.open_body.ensures.file)
+    links_file _ _ _ _ _ _ _ c.requires.sound c.requires.file.has.stands c.requires.file.has.root ready.prepares ready.touched ready.apart ready.loaded c.open_body.ensures.opens c.put_blocks.ensures.puts c.set_size.ensures.sizes c.requires.blocks (file_contents _ _ _ c.open_body.ensures.file)
 
 pub returns-clause-contents : goal.returns-clause-contents
 returns-clause-contents g c = λ blocks old bytes new has is. link_has _ _ _ _ _ _ blocks _ old c.args.size _ bytes new c.requires.blocks (returns-clause-links g c) is c.requires.sound c.requires.file.has.stands c.requires.file.has.root has
@@ -85,3 +89,10 @@ returns-clause-beside g c =
 
 pub returns-clause-later : goal.returns-clause-later
 returns-clause-later g c = g.met.N.Sets.later_later _ _ _ (g.met.N.Sets.later_later _ _ _ (g.met.N.Sets.later_later _ _ _ c.in_ok-prepare.ensures.later c.open_body.ensures.later) c.put_blocks.ensures.later) c.set_size.ensures.later
+
+pub returns-clause-others : goal.returns-clause-others
+returns-clause-others g c = linked_others g.N.Nodes.fields _ _ c.args.inode.0 c.args.refs.now _ _ _ _ c.requires.sound (returns-clause-links g c) (returns-clause-beside g c)
+
+pub returns-clause-lifted : goal.returns-clause-lifted
+returns-clause-lifted g c = λ blocks i body bytes new has is embeds covers puts.
+    link_lifted _ _ (held_by g.N.Nodes.fields (g.N.Sets.beside c.args.n.now)) _ (g.N.Nodes.told c.args.n.now) _ blocks _ (length bytes) c.args.size _ bytes new c.requires.blocks (returns-clause-links g c) puts c.requires.sound has.stands has.root (no_leaves _ _ _ i has (ap refs_of_body is)) covers refl

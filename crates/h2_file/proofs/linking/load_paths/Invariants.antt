@@ -1,7 +1,7 @@
 use Rattle.std.proofs.Common.{◌≡◌, ◌<◌, ℕ, Option, Some, slice_get}
 use Rattle.h2_ref.specs.declared.reference.Ref.{Ref}
 use Rattle.h2_set.specs.Forest.{Walks, Reaches, KeepsBeside}
-use Rattle.h2_file.specs.Linking.{LoadsEach}
+use Rattle.h2_file.specs.Linking.{LoadsEach, KeepsOthers}
 use Rattle.h2_file.proofs.linking.load_paths.Given as goal
 
 abbrev pub invariant-loop-at : goal.invariant-loop-at
@@ -11,6 +11,7 @@ invariant-loop-at g l =
     record {
       walks : Walks f now;
       touched : LoadsEach f now l.root.0 l.refs;
+      apart : KeepsOthers f now l.root.0;
       beside : KeepsBeside f now (g.N.Sets.beside l.fn.n) (g.N.Sets.beside l.n);
       later : g.N.Sets.later l.fn.n l.n;
       loaded : (j : ℕ) (r : Ref) → slice_get l.refs j ≡ Some r → j < l.at → (o : Option Ref) × Reaches now r.key l.root.0 o;

@@ -1,7 +1,7 @@
 use Rattle.std.proofs.Common.{◌∙◌, ap, subst}
 use Rattle.h2_inode.specs.Nodes.{set_of, Replaces}
 use Rattle.h2_file.specs.Linking.{body_of_refs, body_of_bytes}
-use Rattle.h2_file.proofs.Fronts.{own_set, altered_place}
+use Rattle.h2_file.proofs.Altered.{own_set, altered_place}
 use Rattle.h2_file.proofs.Linked.{inode_kept}
 use Rattle.h2_file.proofs.linking.open_body.Goals as goal
 

@@ -1,7 +1,7 @@
 use Rattle.h2_set.specs.StayLaws.{Readies-unchanged, Unchanged-walks, Walks-trans}
 use Rattle.h2_file.proofs.Answering.{beside_on}
 use Rattle.h2_file.proofs.Linked.{walked_readied}
-use Rattle.h2_file.proofs.Loaded.{each_on, none_loaded, loaded_on, readied_paths}
+use Rattle.h2_file.proofs.Loaded.{apart_readied, each_on, none_loaded, loaded_on, readied_paths}
 use Rattle.h2_file.proofs.linking.prepare.Goals as goal
 
 pub returns-in-Ok-clause-prepares : goal.returns-in-Ok-clause-prepares
@@ -26,3 +26,9 @@ returns-in-Ok-clause-beside g c = beside_on _ _ _ _ _ _ (λ m st. (c.in_ok-load_
 
 pub returns-in-Err-clause-beside : goal.returns-in-Err-clause-beside
 returns-in-Err-clause-beside g c = beside_on _ _ _ _ _ _ (λ m st. (c.in_ok-load_paths.ensures.walks.stays m st).place.stands) c.in_ok-load_paths.ensures.beside c.ready.ensures.beside
+
+pub returns-in-Ok-clause-apart : goal.returns-in-Ok-clause-apart
+returns-in-Ok-clause-apart g c = apart_readied _ _ _ c.args.root.0 c.in_ok-load_paths.ensures.apart c.ready.ensures.same
+
+pub returns-in-Err-clause-apart : goal.returns-in-Err-clause-apart
+returns-in-Err-clause-apart g c = apart_readied _ _ _ c.args.root.0 c.in_ok-load_paths.ensures.apart c.ready.ensures.same
