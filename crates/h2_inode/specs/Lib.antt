@@ -16,6 +16,7 @@ pub mod NodeLaws
 pub mod VisitLaws
 pub mod Access
 pub mod Contents
+pub mod Embedded
 pub mod Directory
 pub mod PfsList
 pub mod Single
@@ -24,6 +25,7 @@ pub mod ListLaws
 pub mod SingleLaws
 pub mod FollowLaws
 pub mod CarryLaws
+pub mod EmbeddedLaws
 pub mod OrderLaws
 pub mod FoundLaws
 pub mod Loaded
@@ -31,5 +33,9 @@ pub mod NamedLaws
 pub mod LoadedLaws
 pub mod PathLaws
 pub mod LoadedExample
+pub mod NamesOneLaws
 pub mod LoadedOne
+pub mod Others
+pub mod OthersLaws
+pub mod ContentsApart
 pub mod LeafReading

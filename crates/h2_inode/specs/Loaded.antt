@@ -1,6 +1,6 @@
 -- How the trees of a forest of inodes are read: from its loaded nodes, and from what is told of blocks that aren't.
 use Rattle.std.specs.Prelude.{◌≡◌, ◌⊎◌, ℕ, true, false, List, Contains, Option, Some}
-use Rattle.h2_num.specs.Places.{Places}
+use Rattle.h2_num.specs.Places.{Places, SameBelow}
 use Rattle.h2_ref.specs.declared.reference.Ref.{Ref}
 use Rattle.h2_set.specs.Forest.{Forest, LeavesOf, KeepsLeaves}
 use Rattle.h2_inode.specs.declared.inode.Inode.{Inode}
@@ -47,9 +47,9 @@ loaded_nodes f holds tells Content = record {
 abbrev pub no_content : Ref → Places → Type 0
 no_content r block = ⊥
 
--- each leaf names one root at most
-abbrev pub NamesOne : Forest → Type 0
-NamesOne f = (top key c d : ℕ) → IsNamed f top key c → IsNamed f top key d → d ≡ c
+-- each reference has the bytes of one block at most
+abbrev pub BlocksOne : (Ref → Places → Type 0) → Type 0
+BlocksOne Content = (r : Ref) (x y : Places) → Content r x → Content r y → SameBelow 16384 x y
 
 -- What is seen of a forest of inodes, and what trees stand for while it is loaded
 

@@ -94,6 +94,10 @@ pub record IsNamed (f : Forest) (top key c : ℕ) : Type 0 where
   pub root : f.root c ≡ c
   pub belongs : (t k : ℕ) → (f.belongs c t k ≡ true) ↔ (((t ≡ top) × (k ≡ key)) ⊎ (f.belongs top t k ≡ true))
 
+-- each leaf names one root at most
+abbrev pub NamesOne : Forest → Type 0
+NamesOne f = (top key c d : ℕ) → IsNamed f top key c → IsNamed f top key d → d ≡ c
+
 -- the inode that the leaf with this key names isn't loaded
 abbrev pub IsUnloaded : Forest → ℕ → ℕ → Type 0
 IsUnloaded f top key = (c : ℕ) → IsNamed f top key c → ⊥
@@ -174,6 +178,8 @@ pub record Visits (f g : Forest) : Type 0 where
   -- what was loaded isn't writable
   pub clean : (m : ℕ) → f.stands m ≡ false → g.stands m ≡ true → g.writable m ≡ false
   pub copies : (m : ℕ) → f.stands m ≡ true → g.copies m ≡ f.copies m
+  -- where each leaf named one root at most, it does so
+  pub names_one : IsSound f → NamesOne f → NamesOne g
   pub leaf_bits : (m : ℕ) → f.stands m ≡ true → g.leaf_bits m ≡ f.leaf_bits m
   pub allows : (m : ℕ) (r : Ref) → f.stands m ≡ true → g.allows m r ≡ f.allows m r
   pub held : (m : ℕ) → g.held m ≡ f.held m

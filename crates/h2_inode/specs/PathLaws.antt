@@ -1,6 +1,6 @@
 -- Loaded paths and leaves stay where a call over inodes leaves them: where one root comes, in trees of which nothing
 -- goes with a leaf that is lost, and where an inode is replaced by one with the same set.
-use Rattle.std.specs.Prelude.{◌≡◌, ◌⊎◌, ◌<◌, ℕ, true, Option, Some, slice_get, refl}
+use Rattle.std.specs.Prelude.{◌≡◌, ◌<◌, ℕ, true, Option, Some, slice_get, refl}
 use Rattle.std.proofs.Common.{ap, sym, ◌∙◌, arith, inl, inr, subst}
 use Rattle.std.proofs.lemmas.Bool.{cases_eq}
 use Rattle.h2_ref.specs.declared.reference.Ref.{Ref}
@@ -9,8 +9,8 @@ use Rattle.h2_set.specs.RefSet.{RefSet}
 use Rattle.h2_set.specs.Forest.{Forest, refs, loaded, KeepsLeaves, Alike, IsSound, Reaches, nowhere, here, below, InPlace, Same, Loses, Walks}
 use Rattle.h2_set.specs.StayLaws.{Alike-refl}
 use Rattle.h2_set.specs.ChangeLaws.{Same-Keeps, below_keeps, leaves_move}
-use Rattle.h2_inode.specs.Nodes.{IsInodeLeaf, IsNamed, IsUnloaded, Brings, Seeks, Plants, Replaces, Visits}
-use Rattle.h2_inode.specs.NodeLaws.{named_back, tree_leaves, NoneGoes}
+use Rattle.h2_inode.specs.Nodes.{IsInodeLeaf, Brings, Replaces, Visits}
+use Rattle.h2_inode.specs.NodeLaws.{tree_leaves, NoneGoes}
 use Rattle.h2_inode.specs.VisitLaws.{walks_visit, visits_trans}
 
 module _ (f g : Forest) (P : ℕ → Type 0) (closed : (m k c : ℕ) → P m → f.link m k ≡ loaded c → P c) (sets : (m : ℕ) → P m → g.set m ≡ f.set m)
@@ -32,22 +32,6 @@ pub brings_leaf : (f g : Forest) (c top : ℕ) (leaf : Ref) → IsSound f → Br
 brings_leaf f g c top leaf sound h is =
     let place = (h.same top is.stands).place in
     record { stands = place.stands; root = place.root ∙ is.root; kind = is.kind; path = brings_path f g c sound h is.stands is.path }
-
--- what is named now is the root that came, or was named before
-pub brings_named : (f g : Forest) (c top key d : ℕ) → Brings f g c → f.stands top ≡ true → IsNamed g top key d → (d ≡ c) ⊎ IsNamed f top key d
-brings_named f g c top key d h stands is = elim (h.new d is.stands) [
-  | inl e ↦ inl e
-  | inr stood ↦ inr (named_back f g top key d (h.same top stands).place stood (h.same d stood).place is)
-]
-
--- Two roots that one leaf names are one, right after a load or the making of an inode. In any sound forest they need not
--- be: what is said of a root, and which leaves it belongs to, may be said of a second one.
-
-pub sought_one : (f g : Forest) (top key c d : ℕ) → Seeks f g top key c → f.stands top ≡ true → IsNamed g top key d → d ≡ c
-sought_one f g top key c d h stands is = elim (brings_named f g c top key d h.brings stands is) [ inl e ↦ e | inr before ↦ sym (h.loaded d before) ]
-
-pub planted_one : (f g : Forest) (top key c d : ℕ) → Plants f g top key c → f.stands top ≡ true → IsUnloaded f top key → IsNamed g top key d → d ≡ c
-planted_one f g top key c d h stands none is = elim (brings_named f g c top key d h.brings stands is) [ inl e ↦ e | inr before ↦ absurd (none d before) ]
 
 -- Loads of blocks, before or after others
 

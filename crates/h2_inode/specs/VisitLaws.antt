@@ -9,6 +9,7 @@ use Rattle.h2_set.specs.StayLaws.{Stays-trans, leaves_stay_all, stands_below}
 use Rattle.h2_inode.specs.declared.inode.Inode.{Inode}
 use Rattle.h2_inode.specs.Nodes.{Fields, held_by, HasInode, IsInodeLeaf, IsNamed, Seeks, Visits}
 use Rattle.h2_inode.specs.NodeLaws.{named_stays, same_stays, inode_held}
+use Rattle.h2_inode.specs.NamesOneLaws.{walks_one, unchanged_one, seeks_one}
 
 -- What loads
 
@@ -21,6 +22,7 @@ walks_visit f g h = record {
   writable = h.writable;
   clean = h.clean;
   copies = h.copies;
+  names_one = λ sound names. walks_one f g names h;
   leaf_bits = λ m stands. h.fixed.leaf_bits m stands (h.stays m stands).place.stands;
   allows = λ m r stands. h.fixed.allows m r stands (h.stays m stands).place.stands;
   held = h.fixed.held;
@@ -41,6 +43,7 @@ unchanged_visits f g h = record {
   writable = λ m stands. (h.same m stands).writable;
   clean = λ m gone stands. let clash : true ≡ false = sym (h.none_new m stands) ∙ gone in absurd (cc);
   copies = λ m stands. (h.same m stands).copies;
+  names_one = λ sound names. unchanged_one f g names h;
   leaf_bits = λ m stands. h.fixed.leaf_bits m stands (h.same m stands).place.stands;
   allows = λ m r stands. h.fixed.allows m r stands (h.same m stands).place.stands;
   held = h.fixed.held;
@@ -64,6 +67,7 @@ seeks_visit f g top key c h = record {
     | inr stood ↦ let clash : true ≡ false = sym stood ∙ gone in absurd (cc)
   ];
   copies = λ m stands. (h.brings.same m stands).copies;
+  names_one = λ sound names. seeks_one f g top key c sound names h;
   leaf_bits = h.brings.leaf_bits;
   allows = h.brings.allows;
   held = h.brings.held;
@@ -92,6 +96,7 @@ visits_trans f g h a b =
         | inr still ↦ b.clean m still stands
       ];
       copies = λ m stands. b.copies m (there m stands) ∙ a.copies m stands;
+      names_one = λ sound names. b.names_one a.sound (a.names_one sound names);
       leaf_bits = λ m stands. b.leaf_bits m (there m stands) ∙ a.leaf_bits m stands;
       allows = λ m r stands. b.allows m r (there m stands) ∙ a.allows m r stands;
       held = λ m. b.held m ∙ a.held m;

@@ -58,7 +58,7 @@ fn is_indirect(r: &Ref) -> bool
 }
 
 /// Whether the tree of an inode may hold all references of the set.
-fn are_parts_of(kind: InodeKind, size: u64, set: &Set) -> bool
+pub fn are_parts_of(kind: InodeKind, size: u64, set: &Set) -> bool
     ensures { IsTrue result ↔ All (IsPartOf kind size) set.now.refs }
 {
     for i in 0..set.len() {

@@ -1,5 +1,8 @@
+ghost use Rattle.std.specs.Prelude.{◌↔◌, IsTrue};
+
 use crate::kind::InodeKind;
 use crate::pfs_name::PfsName;
+use crate::rules::is_valid;
 use h2_set::Set;
 
 /// What the second half of an inode holds.
@@ -28,4 +31,15 @@ pub struct Inode {
     pub name: PfsName,
     /// What it holds.
     pub body: Body,
+}
+
+impl Inode {
+    ghost use Rattle.h2_inode.specs.Inode.{IsInode};
+
+    /// Whether it can be written: its fields, its name and its body are those of its kind.
+    pub fn is_valid(&self) -> bool
+        ensures { IsTrue result ↔ IsInode self.now }
+    {
+        is_valid(self)
+    }
 }

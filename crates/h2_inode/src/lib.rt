@@ -16,6 +16,7 @@
 
 mod arrangement;
 mod block_check;
+mod bytes_laws;
 mod contents;
 mod decoding;
 mod encoding;
@@ -29,9 +30,12 @@ mod layout;
 mod limits;
 mod loaded_laws;
 mod nodes;
+mod others_laws;
 mod pfs_name;
+mod rules;
 
 pub use block_check::check_of;
+pub use bytes_laws::bytes_law;
 pub use decoding::decode_inode;
 pub use encoding::encode_inode;
 pub use fault::InodeFault;
@@ -44,7 +48,9 @@ pub use laws::{
 };
 pub use layout::INODE_BYTES;
 pub use loaded_laws::{
-    leaves_law, loads_law, naming_law, one_reading_law, rereading_law, worked_law,
+    contents_apart_law, leaves_law, loads_law, naming_law, one_reading_law, rereading_law,
+    worked_law,
 };
 pub use nodes::Nodes;
+pub use others_laws::others_law;
 pub use pfs_name::PfsName;

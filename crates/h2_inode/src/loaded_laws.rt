@@ -1,4 +1,4 @@
-ghost use Rattle.std.specs.Prelude.{◌≡◌, ◌⊎◌, ◌<◌, ◌≤◌, ◌^◌, ℕ, Bool, true, false, List, [], ◌∷◌, Option, Some};
+ghost use Rattle.std.specs.Prelude.{◌≡◌, ◌⊎◌, ◌↔◌, ◌<◌, ◌≤◌, ◌^◌, ℕ, Bool, true, false, List, [], ◌∷◌, Option, Some};
 ghost use Rattle.std.specs.FinMap.{empty};
 ghost use Rattle.h2_num.specs.Places.{Places};
 ghost use Rattle.h2_ref.specs.declared.reference.Kind.TheVariants.{Inode as Inode_kind};
@@ -11,11 +11,14 @@ ghost use Rattle.h2_dirkey.specs.PfsName.{IsPfsName};
 ghost use Rattle.h2_inode.specs.declared.kind.InodeKind.TheVariants.{Pfs as Pfs_kind};
 ghost use Rattle.h2_inode.specs.declared.inode.Inode.{Inode};
 ghost use Rattle.h2_inode.specs.Block.{refs_of_body};
-ghost use Rattle.h2_inode.specs.Nodes.{Fields, Told, HasInode, IsInodeLeaf, IsNamed, IsUnloaded, IsAsTold, Seeks, Plants, Replaces};
+ghost use Rattle.h2_inode.specs.Nodes.{Fields, Told, HasInode, IsInodeLeaf, IsNamed, NamesOne, IsUnloaded, IsAsTold, Seeks, Plants, Replaces, Visits};
+ghost use Rattle.h2_inode.specs.declared.inode.Body.{Body};
 ghost use Rattle.h2_inode.specs.Contents.{IsContents};
+ghost use Rattle.h2_inode.specs.Embedded.{HasBytes};
+ghost use Rattle.h2_inode.specs.ContentsApart.{over_contents};
 ghost use Rattle.h2_inode.specs.Directory.{Entries, IsDirectory};
 ghost use Rattle.h2_inode.specs.PfsList.{ListedPfs, IsPfsList};
-ghost use Rattle.h2_inode.specs.Loaded.{Tree, at_root, NamesInode, View, reading, no_content, IsSameTree, HoldsOn, HoldsBut, TellsOn, Rereads, StandsAlike, over_loads, NamesOne};
+ghost use Rattle.h2_inode.specs.Loaded.{Tree, at_root, NamesInode, View, reading, no_content, IsSameTree, HoldsOn, HoldsBut, TellsOn, Rereads, StandsAlike, over_loads};
 ghost use Rattle.h2_inode.specs.Following.{Follows};
 ghost use Rattle.h2_inode.specs.Single.{IsSingle};
 ghost use Rattle.h2_inode.specs.LoadedExample.{listed};
@@ -79,12 +82,21 @@ pub fn naming_law()
 {}
 
 /// A law: where each leaf names one root at most, what is read of directories and lists of PFSs has one answer at
-/// most. It is so after each call if it was before.
+/// most, and so has what is read of files where each block has one contents at most. A tree stands for the bytes of
+/// one file of a size at most, for one directory, and one list of PFSs. It is so after each call if it was before.
 pub fn one_reading_law()
     ensures single { (u : View) → NamesOne u.forest → IsSingle (reading u no_content) }
-    ensures sought { (f g : Forest) (top key c : ℕ) → IsSound f → NamesOne f → Seeks f g top key c → f.stands top ≡ true → NamesOne g }
-    ensures planted { (f g : Forest) (top key c : ℕ) → IsSound f → NamesOne f → Plants f g top key c → f.stands top ≡ true
-        → IsUnloaded f top key → NamesOne g }
+    ensures contents { (u : View) (block : Ref → Option Places) → NamesOne u.forest → IsSingle (reading u (λ r b. block r ≡ Some b)) }
+    ensures files { (u : View) (block : Ref → Option Places) (t : Tree) (size : ℕ) (x y : List ℕ) → NamesOne u.forest
+        → IsContents (reading u (λ r b. block r ≡ Some b)) t size x → IsContents (reading u (λ r b. block r ≡ Some b)) t size y → y ≡ x }
+    ensures directories { (u : View) (may might : ℕ → ℕ → Bool) (t : Tree) (m n : ℕ) (d e : Entries) → NamesOne u.forest
+        → IsDirectory (reading u no_content) (λ target number. may target number ≡ true) t m d
+        → IsDirectory (reading u no_content) (λ target number. might target number ≡ true) t n e → e ≡ d }
+    ensures pfs_lists { (u : View) (t : Tree) (m n : ℕ) (x y : List ListedPfs) → NamesOne u.forest
+        → IsPfsList (reading u no_content) t m x → IsPfsList (reading u no_content) t n y → y ≡ x }
+    ensures visited { (f g : Forest) → IsSound f → NamesOne f → Visits f g → NamesOne g }
+    ensures sought { (f g : Forest) (top key c : ℕ) → IsSound f → NamesOne f → Seeks f g top key c → NamesOne g }
+    ensures planted { (f g : Forest) (top key c : ℕ) → IsSound f → NamesOne f → Plants f g top key c → IsUnloaded f top key → NamesOne g }
     ensures walked { (f g : Forest) → NamesOne f → Walks f g → NamesOne g }
     ensures readied { (f g : Forest) → NamesOne f → ReadiesOnly f g → NamesOne g }
     ensures altered { (f g : Forest) (at : ℕ) → NamesOne f → Alters f g at → NamesOne g }
@@ -108,4 +120,20 @@ pub fn leaves_law()
         → Replaces u.forest v.forest at (u.forest.set at) → u.forest.stands at ≡ true → u.forest.root at ≡ at → u.forest.stands m ≡ true
         → IsDirectory (reading u no_content) (λ target number. may target number ≡ true) (at_root m) size entries
         → IsDirectory (reading v no_content) (λ target number. may target number ≡ true) (at_root m) size entries }
+{}
+
+/// A law: what bytes blocks of content have tells nothing of directories and lists of PFSs: they are read the same as
+/// without. A file has the bytes that it had where more blocks are told, and so the reading follows, with all tables
+/// and forests.
+pub fn contents_apart_law()
+    ensures directories { (u : View) (block : Ref → Option Places) (may : ℕ → ℕ → Bool) (t : Tree) (size : ℕ) (entries : Entries)
+        → IsDirectory (reading u (λ r b. block r ≡ Some b)) (λ target number. may target number ≡ true) t size entries
+        ↔ IsDirectory (reading u no_content) (λ target number. may target number ≡ true) t size entries }
+    ensures pfs_lists { (u : View) (block : Ref → Option Places) (t : Tree) (next : ℕ) (pfss : List ListedPfs)
+        → IsPfsList (reading u (λ r b. block r ≡ Some b)) t next pfss ↔ IsPfsList (reading u no_content) t next pfss }
+    ensures files { (u : View) (block more : Ref → Option Places) (t : Tree) (size : ℕ) (body : Body) (bytes : List ℕ)
+        → ((r : Ref) (b : Places) → block r ≡ Some b → more r ≡ Some b)
+        → HasBytes (reading u (λ r b. block r ≡ Some b)) t size body bytes → HasBytes (reading u (λ r b. more r ≡ Some b)) t size body bytes }
+    ensures follows { (u : View) (block more : Ref → Option Places) → ((r : Ref) (b : Places) → block r ≡ Some b → more r ≡ Some b)
+        → Follows (over_contents u (λ r b. block r ≡ Some b) (λ r b. more r ≡ Some b)) }
 {}

@@ -12,17 +12,13 @@ use Rattle.h2_forest.specs.declared.table.Node.TheVariants.{File, Directory}
 use Rattle.h2_forest.specs.Table.{Table}
 use Rattle.h2_forest.specs.declared.pfs.Pfs.{Pfs}
 use Rattle.h2_forest.specs.Forest.{PlainForest}
-use Rattle.h2_inode.specs.Contents.{IsContents}
-use Rattle.h2_meaning.specs.Embedded.{IsEmbedded}
 use Rattle.h2_inode.specs.Directory.{IsDirectory}
 use Rattle.h2_meaning.specs.Node.{IsNodeBy, IsNode, IsMember, HasMembers}
 use Rattle.h2_meaning.specs.Forest.{InTable, listed_of, IsTable, IsWhole, IsForest}
 use Rattle.h2_inode.specs.Following.{SameBody, SameInode, Passage, Follows}
 use Rattle.h2_inode.specs.ListLaws.{through}
-use Rattle.h2_inode.specs.CarryLaws.{leaves_carried, contents_carried, directory_carried, pfs_carried, listed_beside}
-
-embedded_sized : (m n : ℕ) (x y bytes : List ℕ) → n ≡ m → y ≡ x → IsEmbedded m x bytes → IsEmbedded n y bytes
-embedded_sized m n x y bytes size body h = subst (λ k. IsEmbedded k y bytes) (sym size) (subst (λ v. IsEmbedded m v bytes) (sym body) h)
+use Rattle.h2_inode.specs.CarryLaws.{leaves_carried, directory_carried, pfs_carried, listed_beside}
+use Rattle.h2_inode.specs.EmbeddedLaws.{bytes_carried}
 
 module _ (p : Passage) (f : Follows p) where
   -- Inodes: what is asked of the targets of entries may become less
@@ -34,12 +30,8 @@ module _ (p : Passage) (f : Follows p) where
     node_by t u i j Directory_kind (Refs x) (Refs y) (File bytes n) sim size links same h = absurd h
     node_by t u i j Directory_kind (Refs x) (Bytes y) node sim size links same h = absurd same
     node_by t u i j Directory_kind (Bytes x) y node sim size links same h = absurd h
-    node_by t u i j File_kind (Refs x) (Refs y) (Directory entries) sim size links same h = absurd h
-    node_by t u i j File_kind (Refs x) (Refs y) (File bytes n) sim size links same h = (subst (λ m. IsContents p.to u m bytes) (sym size) (contents_carried p f t u i.size bytes sim h.0), h.1 ∙ sym links)
-    node_by t u i j File_kind (Refs x) (Bytes y) node sim size links same h = absurd same
-    node_by t u i j File_kind (Bytes x) (Refs y) node sim size links same h = absurd same
-    node_by t u i j File_kind (Bytes x) (Bytes y) (Directory entries) sim size links same h = absurd h
-    node_by t u i j File_kind (Bytes x) (Bytes y) (File bytes n) sim size links same h = (embedded_sized i.size j.size x y bytes size same h.0, h.1 ∙ sym links)
+    node_by t u i j File_kind x y (Directory entries) sim size links same h = absurd h
+    node_by t u i j File_kind x y (File bytes n) sim size links same h = (bytes_carried p f t u i.size j.size x y bytes sim size same h.0, h.1 ∙ sym links)
     node_by t u i j Pfs_kind x y node sim size links same h = absurd h
 
     node_carried : (t : p.from.Tree) (u : p.to.Tree) (i j : Inode) (node : Node) → p.Matches t u → SameInode i j → IsNode p.from S t i node → IsNode p.to T u j node

@@ -1,4 +1,3 @@
-pub mod Embedded
 pub mod Node
 pub mod FileTree
 pub mod Forest

@@ -10,8 +10,7 @@ use Rattle.h2_inode.specs.declared.inode.Inode.{Inode}
 use Rattle.h2_forest.specs.declared.table.Node.{Node}
 use Rattle.h2_forest.specs.declared.table.Node.TheVariants.{File, Directory}
 use Rattle.h2_inode.specs.Access.{Access, HasLeaves, OneByOne}
-use Rattle.h2_inode.specs.Contents.{IsContents}
-use Rattle.h2_meaning.specs.Embedded.{IsEmbedded}
+use Rattle.h2_inode.specs.Embedded.{HasBytes}
 use Rattle.h2_inode.specs.Directory.{IsDirectory}
 
 -- Target says which numbers an entry may name, by what it says of the kind: 1 for a directory, 2 for a file.
@@ -21,10 +20,8 @@ module _ (a : Access) (Target : ℕ → ℕ → Type 0) where
   IsNodeBy t i Directory_kind (Refs s) (Directory entries) = IsDirectory a Target t i.size entries
   IsNodeBy t i Directory_kind (Refs s) (File bytes links) = ⊥
   IsNodeBy t i Directory_kind (Bytes body) node = ⊥
-  IsNodeBy t i File_kind (Refs s) (Directory entries) = ⊥
-  IsNodeBy t i File_kind (Refs s) (File bytes links) = IsContents a t i.size bytes × (links ≡ i.links)
-  IsNodeBy t i File_kind (Bytes body) (Directory entries) = ⊥
-  IsNodeBy t i File_kind (Bytes body) (File bytes links) = IsEmbedded i.size body bytes × (links ≡ i.links)
+  IsNodeBy t i File_kind body (Directory entries) = ⊥
+  IsNodeBy t i File_kind body (File bytes links) = HasBytes a t i.size body bytes × (links ≡ i.links)
   IsNodeBy t i Pfs_kind body node = ⊥
 
   -- the inode with this tree is this directory or file

@@ -18,7 +18,8 @@ use Rattle.h2_meaning.specs.Node.{IsNodeBy, IsNode, IsMember, HasMembers}
 use Rattle.h2_meaning.specs.Forest.{InTable, listed_of, IsTable, IsWhole, IsForest}
 use Rattle.h2_inode.specs.Single.{IsSingle}
 use Rattle.h2_inode.specs.ListLaws.{one_list}
-use Rattle.h2_inode.specs.SingleLaws.{leaves_one, contents_one, directory_one, pfs_one}
+use Rattle.h2_inode.specs.SingleLaws.{leaves_one, directory_one, pfs_one}
+use Rattle.h2_inode.specs.EmbeddedLaws.{bytes_one}
 
 module _ (a : Access) (one : IsSingle a) where
   -- Inodes: also for two ideas of which numbers an entry may name
@@ -29,16 +30,10 @@ module _ (a : Access) (one : IsSingle a) where
     node_one t i Directory_kind (Refs s) (Directory d) (File b n) p q = absurd q
     node_one t i Directory_kind (Refs s) (File b n) other p q = absurd p
     node_one t i Directory_kind (Bytes x) node other p q = absurd p
-    node_one t i File_kind (Refs s) (Directory d) other p q = absurd p
-    node_one t i File_kind (Refs s) (File b n) (Directory e) p q = absurd q
-    node_one t i File_kind (Refs s) (File b n) (File c m) p q =
-        let bytes : c ≡ b = contents_one a one t i.size b c p.0 q.0 in
-        let links : m ≡ n = q.1 ∙ sym p.1 in
-        λ z. File (bytes z) (links z)
-    node_one t i File_kind (Bytes x) (Directory d) other p q = absurd p
-    node_one t i File_kind (Bytes x) (File b n) (Directory e) p q = absurd q
-    node_one t i File_kind (Bytes x) (File b n) (File c m) p q =
-        let bytes : c ≡ b = (q.0).bytes_are ∙ sym (p.0).bytes_are in
+    node_one t i File_kind x (Directory d) other p q = absurd p
+    node_one t i File_kind x (File b n) (Directory e) p q = absurd q
+    node_one t i File_kind x (File b n) (File c m) p q =
+        let bytes : c ≡ b = bytes_one a one t i.size x b c p.0 q.0 in
         let links : m ≡ n = q.1 ∙ sym p.1 in
         λ z. File (bytes z) (links z)
     node_one t i Pfs_kind x node other p q = absurd p

@@ -1,5 +1,6 @@
 use Rattle.h2_inode.specs.VisitLaws.{visits_path}
-use Rattle.h2_inode.specs.PathLaws.{brings_path, sought_one, planted_one, replaces_path, refit_place, refit_set, refit_path, refit_leaves}
+use Rattle.h2_inode.specs.NamesOneLaws.{sought_one, planted_one}
+use Rattle.h2_inode.specs.PathLaws.{brings_path, replaces_path, refit_place, refit_set, refit_path, refit_leaves}
 use Rattle.h2_inode.proofs.laws.paths_law.Goals as goal
 
 pub returns-clause-brought : goal.returns-clause-brought

@@ -1,4 +1,4 @@
-use Rattle.h2_inode.specs.PathLaws.{sought_one}
+use Rattle.h2_inode.specs.NamesOneLaws.{sought_one}
 use Rattle.h2_inode.specs.NamedLaws.{inode_one, names_one, brings_names, replaces_names}
 use Rattle.h2_inode.proofs.loaded_laws.naming_law.Goals as goal
 

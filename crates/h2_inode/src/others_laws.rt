@@ -1,0 +1,28 @@
+ghost use Rattle.std.specs.Prelude.{◌≡◌, ℕ, Bool, true, List, Option, Some};
+ghost use Rattle.h2_num.specs.Places.{Places};
+ghost use Rattle.h2_ref.specs.declared.reference.Ref.{Ref};
+ghost use Rattle.h2_inode.specs.Contents.{IsContents};
+ghost use Rattle.h2_inode.specs.Directory.{Entries, IsDirectory};
+ghost use Rattle.h2_inode.specs.Following.{Follows};
+ghost use Rattle.h2_inode.specs.Loaded.{at_root, View, reading, no_content};
+ghost use Rattle.h2_inode.specs.Others.{KeepsTree, RenewsTree, RenewsOthers, KeepsTrees, over_change};
+
+/// A law of trees that a change of another one keeps, or renews, so that their references tell of other blocks of
+/// inodes and indirect blocks. A tree that is kept is renewed, and both are so over changes one after the other. A
+/// renewed tree stands for the file's bytes and the directory's entries that it stood for. Where kept trees name no
+/// others, the reading after the change follows that before it, so that tables and forests stand for the same too.
+pub fn others_law()
+    ensures kept { (u v w : View) (c : ℕ) → KeepsTree u v c → KeepsTree v w c → KeepsTree u w c }
+    ensures renewed { (u v w : View) (c : ℕ) → RenewsTree u v c → RenewsTree v w c → RenewsTree u w c }
+    ensures others { (u v w : View) (at : ℕ) → RenewsOthers u v at → RenewsOthers v w at → RenewsOthers u w at }
+    ensures renews { (u v : View) (c : ℕ) → KeepsTree u v c → RenewsTree u v c }
+    ensures contents { (u v : View) (block : Ref → Option Places) (c size : ℕ) (bytes : List ℕ) → RenewsTree u v c
+        → IsContents (reading u (λ r b. block r ≡ Some b)) (at_root c) size bytes
+        → IsContents (reading v (λ r b. block r ≡ Some b)) (at_root c) size bytes }
+    ensures directories { (u v : View) (may : ℕ → ℕ → Bool) (c size : ℕ) (entries : Entries) → RenewsTree u v c
+        → ((r : Ref) (name : List ℕ) → u.forest.name r ≡ Some name → v.forest.name r ≡ Some name)
+        → IsDirectory (reading u no_content) (λ target number. may target number ≡ true) (at_root c) size entries
+        → IsDirectory (reading v no_content) (λ target number. may target number ≡ true) (at_root c) size entries }
+    ensures follows { (u v : View) (stay : ℕ → Bool) (block : Ref → Option Places) → KeepsTrees u v (λ m. stay m ≡ true)
+        → Follows (over_change u v (λ m. stay m ≡ true) (λ r b. block r ≡ Some b)) }
+{}
