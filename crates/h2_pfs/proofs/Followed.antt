@@ -1,7 +1,6 @@
 -- Other trees over a change of the list of PFSs.
 use Rattle.std.proofs.Common.{◌≡◌, ℕ, true, refl, subst, inl, List, Some}
 use Rattle.h2_ref.specs.declared.reference.Ref.{Ref}
-use Rattle.h2_inode.specs.Nodes.{IsNamed}
 use Rattle.h2_inode.specs.Loaded.{View, TellsOn}
 use Rattle.h2_inode.specs.Others.{KeepsTrees}
 use Rattle.h2_pfs.specs.Others.{BelongsToNone, KeepsOtherTrees, IsOtherRoot}
