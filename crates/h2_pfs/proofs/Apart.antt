@@ -9,7 +9,8 @@ use Rattle.h2_set.specs.StayLaws.{Alike-refl, InPlace-trans, Same-Stays, leaves_
 use Rattle.h2_set.specs.PathLaws.{reaches_stay}
 use Rattle.h2_tree.specs.Changes.{Descends, arrived, onward, ChangesOnly, TakesIn, placed, parted, GoesAway, below_it, named, Removes}
 use Rattle.h2_inode.specs.declared.inode.Inode.{Inode}
-use Rattle.h2_inode.specs.Nodes.{Fields, held_by, HasInode, IsNamed}
+use Rattle.h2_inode.specs.Nodes.{Fields, Told, held_by, HasInode, IsNamed}
+use Rattle.h2_inode.specs.Loaded.{view_of}
 use Rattle.h2_inode.specs.NodeLaws.{named_stays, named_back, inode_held}
 use Rattle.h2_pfs.specs.Others.{BelongsToNone, KeepsOtherTrees}
 use Rattle.h2_pfs.specs.Addition.{Founds}
@@ -149,8 +150,8 @@ all_goes f g top leaf sound stands_top root_top rem m st belongs =
     goes.gone m here.stands (named (λ e. other (sym here.root ∙ e ∙ at)) (subst (λ t. h.belongs m t leaf.key ≡ true) (sym at) (here.belongs top leaf.key ∙ belongs)))
 
 -- other trees stay but for those that belong to the PFS
-pub removes_others : {B : Type 0} (fields : B → Option Fields) (f g : Forest) (old new : ℕ → B) (top : ℕ) (leaf : Ref) → IsSound f → f.stands top ≡ true → f.root top ≡ top → KeepsBeside f g old new → Removes f g top leaf → KeepsOtherTrees f g (held_by fields old) (held_by fields new) top (λ c. f.belongs c top leaf.key ≡ true)
-removes_others fields f g old new top leaf sound stands_top root_top beside rem none c stands root other left =
+pub removes_others : {B : Type 0} (fields : B → Option Fields) (f g : Forest) (old new : ℕ → B) (was now : Ref → Option Told) (top : ℕ) (leaf : Ref) → IsSound f → f.stands top ≡ true → f.root top ≡ top → KeepsBeside f g old new → Removes f g top leaf → KeepsOtherTrees (view_of fields f old was) (view_of fields g new now) top (λ c. f.belongs c top leaf.key ≡ true)
+removes_others fields f g old new was now top leaf sound stands_top root_top beside rem none c stands root other left =
     let goes = rem.goes in
     let h = goes.then in
     let n = goes.node in
@@ -210,8 +211,8 @@ loaded_before f g top d tree stands st root = elim (cases_Bool (f.stands d)) as 
 ]
 
 -- other trees stay
-pub founds_others : {B : Type 0} (fields : B → Option Fields) (f g : Forest) (old new : ℕ → B) (top : ℕ) (leaf : Ref) (inode : Inode) → IsSound f → f.stands top ≡ true → f.root top ≡ top → KeepsBeside f g old new → Founds f g (held_by fields new) top leaf inode → KeepsOtherTrees f g (held_by fields old) (held_by fields new) top (λ c. ⊥)
-founds_others fields f g old new top leaf inode sound stands_top root_top beside it none c stands root other left =
+pub founds_others : {B : Type 0} (fields : B → Option Fields) (f g : Forest) (old new : ℕ → B) (was now : Ref → Option Told) (top : ℕ) (leaf : Ref) (inode : Inode) → IsSound f → f.stands top ≡ true → f.root top ≡ top → KeepsBeside f g old new → Founds f g (held_by fields new) top leaf inode → KeepsOtherTrees (view_of fields f old was) (view_of fields g new now) top (λ c. ⊥)
+founds_others fields f g old new was now top leaf inode sound stands_top root_top beside it none c stands root other left =
     let a = it.ready in
     let goes = it.inserts.goes in
     let b = goes.then in

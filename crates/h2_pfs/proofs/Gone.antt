@@ -90,7 +90,7 @@ pub held_beside : {B : Type 0} (fields : B → Option Fields) (f g : Forest) (ol
 held_beside fields f g old new beside = record { same = λ m st st'. ap fields (beside.same m st st') }
 
 -- the PFS with the name went
-pub removes_pfs : {B : Type 0} (fields : B → Option Fields) (f h g : Forest) (old mid new : ℕ → B) (was tells : Ref → Option Told) (top id : ℕ) (name : List ℕ) → Visits f h → StandsAlike (view_of fields f old was) (view_of fields h mid tells) → LoadsPfss f h top → KeepsBeside f h old mid → KeepsBeside h g mid new → HasId h (held_by fields mid) top name (Some id) → (it : Gone h g top id) → ((m : ℕ) → h.stands m ≡ true → h.belongs m top (key_of it) ≡ true → g.stands m ≡ false) → KeepsOtherTrees h g (held_by fields mid) (held_by fields new) top (λ c. h.belongs c top (key_of it) ≡ true) → RemovesPfs f g (held_by fields old) (held_by fields new) was top name
+pub removes_pfs : {B : Type 0} (fields : B → Option Fields) (f h g : Forest) (old mid new : ℕ → B) (was tells : Ref → Option Told) (top id : ℕ) (name : List ℕ) → Visits f h → StandsAlike (view_of fields f old was) (view_of fields h mid tells) → LoadsPfss f h top → KeepsBeside f h old mid → KeepsBeside h g mid new → HasId h (held_by fields mid) top name (Some id) → (it : Gone h g top id) → ((m : ℕ) → h.stands m ≡ true → h.belongs m top (key_of it) ≡ true → g.stands m ≡ false) → ((now : Ref → Option Told) → KeepsOtherTrees (view_of fields h mid tells) (view_of fields g new now) top (λ c. h.belongs c top (key_of it) ≡ true)) → RemovesPfs f g (held_by fields old) (held_by fields new) was top name
 removes_pfs fields f h g old mid new was tells top id name visits alike loads before after found it all_gone others = record {
   then = h;
   holds = held_by fields mid;

@@ -16,3 +16,4 @@ pub mod Alike
 pub mod Loading
 pub mod Apart
 pub mod Followed
+pub mod Known

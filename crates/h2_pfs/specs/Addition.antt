@@ -40,7 +40,7 @@ pub record Founds (f g : Forest) (new : ℕ → Option Fields) (top : ℕ) (leaf
   pub path : Reaches g leaf.key top (Some leaf)
 
 -- Once all leaves and the inodes that they name were loaded, while all trees stand for what they stood for, the PFS was
--- added. Other trees stay.
+-- added. Other trees stay, whatever is told then.
 pub record AddsPfs (f g : Forest) (old new : ℕ → Option Fields) (was : Ref → Option Told) (top : ℕ) (leaf : Ref) (inode : Inode) : Type 0 where
   pub then : Forest
   pub holds : ℕ → Option Fields
@@ -52,7 +52,7 @@ pub record AddsPfs (f g : Forest) (old new : ℕ → Option Fields) (was : Ref �
   pub after : KeepsBeside then g holds new
   pub space : HasSpace then holds top inode.name
   pub founds : Founds then g new top leaf inode
-  pub others : KeepsOtherTrees then g holds new top (λ c. ⊥)
+  pub others : (now : Ref → Option Told) → KeepsOtherTrees (record { forest = then; holds = holds; tells = tells }) (record { forest = g; holds = new; tells = now }) top (λ c. ⊥)
 
 -- where the tree stood for a list of PFSs, it stands for it with one more now; the next PFS id may have risen
 abbrev pub PutsPfs : (f g : Forest) (old new : ℕ → Option Fields) (was now : Ref → Option Told) → ℕ → ListedPfs → Type 0

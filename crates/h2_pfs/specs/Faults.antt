@@ -2,7 +2,7 @@
 use Rattle.std.specs.Prelude.{◌≡◌, ◌⊎◌, ◌<◌, ◌≤◌, ◌-◌, ◌^◌, ℕ, List, length, Option, Some, None}
 use Rattle.h2_ref.specs.declared.faults.Trouble.{Trouble}
 use Rattle.h2_ref.specs.declared.faults.Trouble.TheVariants.{NoMemory}
-use Rattle.h2_set.specs.Forest.{Forest, HasCause}
+use Rattle.h2_set.specs.Forest.{Forest, HasCause, IsBad}
 use Rattle.h2_tree.specs.Changes.{RangeUnloaded, PathUnloaded}
 use Rattle.h2_inode.specs.Nodes.{Fields}
 use Rattle.h2_pfs.specs.declared.fault.PfsFault.{PfsFault}
@@ -52,10 +52,10 @@ IsAddFault f g holds top name id Full = (h : HasId g holds top name None) × (64
 IsAddFault f g holds top name id (InUse handles) = ⊥
 IsAddFault f g holds top name id (Troubled t) = IsTrouble f g top t ⊎ (HasCause f g t × PathUnloaded f top id)
 
--- what a refusal says of the list of PFSs that the tree stood for
+-- what a refusal says of the list of PFSs that the tree stood for; trouble is no bad block then
 abbrev pub IsFaultIn : List ℕ → List ListedPfs → PfsFault → Type 0
 IsFaultIn name pfss NoPfs = id_of name pfss ≡ None
 IsFaultIn name pfss Exists = (id : ℕ) × (id_of name pfss ≡ Some id)
 IsFaultIn name pfss Full = (id_of name pfss ≡ None) × (64 ≤ length pfss)
 IsFaultIn name pfss (InUse handles) = (id : ℕ) × (id_of name pfss ≡ Some id)
-IsFaultIn name pfss (Troubled t) = Unit {0}
+IsFaultIn name pfss (Troubled t) = IsBad t → ⊥

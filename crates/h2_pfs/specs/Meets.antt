@@ -52,6 +52,10 @@ pub record AreLeaves (f : Forest) (top : ℕ) (leaves : List Ref) : Type 0 where
 abbrev pub TellsFields : Forest → (ℕ → Option Fields) → (Ref → Option Told) → ℕ → Ref → Fields → Type 0
 TellsFields f holds tells top r x = (i : Inode) (t : Tree) → NamesInode f holds tells (at_root top) r i t → x ≡ fields_of i
 
+-- it is known which inode each of the leaves names
+abbrev pub AreKnown : Forest → (ℕ → Option Fields) → (Ref → Option Told) → ℕ → List Ref → Type 0
+AreKnown f holds tells top leaves = (j : ℕ) (r : Ref) → slice_get leaves j ≡ Some r → (i : Inode) × (t : Tree) × NamesInode f holds tells (at_root top) r i t
+
 -- the leaf names an inode that is loaded now, and is the one that was known before
 abbrev pub MetBy : (f g : Forest) → (ℕ → Option Fields) → (ℕ → Option Fields) → (Ref → Option Told) → ℕ → Ref → ListedPfs → Type 0
 MetBy f g old new tells top r p = (met : IsMet g new top r p) × TellsFields f old tells top r (fields_of met.inode)

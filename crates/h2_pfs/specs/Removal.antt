@@ -24,7 +24,7 @@ abbrev pub NoneHeld : Forest → (ℕ → Option Fields) → ℕ → List ℕ �
 NoneHeld f holds top name = (m key : ℕ) → f.held m ≡ true → f.belongs m top key ≡ true → HasOtherName f holds top key name
 
 -- Once all leaves and the inodes that they name were loaded, while all trees stand for what they stood for, the
--- leaf of the PFS with the name went out, and with it all that belongs to it. Other trees stay.
+-- leaf of the PFS with the name went out, and with it all that belongs to it. Other trees stay, whatever is told then.
 pub record RemovesPfs (f g : Forest) (old new : ℕ → Option Fields) (was : Ref → Option Told) (top : ℕ) (name : List ℕ) : Type 0 where
   pub then : Forest
   pub holds : ℕ → Option Fields
@@ -40,7 +40,7 @@ pub record RemovesPfs (f g : Forest) (old new : ℕ → Option Fields) (was : Re
   pub paths : KeepsPaths then g top leaf
   pub path : Reaches g leaf.key top None
   pub gone : (m : ℕ) → then.stands m ≡ true → then.belongs m top leaf.key ≡ true → g.stands m ≡ false
-  pub others : KeepsOtherTrees then g holds new top (λ c. then.belongs c top leaf.key ≡ true)
+  pub others : (now : Ref → Option Told) → KeepsOtherTrees (record { forest = then; holds = holds; tells = tells }) (record { forest = g; holds = new; tells = now }) top (λ c. then.belongs c top leaf.key ≡ true)
 
 -- where the tree stood for a list of PFSs, one of them has the name, and the tree stands for the others now
 abbrev pub DropsPfs : (f g : Forest) (old new : ℕ → Option Fields) (was now : Ref → Option Told) → ℕ → List ℕ → Type 0

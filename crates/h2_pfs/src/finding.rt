@@ -17,8 +17,8 @@ use std::alloc::Global;
 
 /// The id of the PFS with this name, which is the key of its leaf in the super-root's tree. NoPfs exactly where no PFS
 /// has the name. Afterwards all leaves of that tree are loaded, and the inodes that they name. Trouble only where one
-/// of them wasn't, or for want of memory. Nothing but such loads takes place, whatever is answered, and all trees stand
-/// for what they stood for.
+/// of them wasn't, or for want of memory, and never a bad block where the list of PFSs is known. Nothing but such loads
+/// takes place, whatever is answered, and all trees stand for what they stood for.
 pub fn pfs_find<N: Nodes>(
     alloc: Global,
     n: &mut N,

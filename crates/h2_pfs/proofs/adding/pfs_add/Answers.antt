@@ -3,6 +3,7 @@ use Rattle.h2_inode.specs.Nodes.{held_by}
 use Rattle.h2_inode.specs.VisitLaws.{walks_visit, visits_trans, visits_path}
 use Rattle.h2_inode.specs.PfsList.{ListedPfs}
 use Rattle.h2_pfs.specs.declared.fault.PfsFault.{PfsFault}
+use Rattle.h2_pfs.specs.declared.fault.PfsFault.TheVariants.{Trouble as Troubled}
 use Rattle.h2_pfs.specs.Listing.{HasPfss, id_of}
 use Rattle.h2_pfs.specs.Faults.{IsAddFault, IsFaultIn}
 use Rattle.h2_pfs.specs.Addition.{HasSpace}
@@ -42,8 +43,23 @@ returns-in_err-make_space-clause-refused g c =
     let refused = λ (next : ℕ) (pfss : List ListedPfs) (has : HasPfss f old was top next pfss). subst (λ (z : List ℕ). IsFaultIn z pfss e) c.as_slice.ensures.bytes (c.in_err-make_space.ensures.refused next pfss (list_stays g.N.Nodes.fields f (g.N.Sets.forest c.lookup.new.n) (g.N.Sets.beside c.args.n.now) (g.N.Sets.beside c.lookup.new.n) was (g.N.Nodes.told c.lookup.new.n) top c.args.leaf.key c.args.leaf.key next pfss c.requires.sound c.requires.super_root.stands look.walks look.touched look.beside (g.met.N.Nodes.told_later _ _ look.later) has)) in
     carried_err Refused c.from_residual-in_err-make_space.result e c.from_residual-in_err-make_space.ensures.1 refused
 
+pub returns-in_err-lookup-clause-refused : goal.returns-in_err-lookup-clause-refused
+returns-in_err-lookup-clause-refused g c =
+    let f = g.N.Sets.forest c.args.n.now in
+    let old = held_by g.N.Nodes.fields (g.N.Sets.beside c.args.n.now) in
+    let was = g.N.Nodes.told c.args.n.now in
+    let top = c.args.root.0 in
+    let Refused = λ (x : PfsFault). (next : ℕ) (pfss : List ListedPfs) → HasPfss f old was top next pfss → IsFaultIn c.args.inode.name pfss x in
+    carried_err Refused c.from_residual.result (Troubled c.in_err-lookup.field-0.0) c.from_residual.ensures.1 (λ next pfss has. c.in_err-lookup.ensures.good has.leaves has.has.read)
+
+pub returns-in-Err-clause-refused : goal.returns-in-Err-clause-refused
+returns-in-Err-clause-refused g c = λ next pfss has bad. bad
+
 pub returns-in_err-make_space-clause-visits : goal.returns-in_err-make_space-clause-visits
 returns-in_err-make_space-clause-visits g c = always_err c.from_residual-in_err-make_space.result (visits_trans _ _ _ (walks_visit _ _ c.in_ok-lookup.ensures.walks) c.in_err-make_space.ensures.visits)
+
+pub returns-in_err-lookup-clause-visits : goal.returns-in_err-lookup-clause-visits
+returns-in_err-lookup-clause-visits g c = always_err c.from_residual.result (walks_visit _ _ c.in_err-lookup.ensures.walks)
 
 pub returns-in_err-lookup-clause-alike : goal.returns-in_err-lookup-clause-alike
 returns-in_err-lookup-clause-alike g c =
@@ -98,7 +114,7 @@ returns-in-Ok-clause-adds g c =
       after = held_beside g.N.Nodes.fields _ _ _ _ c.in-Ok.ensures.beside;
       space = subst (λ (z : List ℕ). HasSpace k mid c.args.root.0 z) c.as_slice.ensures.bytes made.space.0;
       founds = c.in-Ok.ensures.founds;
-      others = founds_others g.N.Nodes.fields _ _ _ _ c.args.root.0 c.args.leaf c.args.inode made.visits.sound super.stands super.root c.in-Ok.ensures.beside c.in-Ok.ensures.founds;
+      others = λ now. founds_others g.N.Nodes.fields _ _ _ _ (g.N.Nodes.told c.make_space.new.n) now c.args.root.0 c.args.leaf c.args.inode made.visits.sound super.stands super.root c.in-Ok.ensures.beside c.in-Ok.ensures.founds;
     }
 
 pub returns-in-Ok-clause-listed : goal.returns-in-Ok-clause-listed

@@ -1,6 +1,22 @@
-use Rattle.std.proofs.Common.{◌∙◌, sym}
+use Rattle.std.proofs.Common.{◌∙◌, sym, ℕ, List}
+use Rattle.h2_inode.specs.Nodes.{held_by}
+use Rattle.h2_inode.specs.PfsList.{ListedPfs}
+use Rattle.h2_pfs.specs.declared.fault.PfsFault.{PfsFault}
+use Rattle.h2_pfs.specs.declared.fault.PfsFault.TheVariants.{Trouble as Troubled}
+use Rattle.h2_pfs.specs.Listing.{HasPfss}
+use Rattle.h2_pfs.specs.Faults.{IsFaultIn}
+use Rattle.h2_pfs.proofs.Answering.{carried_err}
 use Rattle.h2_pfs.proofs.Kept.{kept_id, found_as}
 use Rattle.h2_pfs.proofs.finding.pfs_find.Goals as goal
+
+pub returns-in_err-pfss-clause-refused : goal.returns-in_err-pfss-clause-refused
+returns-in_err-pfss-clause-refused g c =
+    let f = g.N.Sets.forest c.args.n.now in
+    let old = held_by g.N.Nodes.fields (g.N.Sets.beside c.args.n.now) in
+    let was = g.N.Nodes.told c.args.n.now in
+    let top = c.args.root.0 in
+    let Refused = λ (x : PfsFault). (next : ℕ) (pfss : List ListedPfs) → HasPfss f old was top next pfss → IsFaultIn c.args.name.now pfss x in
+    carried_err Refused c.from_residual.result (Troubled c.in_err-pfss.field-0.0) c.from_residual.ensures.1 c.in_err-pfss.ensures.good
 
 pub returns-in-Some-clause-found : goal.returns-in-Some-clause-found
 returns-in-Some-clause-found g c =

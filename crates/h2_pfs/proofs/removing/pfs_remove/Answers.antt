@@ -1,13 +1,28 @@
-use Rattle.std.proofs.Common.{◌∙◌, refl, sym, arith}
-use Rattle.h2_inode.specs.Nodes.{held_by}
+use Rattle.std.proofs.Common.{◌∙◌, refl, sym, arith, ℕ, List, Option}
+use Rattle.h2_ref.specs.declared.reference.Ref.{Ref}
+use Rattle.h2_inode.specs.Nodes.{Told, held_by}
+use Rattle.h2_inode.specs.PfsList.{ListedPfs}
+use Rattle.h2_pfs.specs.declared.fault.PfsFault.{PfsFault}
+use Rattle.h2_pfs.specs.declared.fault.PfsFault.TheVariants.{Trouble as Troubled}
+use Rattle.h2_pfs.specs.Listing.{HasPfss}
+use Rattle.h2_pfs.specs.Faults.{IsFaultIn}
 use Rattle.h2_pfs.proofs.Apart.{all_goes, removes_others}
-use Rattle.h2_pfs.proofs.Answering.{beside_on}
+use Rattle.h2_pfs.proofs.Answering.{carried_err, beside_on}
 use Rattle.h2_pfs.proofs.Kept.{kept_id, found_as}
 use Rattle.h2_pfs.proofs.Found.{found_met, found_path, found_free}
 use Rattle.h2_pfs.proofs.Gone.{Gone, gone, dropped, removes_pfs}
 use Rattle.h2_pfs.proofs.removing.pfs_remove.Given.{Over}
 use Rattle.h2_pfs.proofs.removing.pfs_remove.Goals.{After-drop-pfss-2}
 use Rattle.h2_pfs.proofs.removing.pfs_remove.Goals as goal
+
+pub returns-in_err-pfss-clause-refused : goal.returns-in_err-pfss-clause-refused
+returns-in_err-pfss-clause-refused g c =
+    let f = g.N.Sets.forest c.args.n.now in
+    let old = held_by g.N.Nodes.fields (g.N.Sets.beside c.args.n.now) in
+    let was = g.N.Nodes.told c.args.n.now in
+    let top = c.args.root.0 in
+    let Refused = λ (x : PfsFault). (next : ℕ) (pfss : List ListedPfs) → HasPfss f old was top next pfss → IsFaultIn c.args.name.now pfss x in
+    carried_err Refused c.from_residual.result (Troubled c.in_err-pfss.field-0.0) c.from_residual.ensures.1 c.in_err-pfss.ensures.good
 
 pub returns-in_default-clause-fault : goal.returns-in_default-clause-fault
 returns-in_default-clause-fault g c =
@@ -42,6 +57,15 @@ remove-requires-clause-free g c =
 
 pub returns-in_err-remove-clause-fault : goal.returns-in_err-remove-clause-fault
 returns-in_err-remove-clause-fault g c =
+    let met = c.in_ok-pfss.ensures.met in
+    let id_is = kept_id c.args.name.now _ _ met.0 _ (sym c.in-Some.is ∙ c.id_in.ensures) c.deref.ensures.value met.2 in
+    let top = c.args.root.0 in
+    let holds = held_by g.N.Nodes.fields (g.N.Sets.beside c.scan.new.n) in
+    let it = found_met (g.N.Sets.forest c.scan.new.n) holds top c.in-Some.id c.args.name.now met.1.leaves met.0 met.1.each id_is in
+    absurd (c.in_err-remove.ensures.unloaded _ (found_path (g.N.Sets.forest c.scan.new.n) holds top c.in-Some.id c.args.name.now it))
+
+pub returns-in_err-remove-clause-refused : goal.returns-in_err-remove-clause-refused
+returns-in_err-remove-clause-refused g c =
     let met = c.in_ok-pfss.ensures.met in
     let id_is = kept_id c.args.name.now _ _ met.0 _ (sym c.in-Some.is ∙ c.id_in.ensures) c.deref.ensures.value met.2 in
     let top = c.args.root.0 in
@@ -100,7 +124,7 @@ returns-clause-removes g c =
     let place = (scan.visits.stays top c.requires.super_root.stands).place in
     let beside = c.in_ok-remove.ensures.beside in
     let gone = out g c in
-    let others = removes_others g.N.Nodes.fields _ _ _ _ top gone.leaf scan.visits.sound place.stands (place.root ∙ c.requires.super_root.root) beside gone.removes in
+    let others = λ (now : Ref → Option Told). removes_others g.N.Nodes.fields _ _ _ _ (g.N.Nodes.told c.scan.new.n) now top gone.leaf scan.visits.sound place.stands (place.root ∙ c.requires.super_root.root) beside gone.removes in
     let all_gone = all_goes _ _ top gone.leaf scan.visits.sound place.stands (place.root ∙ c.requires.super_root.root) gone.removes in
     removes_pfs g.N.Nodes.fields _ _ _ _ _ _ (g.N.Nodes.told c.args.n.now) (g.N.Nodes.told c.scan.new.n) top c.in-Some.id c.args.name.now scan.visits scan.alike scan.loads scan.beside beside (record { pfss = met.0; meets = met.1; id_is = id_is }) gone all_gone others
 

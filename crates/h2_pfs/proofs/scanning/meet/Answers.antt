@@ -1,7 +1,14 @@
 use Rattle.std.proofs.Common.{◌≡◌, ◌∙◌, ap, List, ℕ}
+use Rattle.h2_ref.specs.declared.faults.Trouble.{Trouble}
 use Rattle.h2_ref.specs.declared.reference.Ref.{Ref}
+use Rattle.h2_set.specs.Forest.{IsBad}
+use Rattle.h2_inode.specs.declared.inode.Inode.{Inode}
+use Rattle.h2_inode.specs.Loaded.{Tree, at_root, NamesInode}
+use Rattle.h2_inode.specs.Nodes.{held_by}
 use Rattle.h2_inode.specs.VisitLaws.{unchanged_visits, seeks_visit}
 use Rattle.h2_pfs.specs.declared.met.Met.{Met}
+use Rattle.h2_pfs.proofs.Answering.{carried_err}
+use Rattle.h2_pfs.proofs.Known.{named_good}
 use Rattle.h2_pfs.proofs.Alike.{unchanged_alike, seeks_alike}
 use Rattle.h2_pfs.proofs.Loading.{none_loads, seek_loads}
 use Rattle.h2_pfs.proofs.Visiting.{seeks_meets, seeks_tells}
@@ -14,6 +21,20 @@ pub returns-in_err-at-clause-alike : goal.returns-in_err-at-clause-alike
 returns-in_err-at-clause-alike g c =
     let seek = c.in_err-at.ensures in
     unchanged_alike g.N.Nodes.fields _ _ _ _ _ _ c.requires.sound seek.same seek.beside (g.met.N.Nodes.told_later _ _ seek.later)
+
+pub returns-in_err-at-clause-good : goal.returns-in_err-at-clause-good
+returns-in_err-at-clause-good g c =
+    let f = g.N.Sets.forest c.args.n.now in
+    let holds = held_by g.N.Nodes.fields (g.N.Sets.beside c.args.n.now) in
+    let tells = g.N.Nodes.told c.args.n.now in
+    let top = c.args.root.0 in
+    let leaf : Ref = c.args.leaf.now in
+    let e = c.in_err-at.field-0.0 in
+    let Good = λ (x : Trouble). (i : Inode) (t : Tree) → NamesInode f holds tells (at_root top) leaf i t → IsBad x → ⊥ in
+    carried_err Good c.from_residual.result e c.from_residual.ensures.1 (named_good f holds tells top leaf e c.in_err-at.ensures.unloaded c.in_err-at.ensures.good)
+
+pub returns-in-Err-clause-good : goal.returns-in-Err-clause-good
+returns-in-Err-clause-good g c = λ i t known bad. bad
 
 pub returns-in-Ok-clause-met : goal.returns-in-Ok-clause-met
 returns-in-Ok-clause-met g c =

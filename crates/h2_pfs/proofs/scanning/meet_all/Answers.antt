@@ -2,6 +2,7 @@ use Rattle.std.proofs.Common.{◌≡◌, ◌⊎◌, inl, inr, arith, ◌∙◌, 
 use Rattle.std.specs.Prelude.{map}
 use Rattle.h2_ref.specs.declared.faults.Trouble.{Trouble}
 use Rattle.h2_ref.specs.declared.faults.Trouble.TheVariants.{NoMemory}
+use Rattle.h2_set.specs.Forest.{IsBad}
 use Rattle.h2_inode.specs.Nodes.{held_by}
 use Rattle.h2_inode.specs.VisitLaws.{visits_trans, visits_leaf}
 use Rattle.h2_inode.specs.Access.{OneByOne}
@@ -9,12 +10,12 @@ use Rattle.h2_inode.specs.Loaded.{as_before}
 use Rattle.h2_inode.specs.LoadedLaws.{alike_trans}
 use Rattle.h2_pfs.specs.declared.met.Met.{Met}
 use Rattle.h2_pfs.specs.Mets.{met_of}
-use Rattle.h2_pfs.specs.Meets.{MetBy, InodeMissing}
+use Rattle.h2_pfs.specs.Meets.{MetBy, AreKnown, InodeMissing}
 use Rattle.h2_pfs.proofs.Answering.{carried_err, beside_same, beside_on}
 use Rattle.h2_pfs.proofs.Members.{whole_front, at_place, map_more}
 use Rattle.h2_pfs.proofs.Growing.{front_met, named_no_more}
 use Rattle.h2_pfs.proofs.Loading.{none_loads, leaves_stand, loads_trans}
-use Rattle.h2_pfs.proofs.Visiting.{visits_same, visits_unloaded}
+use Rattle.h2_pfs.proofs.Visiting.{visits_same, visits_unloaded, known_stays}
 use Rattle.h2_pfs.proofs.scanning.meet_all.Goals as goal
 
 pub loop-i-init : goal.loop-i-init
@@ -54,6 +55,24 @@ returns-in_err-met-clause-unloaded g c =
       | inl none ↦ inl none
       | inr unloaded ↦ inr (record { leaf = _; is_leaf = leaf; unloaded = visits_unloaded _ _ _ _ c.loop-i.invariant.visits leaf.stands unloaded })
     ])
+
+pub returns-in_err-met-clause-good : goal.returns-in_err-met-clause-good
+returns-in_err-met-clause-good g c =
+    let f = g.N.Sets.forest c.args.n.now in
+    let old = g.N.Sets.beside c.args.n.now in
+    let was = g.N.Nodes.told c.args.n.now in
+    let top = c.args.root.0 in
+    let inv = c.loop-i.invariant in
+    let e = c.in_err-met.field-0.0 in
+    let read = at_place c.args.leaves.now c.loop-i.i _ c.loop-i-test.true in
+    let leaf = c.requires.leaves.each _ _ read in
+    let Good = λ (x : Trouble). AreKnown f (held_by g.N.Nodes.fields old) was top c.args.leaves.now → IsBad x → ⊥ in
+    carried_err Good c.from_residual.result e c.from_residual.ensures.1 (λ known bad.
+    let it = known c.loop-i.i _ read in
+    c.in_err-met.ensures.good it.0 it.1 (known_stays g.N.Nodes.fields f _ old _ was _ top _ it.0 it.1 inv.visits inv.beside leaf.stands (g.met.N.Nodes.told_later _ _ inv.later) (λ d named. inv.named c.loop-i.i d _ (omega arith) read named) it.2) bad)
+
+pub returns-in-Err-clause-good : goal.returns-in-Err-clause-good
+returns-in-Err-clause-good g c = λ known bad. bad
 
 pub returns-in_err-met-clause-beside : goal.returns-in_err-met-clause-beside
 returns-in_err-met-clause-beside g c = beside_on _ _ _ _ _ _ (λ m st. (c.loop-i.invariant.visits.stays m st).place.stands) c.loop-i.invariant.beside c.in_err-met.ensures.beside
