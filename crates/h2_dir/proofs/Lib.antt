@@ -19,3 +19,4 @@ pub mod Entered
 pub mod Entries
 pub mod Known
 pub mod Way
+pub mod Stepping

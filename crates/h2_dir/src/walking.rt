@@ -1,4 +1,4 @@
-ghost use Rattle.std.specs.Prelude.{◌≡◌, ℕ, Bool, true, List, ◌∷◌, drop, IfOk, IfErr, OnErr};
+ghost use Rattle.std.specs.Prelude.{◌≡◌, ℕ, Bool, true, List, ◌∷◌, IfOk, IfErr, OnErr};
 ghost use Rattle.h2_ref.specs.declared.reference.Ref.{Ref};
 ghost use Rattle.h2_set.specs.Forest.{IsBad, IsSound, Walks, HasCause, LeavesOf, Reaches, KeepsBeside};
 ghost use Rattle.h2_tree.specs.Changes.{LoadsIn, PathUnloaded};
@@ -11,7 +11,7 @@ ghost use Rattle.h2_dir.specs.Walking.{IsPfsRoot, LoadsStep, LoadsWalk, WalkEnds
 use crate::fault::DirFault;
 use crate::finding::find;
 use h2_inode::Nodes;
-use h2_num::{Name, Names};
+use h2_num::Names;
 use h2_ref::{Ref, Trouble};
 use h2_set::NodeId;
 use h2_tree::lookup;
@@ -71,34 +71,6 @@ fn step<N: Nodes>(
     }
 }
 
-// The number of the inode that the names from place `i` on lead to from the inode with this number.
-fn walk_on<N: Nodes>(
-    alloc: Global,
-    n: &mut N,
-    pfs: NodeId,
-    number: u64,
-    names: &[Name],
-    i: usize,
-) -> Result<u64, DirFault>
-    requires sound { IsSound (N.forest n.old) }
-    requires pfs { IsPfsRoot (N.forest n.old) (held_by N.fields (N.beside n.old)) pfs.0 }
-    ensures visits { Visits (N.forest n.old) (N.forest n.new) }
-    ensures ends { WalkEnds (N.forest n.old) (N.forest n.new) (held_by N.fields (N.beside n.new)) pfs.0 number (drop i names.now) result }
-    ensures loads { LoadsWalk (N.forest n.old) (N.forest n.new) (held_by N.fields (N.beside n.new)) pfs.0 number (drop i names.now) }
-    ensures good { (may : ℕ → ℕ → Bool) (l : List Ref) → LeavesOf (N.forest n.old) pfs.0 l → KnowsWay (view_of N.fields (N.forest n.old) (N.beside n.old) (N.told n.old)) may pfs.0 l number (drop i names.now) → IfErr result (λ e. IsBadBlock e → ⊥) }
-    ensures alike { StandsAlike (view_of N.fields (N.forest n.old) (N.beside n.old) (N.told n.old)) (view_of N.fields (N.forest n.new) (N.beside n.new) (N.told n.new)) }
-    ensures beside { KeepsBeside (N.forest n.old) (N.forest n.new) (N.beside n.old) (N.beside n.new) }
-    ensures later { N.later n.old n.new }
-{
-    if i >= names.len() {
-        return Ok(number);
-    }
-    match step(alloc, n, pfs, number, names[i].as_slice()) {
-        Ok(next) => walk_on(alloc, n, pfs, next, names, i + 1),
-        Err(fault) => Err(fault),
-    }
-}
-
 /// The number of the inode that the names of a path lead to from inode 1 of a PFS, whose inode's root is given.
 ///
 /// Names are looked up from left to right: NoEntry exactly where one is missing in its directory, NotDir exactly where
@@ -121,5 +93,13 @@ pub fn walk<N: Nodes>(alloc: Global, n: &mut N, pfs: NodeId, names: &Names) -> R
     ensures beside { KeepsBeside (N.forest n.old) (N.forest n.new) (N.beside n.old) (N.beside n.new) }
     ensures later { N.later n.old n.new }
 {
-    walk_on(alloc, n, pfs, ROOT_DIRECTORY, names.items(), 0)
+    let items = names.items();
+    let mut number = ROOT_DIRECTORY;
+    for i in 0..items.len() {
+        match step(alloc, n, pfs, number, items[i].as_slice()) {
+            Ok(next) => number = next,
+            Err(fault) => return Err(fault),
+        }
+    }
+    Ok(number)
 }
