@@ -1,2 +1,4 @@
+pub mod FilesBlocks
+pub mod FilesTopped
 pub mod Kept
 pub mod Topped

@@ -1,1 +1,4 @@
+pub mod FileUnderTest
+pub mod LeafUnderTest
+pub mod PfsUnderTest
 pub mod VolumeUnderTest

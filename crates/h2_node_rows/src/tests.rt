@@ -1,3 +1,14 @@
+mod files;
+mod files_blocks;
+mod files_both;
+mod files_orders;
+mod files_plain;
+mod files_rows;
 mod pfss;
+mod pfss_both;
+mod pfss_orders;
+mod pfss_plain;
+mod pfss_rows;
 mod rows;
+mod super_roots;
 mod under_test;
