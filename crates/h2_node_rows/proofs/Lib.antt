@@ -1,2 +1,3 @@
+pub mod DirectoriesTopped
 pub mod Kept
 pub mod Topped

@@ -1,1 +1,2 @@
+pub mod DirectoryUnderTest
 pub mod VolumeUnderTest
