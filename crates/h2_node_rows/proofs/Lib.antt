@@ -1,3 +1,4 @@
+pub mod DirectoriesTopped
 pub mod FilesBlocks
 pub mod FilesTopped
 pub mod Kept

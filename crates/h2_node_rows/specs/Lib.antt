@@ -1,3 +1,4 @@
+pub mod DirectoryUnderTest
 pub mod FileUnderTest
 pub mod LeafUnderTest
 pub mod PfsUnderTest

@@ -1,3 +1,12 @@
+mod directories;
+mod directories_changing;
+mod directories_collisions;
+mod directories_making;
+mod directories_names;
+mod directories_opening;
+mod directories_rows;
+mod directories_table;
+mod directories_troubles;
 mod files;
 mod files_blocks;
 mod files_both;
