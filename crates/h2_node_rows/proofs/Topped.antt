@@ -12,7 +12,7 @@ use Rattle.h2_pfs.specs.Addition.{AddsPfs}
 use Rattle.h2_pfs.specs.Removal.{RemovesPfs}
 use Rattle.h2_node_rows.specs.VolumeUnderTest.{IsTop}
 
-top_on : (f g : Forest) (c : ℕ) → IsTop f c → IsSound g → InPlace f g c → g.leaf_bits c ≡ f.leaf_bits c → ((r : Ref) → g.allows c r ≡ f.allows c r) → ((m : ℕ) → g.held m ≡ f.held m) → IsTop g c
+pub top_on : (f g : Forest) (c : ℕ) → IsTop f c → IsSound g → InPlace f g c → g.leaf_bits c ≡ f.leaf_bits c → ((r : Ref) → g.allows c r ≡ f.allows c r) → ((m : ℕ) → g.held m ≡ f.held m) → IsTop g c
 top_on f g c is sound place bits allows held =
     let s = is.super_root in
     record {
@@ -29,7 +29,7 @@ top_on f g c is sound place bits allows held =
       free = λ m. held m ∙ is.free m;
     }
 
-top_fixed : (f g : Forest) (c : ℕ) → IsTop f c → IsSound g → InPlace f g c → Fixed f g → IsTop g c
+pub top_fixed : (f g : Forest) (c : ℕ) → IsTop f c → IsSound g → InPlace f g c → Fixed f g → IsTop g c
 top_fixed f g c is sound place fixed =
     let s = is.super_root in
     top_on f g c is sound place (fixed.leaf_bits c s.stands place.stands) (λ r. fixed.allows c r s.stands place.stands) fixed.held

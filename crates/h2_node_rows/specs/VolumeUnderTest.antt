@@ -5,7 +5,7 @@ use Rattle.h2_ref.specs.declared.reference.Ref.{Ref}
 use Rattle.h2_set.specs.SetBytes.{IsHeld}
 use Rattle.h2_set.specs.Forest.{Forest, IsSound}
 use Rattle.h2_inode.specs.declared.inode.Inode.{Inode}
-use Rattle.h2_inode.specs.declared.kind.InodeKind.TheVariants.{Directory, Pfs}
+use Rattle.h2_inode.specs.declared.kind.InodeKind.TheVariants.{Directory}
 use Rattle.h2_inode.specs.Nodes.{Fields, held_by, set_of, HasInode, IsInodeLeaf, IsPlantable}
 use Rattle.h2_memory_sets.specs.declared.memory.MemorySets.{MemorySets}
 use Rattle.h2_memory_sets.specs.Seen.{beside_seen}
@@ -43,12 +43,6 @@ pub record IsEmptyDirectory (i : Inode) : Type 0 where
   pub kind : i.kind ≡ Directory
   pub number : i.number ≡ 1
   pub empty : set_of i.body ≡ record { refs = []; capacity = 4 }
-  pub plantable : IsPlantable i
-
--- PFS 1, with a tree without leaves
-pub record IsEmptyPfs (i : Inode) : Type 0 where
-  pub kind : i.kind ≡ Pfs
-  pub number : i.number ≡ 1
   pub plantable : IsPlantable i
 
 -- node c is the writable root of such a directory

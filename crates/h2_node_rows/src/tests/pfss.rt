@@ -1,13 +1,14 @@
-ghost use Rattle.std.specs.Prelude.{◌≡◌, None, IfSome, OnOk};
+ghost use Rattle.std.specs.Prelude.{◌≡◌, None, IfOk, IfSome, IsTrue};
 ghost use Rattle.h2_set.specs.Forest.{Reaches};
 ghost use Rattle.h2_memory_sets.specs.Seen.{forest_of};
-ghost use Rattle.h2_node_rows.specs.VolumeUnderTest.{IsTop, IsLeaf, IsEmptyPfs};
+ghost use Rattle.h2_node_rows.specs.LeafUnderTest.{IsNumberedLeaf};
+ghost use Rattle.h2_node_rows.specs.PfsUnderTest.{IsNewPfs};
+ghost use Rattle.h2_node_rows.specs.VolumeUnderTest.{IsTop};
 
-use super::under_test::{empty, inode_leaf};
-use h2_dirkey::is_pfs_name;
+use super::super_roots::{numbered_leaf, super_root};
 use h2_inode::{Body, Inode, InodeKind, PfsName};
 use h2_memory_sets::MemorySets;
-use h2_num::Names;
+use h2_num::{Names, NoMemory};
 use h2_pfs::{PfsFault, pfs_add, pfs_find, pfs_names, pfs_remove};
 use h2_ref::{Ref, Trouble};
 use h2_set::{NodeId, Set};
@@ -17,30 +18,39 @@ use std::test::Fail;
 
 /// PFSs in memory: their super-root.
 #[derive(Drop)]
-struct Pfss {
+pub(super) struct Pfss {
     pub nodes: MemorySets,
     pub root: NodeId,
 }
 
 impl Pfss {
-    // Tests that no PFS has the id 1.
-    fn test_free_id(&mut self, alloc: Global) -> Result<(), Fail>
+    /// No PFS.
+    pub fn new(alloc: Global) -> Result<Pfss, NoMemory>
+        ensures { IfOk result (λ v. IsTop (forest_of v.nodes) v.root.0) }
+    {
+        let (nodes, root) = super_root(alloc)?;
+        Ok(Pfss { nodes, root })
+    }
+
+    // Whether no PFS has the id.
+    fn is_free(&mut self, alloc: Global, id: u64) -> Result<bool, Trouble>
         requires { IsTop (forest_of self.old.nodes) self.old.root.0 }
         ensures top { IsTop (forest_of self.new.nodes) self.new.root.0 }
-        ensures free { OnOk result (Reaches (forest_of self.new.nodes) 1 self.new.root.0 None) }
+        ensures free { IfOk result (λ b. IsTrue b → Reaches (forest_of self.new.nodes) id self.new.root.0 None) }
     {
-        match lookup(alloc, &mut self.nodes, self.root, 1)? {
-            Some(_) => Err(Fail::new("a PFS has the id")),
-            None => Ok(()),
+        match lookup(alloc, &mut self.nodes, self.root, id)? {
+            Some(_) => Ok(false),
+            None => Ok(true),
         }
     }
 
     // Adds the PFS of an inode.
     fn found(&mut self, alloc: Global, leaf: Ref, inode: Inode) -> Result<(), PfsFault>
         requires top { IsTop (forest_of self.old.nodes) self.old.root.0 }
-        requires leaf { IsLeaf leaf }
-        requires inode { IsEmptyPfs inode }
-        requires free { Reaches (forest_of self.old.nodes) 1 self.old.root.0 None }
+        requires leaf { IsNumberedLeaf leaf }
+        requires inode { IsNewPfs inode }
+        requires number { inode.number ≡ leaf.key }
+        requires free { Reaches (forest_of self.old.nodes) leaf.key self.old.root.0 None }
         ensures { IsTop (forest_of self.new.nodes) self.new.root.0 }
     {
         if self.nodes.room() < 63 {
@@ -49,33 +59,36 @@ impl Pfss {
         pfs_add(alloc, &mut self.nodes, self.root, leaf, inode)
     }
 
-    // Adds PFS 1 with a name.
-    fn add(&mut self, alloc: Global, name: &[u8]) -> Result<Result<(), PfsFault>, Fail>
+    /// Adds a PFS with an id that none has.
+    pub fn add(&mut self, alloc: Global, id: u64, name: &[u8]) -> Result<Result<(), PfsFault>, Fail>
         requires { IsTop (forest_of self.old.nodes) self.old.root.0 }
         ensures { IsTop (forest_of self.new.nodes) self.new.root.0 }
     {
-        let (Some(leaf), Some(inode)) = (inode_leaf(), pfs(name)) else {
+        let (Some(leaf), Some(inode)) = (numbered_leaf(id), pfs(id, name)) else {
             return Err(Fail::new("no PFS"));
         };
-        self.test_free_id(alloc)?;
-        Ok(self.found(alloc, leaf, inode))
+        match self.is_free(alloc, id) {
+            Ok(true) => Ok(self.found(alloc, leaf, inode)),
+            Ok(false) => Err(Fail::new("a PFS has the id")),
+            Err(trouble) => Ok(Err(PfsFault::Trouble(trouble))),
+        }
     }
 
-    fn find(&mut self, alloc: Global, name: &[u8]) -> Result<u64, PfsFault>
+    pub fn find(&mut self, alloc: Global, name: &[u8]) -> Result<u64, PfsFault>
         requires { IsTop (forest_of self.old.nodes) self.old.root.0 }
         ensures { IsTop (forest_of self.new.nodes) self.new.root.0 }
     {
         pfs_find(alloc, &mut self.nodes, self.root, name)
     }
 
-    fn names(&mut self, alloc: Global) -> Result<Names, Trouble>
+    pub fn names(&mut self, alloc: Global) -> Result<Names, Trouble>
         requires { IsTop (forest_of self.old.nodes) self.old.root.0 }
         ensures { IsTop (forest_of self.new.nodes) self.new.root.0 }
     {
         pfs_names(alloc, &mut self.nodes, self.root)
     }
 
-    fn remove(&mut self, alloc: Global, name: &[u8], handles: u32) -> Result<(), PfsFault>
+    pub fn remove(&mut self, alloc: Global, name: &[u8], handles: u32) -> Result<(), PfsFault>
         requires { IsTop (forest_of self.old.nodes) self.old.root.0 }
         ensures { IsTop (forest_of self.new.nodes) self.new.root.0 }
     {
@@ -84,40 +97,48 @@ impl Pfss {
         }
         pfs_remove(alloc, &mut self.nodes, self.root, name, handles)
     }
+
+    /// Unloads all PFSs, and the blocks of the super-root's tree.
+    pub fn unload(&mut self)
+        requires { IsTop (forest_of self.old.nodes) self.old.root.0 }
+        ensures { IsTop (forest_of self.new.nodes) self.new.root.0 }
+    {
+        self.nodes.unload_inodes();
+        self.nodes.unload(0);
+    }
+
+    pub fn fail_load(&mut self, which: u64)
+        requires { IsTop (forest_of self.old.nodes) self.old.root.0 }
+        ensures { IsTop (forest_of self.new.nodes) self.new.root.0 }
+    {
+        self.nodes.fail_load(which);
+    }
+
+    pub fn spoil_load(&mut self, which: u64)
+        requires { IsTop (forest_of self.old.nodes) self.old.root.0 }
+        ensures { IsTop (forest_of self.new.nodes) self.new.root.0 }
+    {
+        self.nodes.spoil_load(which);
+    }
 }
 
-// The inode of PFS 1 with a name, whose tree has no leaf. None where the name isn't one of a PFS.
-fn pfs(name: &[u8]) -> Option<Inode>
-    ensures { IfSome result IsEmptyPfs }
+// The inode of a PFS with an id and a name, whose tree has no leaf. None where no PFS may have them.
+fn pfs(id: u64, name: &[u8]) -> Option<Inode>
+    ensures pfs { IfSome result IsNewPfs }
+    ensures number { IfSome result (λ i. i.number ≡ id) }
 {
-    if !is_pfs_name(name) {
-        return None;
-    }
     let name = PfsName::from_slice(name)?;
-    Some(Inode {
+    let inode = Inode {
         kind: InodeKind::Pfs,
-        number: 1,
+        number: id,
         size: 0,
         links: 1,
         next: 2,
         name,
         body: Body::Refs(Set::new(4)),
-    })
-}
-
-#[test]
-fn a_pfs_comes_and_goes(rt: HostRuntime) -> Result<(), Fail> {
-    let alloc = rt.alloc();
-    let (nodes, root) = empty(alloc)?;
-    let mut pfss = Pfss { nodes, root };
-    assert_eq!(rt; pfss.add(alloc, b"home")?, Ok(()));
-    assert_eq!(rt; pfss.find(alloc, b"home"), Ok(1));
-    let names = pfss.names(alloc)?;
-    let names = names.items();
-    assert_eq!(rt; names.len(), 1);
-    assert_eq!(rt; names[0].as_slice(), b"home".as_slice());
-    assert_eq!(rt; pfss.remove(alloc, b"home", 1), Err(PfsFault::InUse(1)));
-    assert_eq!(rt; pfss.remove(alloc, b"home", 0), Ok(()));
-    assert_eq!(rt; pfss.find(alloc, b"home"), Err(PfsFault::NoPfs));
-    Ok(())
+    };
+    if !inode.is_valid() {
+        return None;
+    }
+    Some(inode)
 }

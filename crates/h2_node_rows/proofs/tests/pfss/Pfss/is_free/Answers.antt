@@ -1,6 +1,6 @@
 use Rattle.h2_inode.specs.VisitLaws.{walks_visit}
 use Rattle.h2_node_rows.proofs.Topped.{visited}
-use Rattle.h2_node_rows.proofs.tests.pfss.Pfss.test_free_id.Goals as goal
+use Rattle.h2_node_rows.proofs.tests.pfss.Pfss.is_free.Goals as goal
 
 pub returns-in_err-lookup-clause-top : goal.returns-in_err-lookup-clause-top
 returns-in_err-lookup-clause-top c = visited _ _ _ c.requires (walks_visit _ _ c.lookup.ensures.walks)
