@@ -86,8 +86,12 @@ fn compare_all(
     compare_list(rt, dir, rows)
 }
 
-// Adds a row that isn't in, and compares what is said of its name.
-fn add_row(rt: &(impl Abort + AllocGlobal), dir: &mut Directory, row: &mut Row) -> Result<(), Fail>
+/// Adds a row that isn't in, and compares what is said of its name.
+pub(super) fn add_row(
+    rt: &(impl Abort + AllocGlobal),
+    dir: &mut Directory,
+    row: &mut Row,
+) -> Result<(), Fail>
     requires { IsTop (forest_of dir.old.nodes) dir.old.root.0 }
     ensures { OnOk result (IsTop (forest_of dir.new.nodes) dir.new.root.0) }
 {

@@ -6,7 +6,7 @@ ghost use Rattle.h2_node_rows.specs.VolumeUnderTest.{IsTop};
 use super::directories::Directory;
 use super::directories_making::{DIRECTORY_PLACE, PFS_PLACE};
 use super::directories_names::{Order, Row, some_rows};
-use super::directories_table::{compare_list, fill, with_names};
+use super::directories_table::{add_row, compare_list, fill, with_names};
 use h2_dir::DirFault;
 use h2_num::{Names, NoMemory};
 use h2_ref::{Trouble, Why};
@@ -251,5 +251,23 @@ fn each_load_fails_and_nothing_is_lost(rt: HostRuntime) -> Result<(), Fail> {
             fail_both(&rt, &mut dir, &mut rows, place, call)?;
         }
     }
+    Ok(())
+}
+
+#[test]
+fn a_list_reads_each_block_once(rt: HostRuntime) -> Result<(), Fail> {
+    let alloc = rt.alloc();
+    let mut rows = some_rows(alloc, 8)?;
+    let mut dir = with_names(alloc, &rows)?;
+    // Four names with a block, and one without.
+    for place in 3..8 {
+        let Some(row) = rows.get_mut(place) else {
+            return Err(Fail::new("no row"));
+        };
+        add_row(&rt, &mut dir, row)?;
+    }
+    let loads = fail_each(&rt, &mut dir, &mut rows, 3, Call::List, Failure::Disk)?;
+    // Both inodes, a block of references, since a root has room for four, and four names.
+    assert_eq!(rt; loads, 7);
     Ok(())
 }

@@ -1,7 +1,4 @@
-use Rattle.std.proofs.Common.{sym, subst}
-use Rattle.h2_set.specs.Forest.{Reaches}
 use Rattle.h2_inode.specs.VisitLaws.{walks_visit}
-use Rattle.h2_memory_sets.specs.Seen.{forest_of}
 use Rattle.h2_node_rows.proofs.Topped.{visited}
 use Rattle.h2_node_rows.proofs.DirectoriesTopped.{leaf_is}
 use Rattle.h2_node_rows.proofs.tests.directories_opening.leaf_in.Goals as goal
