@@ -1,5 +1,5 @@
 -- A tree stays one of entries, and takes each of them.
-use Rattle.std.proofs.Common.{◌≡◌, ℕ, ◌+◌, ◌≤◌, ◌<◌, ◌^◌, ◌%◌, Bool, true, false, arith, refl, sym, ap, ◌∙◌, Option, Result, Ok, Err, IfOk, inr, subst}
+use Rattle.std.proofs.Common.{◌≡◌, ℕ, ◌≤◌, ◌<◌, ◌^◌, ◌%◌, false, arith, refl, sym, ap, ◌∙◌, Option, Result, Ok, Err, IfOk, inr}
 use Rattle.std.specs.Prelude.{OnErr}
 use Rattle.h2_ref.specs.declared.faults.Trouble.{Trouble}
 use Rattle.h2_ref.specs.declared.reference.Kind.{Kind}
