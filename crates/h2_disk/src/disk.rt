@@ -1,7 +1,7 @@
 ghost use Rattle.std.specs.Prelude.{◌≡◌, ◌+◌, ◌-◌, ◌^◌, ◌≤◌, ◌<◌, ℕ, Bool, IsTrue, length, OnOk, OnErr, IfErr, IsErr};
 ghost use Rattle.h2_num.specs.Places.{Places, places, SameBelow, from_place};
 ghost use Rattle.h2_num.specs.Causes.{one_more};
-ghost use Rattle.h2_disk.specs.Trace.{Trace, latest};
+ghost use Rattle.h2_disk.specs.Trace.{Trace, latest, LeftAt};
 
 /// Why a call of a disk was refused.
 #[derive(Clone, Copy, Debug, PartialEq, Eq)]
@@ -74,4 +74,7 @@ pub trait Disk {
 
     /// All that the trace has was done by the moment.
     ghost trace_past: { (disk : Self) → latest (trace disk) ≤ moment disk };
+
+    /// What a read gives is among what a power cut at this moment may leave.
+    ghost left_now: { (disk : Self) → IsTrue tells → LeftAt (trace disk) (moment disk) (image disk) };
 }

@@ -2,6 +2,7 @@ ghost use Rattle.std.specs.Prelude.{◌≡◌, ◌↔◌, ◌+◌, ◌-◌, ◌^
 ghost use Rattle.h2_num.specs.Places.{places, from_place, SameBelow, Lays};
 ghost use Rattle.h2_num.specs.Causes.{one_more};
 ghost use Rattle.h2_disk.specs.Trace.{Opened};
+ghost use Rattle.h2_disk.specs.RecordLaws.{record_left};
 ghost use Rattle.h2_disk.specs.Disk.{Keeps, Writes, Syncs};
 ghost use Rattle.h2_disk.specs.Faults.{IsCounted};
 ghost use Rattle.h2_disk.specs.Mem.{mem_image, mem_trace, mem_moment, mem_faults, mem_reads, FailsNextRead, FailsNextCall, FailsExactlyIf, KeepsPlan, IsFresh};
@@ -117,6 +118,8 @@ impl Disk for MemDisk {
     ghost moment_fits = { λ disk. disk.recording.fits };
 
     ghost trace_past = { λ disk. disk.recording.past };
+
+    ghost left_now = { λ disk tells. record_left disk.recording.entries.items disk.recording.moment disk.recording.past };
 
     /// Fills the buffer with the image's bytes from the place on. It fails exactly where its number is
     /// planned, and takes no memory.

@@ -1,7 +1,9 @@
-ghost use Rattle.std.specs.Prelude.{◌≡◌, ◌+◌, ◌-◌, ◌^◌, ◌≤◌, IsOk, IfOk, OnOk, IsTrue, IfErr, length, true};
+ghost use Rattle.std.specs.Prelude.{◌≡◌, ◌+◌, ◌-◌, ◌^◌, ◌≤◌, IsOk, IfOk, IsErr, OnOk, OnErr, IsTrue, IfErr, length, true};
 ghost use Rattle.h2_num.specs.Places.{places, from_place, SameBelow};
+ghost use Rattle.h2_num.specs.Causes.{one_more};
 ghost use Rattle.h2_disk.specs.Trace.{Opened};
-ghost use Rattle.h2_disk.specs.Disk.{Keeps};
+ghost use Rattle.h2_disk.specs.RecordLaws.{record_left};
+ghost use Rattle.h2_disk.specs.Disk.{Keeps, Writes, Syncs};
 ghost use Rattle.h2_disk.specs.Sure.{sure_image, sure_trace, sure_moment};
 
 use crate::recording::Recording;
@@ -45,6 +47,8 @@ impl Disk for SureDisk {
 
     ghost trace_past = { λ disk. disk.recording.past };
 
+    ghost left_now = { λ disk tells. record_left disk.recording.entries.items disk.recording.moment disk.recording.past };
+
     /// Fills the buffer with the image's bytes from the place on.
     fn read(&mut self, at: u64, buf: &mut [u8]) -> Result<(), DiskFault>
         requires { at + length buf.old ≤ 2 ^ 34 }
@@ -57,14 +61,31 @@ impl Disk for SureDisk {
         Ok(())
     }
 
-    fn write(&mut self, at: u64, bytes: &[u8]) -> Result<(), DiskFault> {
+    /// Puts the bytes at the place. Where it is refused, for want of memory or from moment 2^64 - 2 on,
+    /// the old bytes stay.
+    fn write(&mut self, at: u64, bytes: &[u8]) -> Result<(), DiskFault>
+        requires { at + length bytes.now ≤ 2 ^ 34 }
+        ensures wrote { OnOk result (Writes (sure_moment self.new) at bytes.now (sure_image self.old) (sure_image self.new) (sure_trace self.old) (sure_trace self.new)) }
+        ensures failed { OnErr result (Keeps (sure_image self.old) (sure_image self.new) (sure_trace self.old) (sure_trace self.new)) }
+        ensures time { sure_moment self.new ≡ one_more (sure_moment self.old) }
+        ensures end { 2 ^ 64 - 2 ≤ sure_moment self.old → IsErr result }
+        ensures memory { IfErr result (λ fault. fault ≡ DiskFault.NoMemory) }
+    {
         let Ok(()) = self.recording.write(at, bytes) else {
             return Err(DiskFault::NoMemory);
         };
         Ok(())
     }
 
-    fn sync(&mut self) -> Result<(), DiskFault> {
+    /// Makes the image durable. It is refused for want of memory or from moment 2^64 - 2 on.
+    fn sync(&mut self) -> Result<(), DiskFault>
+        ensures synced { OnOk result (Syncs (sure_moment self.new) (sure_image self.old) (sure_image self.new) (sure_trace self.old) (sure_trace self.new)) }
+        ensures failed { OnErr result (Keeps (sure_image self.old) (sure_image self.new) (sure_trace self.old) (sure_trace self.new)) }
+        ensures time { OnOk result (sure_moment self.new ≡ sure_moment self.old + 2) }
+        ensures time_failed { OnErr result (sure_moment self.new ≡ one_more (sure_moment self.old)) }
+        ensures end { 2 ^ 64 - 2 ≤ sure_moment self.old → IsErr result }
+        ensures memory { IfErr result (λ fault. fault ≡ DiskFault.NoMemory) }
+    {
         let Ok(()) = self.recording.sync() else {
             return Err(DiskFault::NoMemory);
         };

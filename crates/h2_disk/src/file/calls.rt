@@ -1,4 +1,4 @@
-ghost use Rattle.std.specs.Prelude.{◌≡◌, ◌+◌, ◌-◌, ◌^◌, ◌≤◌, ◌<◌, ◌↔◌, IsTrue, OnOk, OnErr, IfErr, IsErr, length, false};
+ghost use Rattle.std.specs.Prelude.{◌≡◌, ◌+◌, ◌-◌, ◌^◌, ◌≤◌, ◌<◌, ◌↔◌, IsTrue, OnOk, OnErr, IfErr, IsErr, length, false, refl};
 ghost use Rattle.h2_num.specs.Causes.{one_more};
 ghost use Rattle.h2_disk.specs.Trace.{Opened};
 ghost use Rattle.h2_disk.specs.TraceLaws.{latest-opened};
@@ -112,6 +112,8 @@ impl<R: Files + Drop> Disk for FileDisk<R> {
     ghost moment_fits = { λ disk. disk.fits };
 
     ghost trace_past = { λ disk. latest-opened (λ k. 0) disk.moment };
+
+    ghost left_now = { λ disk tells k unwritten. refl };
 
     /// Fills the buffer with the file's bytes from the place on; past the file's end stand zeros. Each
     /// error is one fault.
