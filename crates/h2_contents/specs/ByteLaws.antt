@@ -7,8 +7,16 @@ use Rattle.std.proofs.lemmas.List.{length-replicate, get_or-take, get_or-drop, g
 use Rattle.h2_contents.specs.Bytes.{grown, written_at, cut_to, read_at}
 use Rattle.h2_contents.specs.Windows.{laid}
 
-pub length-written_at : (bytes : List ℕ) (off : ℕ) (new : List ℕ) → length (written_at bytes off new) ≡ max (length bytes) (off + length new)
-length-written_at bytes off new = simp (length-append, length-take, length-drop, length-replicate) (omega arith)
+-- the bytes laid over the file, as a write of some bytes lays them
+abbrev put_at : List ℕ → ℕ → List ℕ → List ℕ
+put_at bytes off new = take off (grown bytes off) ++ new ++ drop (off + length new) bytes
+
+length-put_at : (bytes : List ℕ) (off : ℕ) (new : List ℕ) → length (put_at bytes off new) ≡ max (length bytes) (off + length new)
+length-put_at bytes off new = simp (length-append, length-take, length-drop, length-replicate) (omega arith)
+
+pub length-written_at : (bytes : List ℕ) (off : ℕ) (new : List ℕ) → 0 < length new → length (written_at bytes off new) ≡ max (length bytes) (off + length new)
+length-written_at bytes off [] some = absurd (omega arith)
+length-written_at bytes off (byte ∷ new) some = length-put_at bytes off (byte ∷ new)
 
 pub length-cut_to : (bytes : List ℕ) (size : ℕ) → length (cut_to bytes size) ≡ size
 length-cut_to bytes size = simp (length-append, length-take, length-replicate) (omega arith)
@@ -48,7 +56,7 @@ front_length bytes off = simp (length-append, length-take, length-replicate) (om
 both_length : (bytes new : List ℕ) (off : ℕ) → length (take off (grown bytes off) ++ new) ≡ off + length new
 both_length bytes new off = length-append (take off (grown bytes off)) new ∙ ap (λ n. n + length new) (front_length bytes off)
 
-before_new : (bytes : List ℕ) (off : ℕ) (new : List ℕ) (i : ℕ) → i < off → get_or (written_at bytes off new) i 0 ≡ get_or bytes i 0
+before_new : (bytes : List ℕ) (off : ℕ) (new : List ℕ) (i : ℕ) → i < off → get_or (put_at bytes off new) i 0 ≡ get_or bytes i 0
 before_new bytes off new i h =
     let a : i < length (take off (grown bytes off)) = omega (arith, front_length bytes off) in
     let b : i < length (take off (grown bytes off) ++ new) = omega (arith, both_length bytes new off) in
@@ -56,25 +64,29 @@ before_new bytes off new i h =
     ∙ get_or_append_left (take off (grown bytes off)) new 0 i a
     ∙ get_or-take off (grown bytes off) i 0 h ∙ zeros_after bytes (off - length bytes) i
 
-in_new : (bytes : List ℕ) (off : ℕ) (new : List ℕ) (i : ℕ) → off ≤ i → i < off + length new → get_or (written_at bytes off new) i 0 ≡ get_or new (i - off) 0
+in_new : (bytes : List ℕ) (off : ℕ) (new : List ℕ) (i : ℕ) → off ≤ i → i < off + length new → get_or (put_at bytes off new) i 0 ≡ get_or new (i - off) 0
 in_new bytes off new i h g =
     let b : i < length (take off (grown bytes off) ++ new) = omega (arith, both_length bytes new off) in
     get_or_append_left (take off (grown bytes off) ++ new) (drop (off + length new) bytes) 0 i b
     ∙ get_or-append_right (take off (grown bytes off)) new off i 0 (front_length bytes off) h
 
-after_new : (bytes : List ℕ) (off : ℕ) (new : List ℕ) (i : ℕ) → off + length new ≤ i → get_or (written_at bytes off new) i 0 ≡ get_or bytes i 0
+after_new : (bytes : List ℕ) (off : ℕ) (new : List ℕ) (i : ℕ) → off + length new ≤ i → get_or (put_at bytes off new) i 0 ≡ get_or bytes i 0
 after_new bytes off new i h =
     get_or-append_right (take off (grown bytes off) ++ new) (drop (off + length new) bytes) (off + length new) i 0 (both_length bytes new off) h
     ∙ get_or-drop (off + length new) bytes (i - (off + length new)) 0 ∙ ap (λ k. get_or bytes k 0) (omega arith)
 
-pub byte_written : (bytes : List ℕ) (off : ℕ) (new : List ℕ) (i : ℕ) → get_or (written_at bytes off new) i 0 ≡ laid off new i (get_or bytes i 0)
-byte_written bytes off new i = elim (cases_lt i off) [
+byte_put : (bytes : List ℕ) (off : ℕ) (new : List ℕ) (i : ℕ) → get_or (put_at bytes off new) i 0 ≡ laid off new i (get_or bytes i 0)
+byte_put bytes off new i = elim (cases_lt i off) [
   | inl lt ↦ before_new bytes off new i lt ∙ outside_test off i (length new) (get_or new (i - off) 0) (get_or bytes i 0) (inl lt)
   | inr ge ↦ elim (cases_lt i (off + length new)) [
     | inl lt ↦ in_new bytes off new i ge lt ∙ inside_test off i (length new) (get_or new (i - off) 0) (get_or bytes i 0) ge lt
     | inr far ↦ after_new bytes off new i far ∙ outside_test off i (length new) (get_or new (i - off) 0) (get_or bytes i 0) (inr far)
   ]
 ]
+
+pub byte_written : (bytes : List ℕ) (off : ℕ) (new : List ℕ) (i : ℕ) → get_or (written_at bytes off new) i 0 ≡ laid off new i (get_or bytes i 0)
+byte_written bytes off [] i = outside_test off i 0 0 (get_or bytes i 0) (elim (cases_lt i off) [ | inl lt ↦ inl lt | inr ge ↦ inr (omega arith) ])
+byte_written bytes off (byte ∷ new) i = byte_put bytes off (byte ∷ new) i
 
 -- a window that has each byte of the file from a place on is what is read there
 pub window_is_read : (bytes window : List ℕ) (off len : ℕ) → length window ≡ min (length bytes - off) len → ((k : ℕ) → k < length window → get_or window k 0 ≡ get_or bytes (off + k) 0) → window ≡ read_at bytes off len

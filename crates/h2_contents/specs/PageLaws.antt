@@ -148,9 +148,9 @@ pub is_put : (m : PageMap) (n : ℕ) (page : List ℕ) → IsSome (get (insert m
 is_put m n page = subst IsSome (sym (page_put m n page n refl)) refl
 
 -- the file after a write
-pub file_written : (old m : PageMap) (size off end : ℕ) (new : List ℕ) → IsKept old size → ((i : ℕ) → byte_in m i ≡ laid off new i (byte_in old i)) → end ≡ max size (off + length new) → first_bytes (byte_in m) end ≡ written_at (first_bytes (byte_in old) size) off new
-file_written old m size off end new kept w is = first_is (byte_in m) end (written_at (first_bytes (byte_in old) size) off new)
-    (length-written_at (first_bytes (byte_in old) size) off new ∙ ap (λ n. max n (off + length new)) (length-first_bytes (byte_in old) size) ∙ sym is)
+pub file_written : (old m : PageMap) (size off end : ℕ) (new : List ℕ) → 0 < length new → IsKept old size → ((i : ℕ) → byte_in m i ≡ laid off new i (byte_in old i)) → end ≡ max size (off + length new) → first_bytes (byte_in m) end ≡ written_at (first_bytes (byte_in old) size) off new
+file_written old m size off end new some kept w is = first_is (byte_in m) end (written_at (first_bytes (byte_in old) size) off new)
+    (length-written_at (first_bytes (byte_in old) size) off new some ∙ ap (λ n. max n (off + length new)) (length-first_bytes (byte_in old) size) ∙ sym is)
     (λ i lt. byte_written (first_bytes (byte_in old) size) off new i ∙ ap (laid off new i) (kept_at old size i kept) ∙ sym (w i))
 
 pub kept_written : (old m : PageMap) (size off end : ℕ) (new : List ℕ) → IsKept old size → ((i : ℕ) → byte_in m i ≡ laid off new i (byte_in old i)) → end ≡ max size (off + length new) → end ≤ 1099511627776 → IsKept m end

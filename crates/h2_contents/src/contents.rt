@@ -74,15 +74,19 @@ impl Contents {
         self.size
     }
 
-    /// Puts at most 1,048,576 bytes at a place, over zeros where nothing was. Want of memory changes
-    /// nothing.
+    /// Puts at most 1,048,576 bytes at a place, over zeros where nothing was. No bytes and want of memory
+    /// change nothing.
     pub fn write(&mut self, alloc: Global, off: u64, payload: &Payload) -> Result<(), NoMemory>
         requires few { length (payload_bytes payload.now) ≤ 1048576 }
         requires within { off + length (payload_bytes payload.now) ≤ 2 ^ 40 }
         ensures ok { OnOk result (self.new ≡ written_at self.old off (payload_bytes payload.now)) }
         ensures err { OnErr result (self.new ≡ self.old) }
     {
-        let end = off + payload.len() as u64;
+        let len = payload.len() as u64;
+        if len == 0 {
+            return Ok(());
+        }
+        let end = off + len;
         let first = off / PAGE_BYTES;
         write_from(
             &mut self.pages,
