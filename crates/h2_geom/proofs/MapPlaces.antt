@@ -2,7 +2,7 @@
 use Rattle.std.proofs.Common.{◌≡◌, ◌⊎◌, ◌<◌, ◌≤◌, ℕ, ◌+◌, sym, ap, ◌∙◌, inl, inr, arith}
 use Rattle.std.proofs.lemmas.Bool.{cases_lt}
 use Rattle.h2_geom.specs.Places.{MapBlock, IsMapBlock, IsApart, map_place, header_place, map_block_bytes, header_bytes}
-use Rattle.h2_geom.specs.Laws.{MapBlocksApart, MapApartFromHeaders, MapIsReserved, MapInZone, HeadersAreReserved}
+use Rattle.h2_geom.specs.Laws.{MapBlocksApart, MapApartFromHeaders, HeadersApart, MapIsReserved, MapInZone, HeadersAreReserved}
 
 -- a block of a lower zone, or of the same zone and a lower copy, or of the same copy and a lower level,
 -- lies below the other
@@ -57,6 +57,16 @@ headers_apart b slot h = by_zone (cases_lt b.zone slot)
         let copy : b.copy < 4 = h.in_copies in
         inl (omega arith)
     by_zone (inr le) = inr (omega arith)
+
+pub headers_distinct : HeadersApart
+headers_distinct s t ne = by_order (cases_lt s t)
+  where
+    above : t ≤ s → t < s
+    above le = elim (cases_lt t s) [ | inl lt ↦ lt | inr ge ↦ absurd (ne (omega (arith, le, ge))) ]
+
+    by_order : (s < t) ⊎ (t ≤ s) → IsApart (header_place s) header_bytes (header_place t) header_bytes
+    by_order (inl lt) = inl (omega arith)
+    by_order (inr le) = inr (let more = above le in omega (arith, more))
 
 pub blocks_reserved : MapIsReserved
 blocks_reserved b k h lt =

@@ -11,6 +11,10 @@ MapBlocksApart = (a b : MapBlock) → IsMapBlock a → IsMapBlock b → a ≢ b 
 abbrev pub MapApartFromHeaders : Type 0
 MapApartFromHeaders = (b : MapBlock) (slot : ℕ) → IsMapBlock b → IsApart (map_place b) map_block_bytes (header_place slot) header_bytes
 
+-- the slots of two headers have no byte in common
+abbrev pub HeadersApart : Type 0
+HeadersApart = (s t : ℕ) → s ≢ t → IsApart (header_place s) header_bytes (header_place t) header_bytes
+
 -- each byte of a block of the freemap lies in a reserved chunk of the disk
 abbrev pub MapIsReserved : Type 0
 MapIsReserved = (b : MapBlock) (k : ℕ) → IsMapBlock b → k < map_block_bytes → (map_place b + k < disk_bytes) × IsReserved (chunk_of (map_place b + k))

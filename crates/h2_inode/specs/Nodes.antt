@@ -203,6 +203,7 @@ pub record Plants (f g : Forest) (top key c : ℕ) : Type 0 where
   pub spare : g.spare + 1 ≡ f.spare
   pub failed : g.failed ≡ f.failed
   pub bad : g.bad ≡ f.bad
+  pub met : g.met ≡ f.met
 
 -- The set of root at is s now, and what stands below references that it lacks is gone. This is Stores of h2_set, but
 -- that the leaves which the tree may have are those of the new body.
@@ -224,6 +225,7 @@ pub record Replaces (f g : Forest) (at : ℕ) (s : RefSet) : Type 0 where
   pub room : g.room ≡ f.room
   pub failed : g.failed ≡ f.failed
   pub bad : g.bad ≡ f.bad
+  pub met : g.met ≡ f.met
 
 -- what all roots but one keep beside their sets stays, where they stand before and after
 pub record KeepsOthersBeside {B : Type 0} (f g : Forest) (at : ℕ) (old new : ℕ → B) : Type 0 where

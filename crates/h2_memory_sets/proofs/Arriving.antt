@@ -185,8 +185,8 @@ module _ (xs ys : List Node) (c : ℕ) (y : Node) (spare spare' epoch room faile
           some_one a b e = cc
 
   -- a new root
-  pub plants : y.dirty ≡ true → spare' + 1 ≡ spare → failed' ≡ failed → bad' ≡ bad → Plants f g top leaf.key c
-  plants dirty less failed_is bad_is = record {
+  pub plants : y.dirty ≡ true → spare' + 1 ≡ spare → failed' ≡ failed → bad' ≡ bad → met' ≡ met → Plants f g top leaf.key c
+  plants dirty less failed_is bad_is met_is = record {
     brings = arrives;
     fresh = h.fresh;
     named = named_now;
@@ -196,6 +196,7 @@ module _ (xs ys : List Node) (c : ℕ) (y : Node) (spare spare' epoch room faile
     spare = less;
     failed = failed_is;
     bad = bad_is;
+    met = met_is;
   }
 
   -- no other root that the leaf names was loaded

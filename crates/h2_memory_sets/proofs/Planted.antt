@@ -69,7 +69,7 @@ module _ (xs : List Node) (spare spare' epoch room failed bad : ℕ) (met : Opti
   grown = record {
     rooted = rooted_arrives xs ys (length xs) y comes refl rooted;
     kept = kept_now;
-    plants = plants xs ys (length xs) y spare spare' epoch room failed failed bad bad met met comes sound (planted_fits (length xs) o i may set) (are_lower ys kept_now) top leaf named refl refl less refl refl;
+    plants = plants xs ys (length xs) y spare spare' epoch room failed failed bad bad met met comes sound (planted_fits (length xs) o i may set) (are_lower ys kept_now) top leaf named refl refl less refl refl refl;
     inode = has_inode ys spare' epoch room failed bad met kept_now (length xs) y i (ap stands_of comes.at_c) comes.at_c refl;
     beside = beside_arrives xs ys (length xs) y comes refl spare spare' epoch room failed failed bad bad met met;
   }

@@ -201,6 +201,7 @@ module _ (xs : List Node) (at : ℕ) (x : Node) (w v : Inode) (kept : AreKept xs
       room = refl;
       failed = refl;
       bad = refl;
+      met = refl;
     };
     rooted = rooted_dropped xs at x x (set_of_body v.body) (Some v) kept read refl spare epoch room failed bad met sound stands replaceable.free rooted;
     kept = kept_now;

@@ -103,6 +103,10 @@ impl Ref {
 
 /// What fills the free places of a vector of fixed capacity: the empty reference.
 impl Default for Ref {
+    ghost use Rattle.h2_ref.specs.Ref.{empty_ref};
+
+    ghost is_default = { λ r. r ≡ empty_ref };
+
     /// The empty reference.
     fn default() -> Ref {
         Ref::empty()
