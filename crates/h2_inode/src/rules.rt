@@ -10,10 +10,10 @@ use crate::head::{EMBEDDED_BYTES, body_of};
 use crate::inode::{Body, Inode};
 use crate::kind::InodeKind;
 use crate::layout::BODY_BYTES;
-use crate::limits::{NUMBERS, in_span, limits_of};
+use crate::limits::{NUMBERS, limits_of};
 use h2_dirkey::is_pfs_name;
 use h2_num::first_nonzero;
-use h2_ref::{Kind, Ref};
+use h2_ref::{Kind, Ref, in_span};
 use h2_set::Set;
 
 /// The references that a body has room for.
