@@ -52,6 +52,7 @@ fn are_held(set: &Set) -> bool
 fn is_root_set(kind: InodeKind, size: u64, set: &Set) -> bool
     ensures { IsTrue result ↔ IsRootSet kind size set.now.refs }
 {
+    // For the proof alone: the contract of `len` tells that the references of a set ascend.
     let _len = set.len();
     are_held(set) && are_parts_of(kind, size, set)
 }
