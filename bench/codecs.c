@@ -1,6 +1,7 @@
 /* Plain C bodies of the codecs, for bench/codecs: references, volume headers with their CRC-32C (slicing-by-8,
    as in h2_check) and inodes, by the tables of docs/FORMAT.md. The decoders refuse what the format refuses, and
    return 1 or 0. The words of the command line and the printed lines are those of the crate h2_codec_bench. */
+#include "crc32c.h"
 #include <stdint.h>
 #include <stdio.h>
 #include <stdlib.h>
@@ -145,32 +146,6 @@ static int decode_ref(const uint8_t *b, struct ref *r) {
 static int may_follow(const struct ref *q, const struct ref *r) {
     if (r->kind == EMPTY) return 1;
     return q->kind != EMPTY && q->key <= r->key && r->key - q->key >= 1ull << q->keybits;
-}
-
-/* CRC-32C */
-
-static uint32_t table[8][256];
-
-static void fill_table(void) {
-    for (uint32_t i = 0; i < 256; i++) {
-        uint32_t r = i;
-        for (int bit = 0; bit < 8; bit++) r = r & 1 ? r >> 1 ^ 0x82F63B78u : r >> 1;
-        table[0][i] = r;
-    }
-    for (int row = 1; row < 8; row++)
-        for (uint32_t i = 0; i < 256; i++)
-            table[row][i] = table[row - 1][i] >> 8 ^ table[0][table[row - 1][i] & 255];
-}
-
-static uint32_t crc32c(const uint8_t *p, size_t n) {
-    uint32_t r = 0xFFFFFFFFu;
-    for (; n >= 8; p += 8, n -= 8) {
-        uint32_t a = r ^ get32(p), b = get32(p + 4);
-        r = table[7][a & 255] ^ table[6][a >> 8 & 255] ^ table[5][a >> 16 & 255] ^ table[4][a >> 24]
-            ^ table[3][b & 255] ^ table[2][b >> 8 & 255] ^ table[1][b >> 16 & 255] ^ table[0][b >> 24];
-    }
-    for (; n > 0; p++, n--) r = r >> 8 ^ table[0][(r ^ *p) & 255];
-    return r ^ 0xFFFFFFFFu;
 }
 
 /* Volume headers */

@@ -5,7 +5,7 @@ use Rattle.std.proofs.lemmas.List.{drop_all}
 use Rattle.h2_num.specs.Places.{Places, SameOutside}
 use Rattle.h2_disk.specs.Trace.{Trace, Opened, Wrote, Synced, Call, Write, Sync, after, Tried}
 use Rattle.h2_disk.specs.Disk.{Keeps, Writes, FailsToWrite, Syncs}
-use Rattle.h2_checkpoint.specs.Slots.{slot_place}
+use Rattle.h2_geom.specs.Places.{header_place}
 use Rattle.h2_checkpoint.specs.Format.{Format, IsLawful}
 use Rattle.h2_checkpoint.specs.Queue.{Entry, entry_of}
 use Rattle.h2_checkpoint.specs.Checkpoint.{IsPlanned, IsQueuedOrThere, Progress, Fresh, Sent, progress_after_sync, Stage, Writing, Blocks_synced, Header_written, Newest, Completed, base_of, slot_of_checkpoint, Frozen}
@@ -60,30 +60,30 @@ module _ (v : Format) (laws : IsLawful v) (start : ℕ) (opening : Newest v) (be
       (w.trace ∙ s.trace_is)
       (sync_failed f g stage y.moment y.image refl le w.image)
 
-  pub wrote_header : (x y : DiskState) (d : Newest v) (f : Frozen v) (g : Progress) (place : ℕ) (header : List ℕ) → x.moment ≤ y.moment → place ≡ slot_place (slot_of_checkpoint v f.checkpoint) → f.bytes ≡ header
+  pub wrote_header : (x y : DiskState) (d : Newest v) (f : Frozen v) (g : Progress) (place : ℕ) (header : List ℕ) → x.moment ≤ y.moment → place ≡ header_place (slot_of_checkpoint v f.checkpoint) → f.bytes ≡ header
       → Writes y.moment place header x.image y.image x.trace y.trace → StandsAt v start opening before x d (UnderWay f g Blocks_synced) marks
       → StandsAt v start opening before y d (UnderWay f Sent Header_written) (Header_out (v.number f.checkpoint.header) y.moment ∷ marks)
   wrote_header x y d f g place header le at is w0 s = goes_on x y d d (UnderWay f g Blocks_synced) (UnderWay f Sent Header_written) (Header_out (v.number f.checkpoint.header) y.moment ∷ marks)
-      (Write y.moment (slot_place (slot_of_checkpoint v f.checkpoint)) f.bytes ∷ s.since) s
-      (w.trace ∙ ap (Wrote y.moment (slot_place (slot_of_checkpoint v f.checkpoint)) f.bytes) s.trace_is)
+      (Write y.moment (header_place (slot_of_checkpoint v f.checkpoint)) f.bytes ∷ s.since) s
+      (w.trace ∙ ap (Wrote y.moment (header_place (slot_of_checkpoint v f.checkpoint)) f.bytes) s.trace_is)
       (header_written f g y.moment y.image refl le w.others w.inside)
     where
-      w : Writes y.moment (slot_place (slot_of_checkpoint v f.checkpoint)) f.bytes x.image y.image x.trace y.trace
+      w : Writes y.moment (header_place (slot_of_checkpoint v f.checkpoint)) f.bytes x.image y.image x.trace y.trace
       w = subst (λ (z : ℕ). Writes y.moment z f.bytes x.image y.image x.trace y.trace) at (subst (λ (z : List ℕ). Writes y.moment place z x.image y.image x.trace y.trace) (sym is) w0)
 
-  pub failed_header : (x y : DiskState) (d : Newest v) (f : Frozen v) (g : Progress) (place : ℕ) (header : List ℕ) → x.moment ≤ y.moment → place ≡ slot_place (slot_of_checkpoint v f.checkpoint) → f.bytes ≡ header
+  pub failed_header : (x y : DiskState) (d : Newest v) (f : Frozen v) (g : Progress) (place : ℕ) (header : List ℕ) → x.moment ≤ y.moment → place ≡ header_place (slot_of_checkpoint v f.checkpoint) → f.bytes ≡ header
       → FailsToWrite y.moment place header x.image y.image x.trace y.trace → StandsAt v start opening before x d (UnderWay f g Blocks_synced) marks
       → StandsAt v start opening before y d (UnderWay f Sent (Writing f.queue)) (Header_out (v.number f.checkpoint.header) y.moment ∷ marks)
   failed_header x y d f g place header le at is w0 s = split w.tried
     where
-      w : FailsToWrite y.moment (slot_place (slot_of_checkpoint v f.checkpoint)) f.bytes x.image y.image x.trace y.trace
+      w : FailsToWrite y.moment (header_place (slot_of_checkpoint v f.checkpoint)) f.bytes x.image y.image x.trace y.trace
       w = subst (λ (z : ℕ). FailsToWrite y.moment z f.bytes x.image y.image x.trace y.trace) at (subst (λ (z : List ℕ). FailsToWrite y.moment place z x.image y.image x.trace y.trace) (sym is) w0)
 
-      split : Tried y.moment (slot_place (slot_of_checkpoint v f.checkpoint)) f.bytes x.trace x.image y.trace y.image → StandsAt v start opening before y d (UnderWay f Sent (Writing f.queue)) (Header_out (v.number f.checkpoint.header) y.moment ∷ marks)
+      split : Tried y.moment (header_place (slot_of_checkpoint v f.checkpoint)) f.bytes x.trace x.image y.trace y.image → StandsAt v start opening before y d (UnderWay f Sent (Writing f.queue)) (Header_out (v.number f.checkpoint.header) y.moment ∷ marks)
       split (inl (is, others)) = goes_on x y d d (UnderWay f g Blocks_synced) (UnderWay f Sent (Writing f.queue)) (Header_out (v.number f.checkpoint.header) y.moment ∷ marks)
-          (Write y.moment (slot_place (slot_of_checkpoint v f.checkpoint)) f.bytes ∷ s.since) s
-          (is ∙ ap (Wrote y.moment (slot_place (slot_of_checkpoint v f.checkpoint)) f.bytes) s.trace_is)
-          (header_failed f g y.moment (after (Write y.moment (slot_place (slot_of_checkpoint v f.checkpoint)) f.bytes ∷ s.since) (Opened (base_of v opening))) y.image refl le (inl (refl, others)))
+          (Write y.moment (header_place (slot_of_checkpoint v f.checkpoint)) f.bytes ∷ s.since) s
+          (is ∙ ap (Wrote y.moment (header_place (slot_of_checkpoint v f.checkpoint)) f.bytes) s.trace_is)
+          (header_failed f g y.moment (after (Write y.moment (header_place (slot_of_checkpoint v f.checkpoint)) f.bytes ∷ s.since) (Opened (base_of v opening))) y.image refl le (inl (refl, others)))
       split (inr (is, same)) = goes_on x y d d (UnderWay f g Blocks_synced) (UnderWay f Sent (Writing f.queue)) (Header_out (v.number f.checkpoint.header) y.moment ∷ marks) s.since s
           (is ∙ s.trace_is)
           (header_failed f g y.moment (after s.since (Opened (base_of v opening))) y.image refl le (inr (refl, same)))

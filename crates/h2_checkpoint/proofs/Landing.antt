@@ -5,7 +5,8 @@ use Rattle.h2_num.specs.PlaceLaws.{same_below}
 use Rattle.h2_disk.specs.Trace.{Trace, durable}
 use Rattle.h2_checkpoint.specs.Checkpoint.{Blank, Checkpoint, Completed, Fresh, Frozen, HasOldHeaders, IsAtRest, IsFlushing, IsGuarded, IsGuardedCheckpoint, IsHeaderUnderWay, Lands, LandsOn, Newest, Progress, Secured, Sent, Stage, number_of, slot_of_checkpoint}
 use Rattle.h2_checkpoint.specs.Format.{Format, IsLawful, Reach, SameReached, by_child, by_root}
-use Rattle.h2_checkpoint.specs.Slots.{IsSlot, header_length, slot_bytes, slot_place}
+use Rattle.h2_geom.specs.Places.{header_bytes, header_place}
+use Rattle.h2_checkpoint.specs.Slots.{IsSlot, slot_bytes}
 use Rattle.h2_checkpoint.proofs.Parts.{IsIntact, in_slot}
 
 module _ (v : Format) (laws : IsLawful v) where
@@ -28,7 +29,7 @@ module _ (v : Format) (laws : IsLawful v) where
   completed_there p i image d g keeps older = record {
     newest = record {
       here = laws.header_local (slot_of_checkpoint v d) d.header (slot_bytes (durable p) (slot_of_checkpoint v d)) (slot_bytes image (slot_of_checkpoint v d))
-          (λ k lt. keeps (slot_place (slot_of_checkpoint v d) + k) (g.unchanged (slot_place (slot_of_checkpoint v d) + k) (inr (in_slot (slot_of_checkpoint v d) k lt)))) g.header;
+          (λ k lt. keeps (header_place (slot_of_checkpoint v d) + k) (g.unchanged (header_place (slot_of_checkpoint v d) + k) (inr (in_slot (slot_of_checkpoint v d) k lt)))) g.header;
       greatest = λ s h lt at. older s h lt at;
     };
     stands = laws.stands_local d.header d.forest d.view image same g.checkpoint.stands;
@@ -50,7 +51,7 @@ module _ (v : Format) (laws : IsLawful v) where
 
   -- the header under way is there, whole
   pub sent_there : (p : Trace) (i image : Places) (d : Newest v) (f : Frozen v) (g : Progress) (s : Stage) → IsFlushing v p i d f g s → g ≡ Sent → HasOldHeaders v p image → IsIntact p image
-      → SameBelow header_length (places f.bytes) (slot_bytes image (slot_of_checkpoint v f.checkpoint)) → Lands v f.checkpoint image
+      → SameBelow header_bytes (places f.bytes) (slot_bytes image (slot_of_checkpoint v f.checkpoint)) → Lands v f.checkpoint image
   sent_there p i image d f g s x is_sent old keeps whole = record {
     newest = record {
       here = laws.header_local (slot_of_checkpoint v f.checkpoint) f.checkpoint.header (places f.bytes) (slot_bytes image (slot_of_checkpoint v f.checkpoint)) whole x.plan.spelled;
@@ -76,24 +77,24 @@ module _ (v : Format) (laws : IsLawful v) where
 
   pub lands_in_flush : (p : Trace) (i image : Places) (d : Newest v) (f : Frozen v) (g : Progress) (s : Stage) → IsFlushing v p i d f g s → HasOldHeaders v p image → IsIntact p image
       → LandsOn v d image ⊎ ((g ≡ Sent) × Lands v f.checkpoint image)
-  lands_in_flush p i image d f g s x old keeps = pick (same_below header_length (places f.bytes) (slot_bytes image (slot_of_checkpoint v f.checkpoint))) (sent_or_not g)
+  lands_in_flush p i image d f g s x old keeps = pick (same_below header_bytes (places f.bytes) (slot_bytes image (slot_of_checkpoint v f.checkpoint))) (sent_or_not g)
     where
       sent_or_not : (g : Progress) → (g ≡ Sent) ⊎ (g ≢ Sent)
       sent_or_not Fresh = inr (λ e. cc)
       sent_or_not Secured = inr (λ e. cc)
       sent_or_not Sent = inl refl
 
-      whole_at : (t : ℕ) → t ≡ slot_of_checkpoint v f.checkpoint → SameBelow header_length (places f.bytes) (slot_bytes image t) → SameBelow header_length (places f.bytes) (slot_bytes image (slot_of_checkpoint v f.checkpoint))
-      whole_at t e whole = subst (λ (z : ℕ). SameBelow header_length (places f.bytes) (slot_bytes image z)) e whole
+      whole_at : (t : ℕ) → t ≡ slot_of_checkpoint v f.checkpoint → SameBelow header_bytes (places f.bytes) (slot_bytes image t) → SameBelow header_bytes (places f.bytes) (slot_bytes image (slot_of_checkpoint v f.checkpoint))
+      whole_at t e whole = subst (λ (z : ℕ). SameBelow header_bytes (places f.bytes) (slot_bytes image z)) e whole
 
-      without : (SameBelow header_length (places f.bytes) (slot_bytes image (slot_of_checkpoint v f.checkpoint)) → ⊥) ⊎ (g ≢ Sent) → LandsOn v d image
+      without : (SameBelow header_bytes (places f.bytes) (slot_bytes image (slot_of_checkpoint v f.checkpoint)) → ⊥) ⊎ (g ≢ Sent) → LandsOn v d image
       without no_header = done_there p i image d x.guards keeps (λ t h lt at. least t h (x.older t (slot_bytes image t) h lt (old t h lt at) at))
         where
           least : (t : ℕ) (h : v.Header) → (v.number h ≤ number_of v d) ⊎ ((g ≡ Sent) × IsHeaderUnderWay v f t (slot_bytes image t)) → v.number h ≤ number_of v d
           least t h (inl le) = le
           least t h (inr (e, u)) = elim no_header [ inl torn ↦ absurd (torn (whole_at t u.slot u.bytes)) | inr unsent ↦ absurd (unsent e) ]
 
-      pick : SameBelow header_length (places f.bytes) (slot_bytes image (slot_of_checkpoint v f.checkpoint)) ⊎ (SameBelow header_length (places f.bytes) (slot_bytes image (slot_of_checkpoint v f.checkpoint)) → ⊥) → (g ≡ Sent) ⊎ (g ≢ Sent)
+      pick : SameBelow header_bytes (places f.bytes) (slot_bytes image (slot_of_checkpoint v f.checkpoint)) ⊎ (SameBelow header_bytes (places f.bytes) (slot_bytes image (slot_of_checkpoint v f.checkpoint)) → ⊥) → (g ≡ Sent) ⊎ (g ≢ Sent)
           → LandsOn v d image ⊎ ((g ≡ Sent) × Lands v f.checkpoint image)
       pick (inl whole) (inl e) = inr (e, sent_there p i image d f g s x e old keeps whole)
       pick (inl whole) (inr unsent) = inl (without (inr unsent))

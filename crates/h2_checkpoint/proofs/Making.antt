@@ -4,7 +4,8 @@ use Rattle.std.proofs.lemmas.Bool.{cases_eq}
 use Rattle.h2_num.specs.Places.{InRange, Places, Same, SameBelow}
 use Rattle.h2_num.specs.PlaceLaws.{outside}
 use Rattle.h2_disk.specs.Trace.{Call, Opened, after, latest}
-use Rattle.h2_checkpoint.specs.Slots.{InSlot, IsSlot, header_length, slot_bytes, slot_place}
+use Rattle.h2_geom.specs.Places.{header_bytes, header_place}
+use Rattle.h2_checkpoint.specs.Slots.{InSlot, IsSlot, slot_bytes}
 use Rattle.h2_checkpoint.specs.Format.{Format, HasNoHeader, IsLawful, SameReached}
 use Rattle.h2_checkpoint.specs.Queue.{Entry, InEntries, overlay_all}
 use Rattle.h2_checkpoint.specs.Checkpoint.{Blank, Completed, Fresh, Frozen, IsGuardedCheckpoint, IsPlanned, IsQueuedOrThere, Newest, Writing, slot_of_checkpoint}
@@ -73,18 +74,18 @@ module _ (v : Format) (laws : IsLawful v) where
 
   -- a slot that isn't the header's stays as it was
   slot_stays : (pieces : List Piece) (place : ℕ) (header : List ℕ) (old new : Places) (f : Frozen v) (s : ℕ) → IsFirstPlan v f pieces place header old → SameElsewhere pieces place (length header) old new
-      → IsSlot s → s ≢ slot_of_checkpoint v f.checkpoint → SameBelow header_length (slot_bytes new s) (slot_bytes old s)
-  slot_stays pieces place header old new f s p same lt ne k below = sym (same (slot_place s + k)
-      (λ q. p.plan.off_slots s (slot_place s + k) lt (subst (λ (z : List Entry). InEntries z (slot_place s + k)) (sym p.pieces_are.queue) q) (in_slot s k below))
-      (λ r. ne (slots_apart s (slot_of_checkpoint v f.checkpoint) (slot_place s + k) (in_slot s k below) (in_place r))))
+      → IsSlot s → s ≢ slot_of_checkpoint v f.checkpoint → SameBelow header_bytes (slot_bytes new s) (slot_bytes old s)
+  slot_stays pieces place header old new f s p same lt ne k below = sym (same (header_place s + k)
+      (λ q. p.plan.off_slots s (header_place s + k) lt (subst (λ (z : List Entry). InEntries z (header_place s + k)) (sym p.pieces_are.queue) q) (in_slot s k below))
+      (λ r. ne (slots_apart s (slot_of_checkpoint v f.checkpoint) (header_place s + k) (in_slot s k below) (in_place r))))
     where
-      in_place : InRange place (length header) (slot_place s + k) → InSlot (slot_of_checkpoint v f.checkpoint) (slot_place s + k)
+      in_place : InRange place (length header) (header_place s + k) → InSlot (slot_of_checkpoint v f.checkpoint) (header_place s + k)
       in_place r =
-          let at : place ≡ slot_place (slot_of_checkpoint v f.checkpoint) = p.pieces_are.place_is in
-          let long : length f.bytes ≡ header_length = p.plan.long in
+          let at : place ≡ header_place (slot_of_checkpoint v f.checkpoint) = p.pieces_are.place_is in
+          let long : length f.bytes ≡ header_bytes = p.plan.long in
           let len : length f.bytes ≡ length header = ap length p.pieces_are.header_is in
-          let le : place ≤ slot_place s + k = r.0 in
-          let lt : slot_place s + k < place + length header = r.1 in
+          let le : place ≤ header_place s + k = r.0 in
+          let lt : header_place s + k < place + length header = r.1 in
           (omega arith, omega arith)
 
   pub is_made : (pieces : List Piece) (place : ℕ) (header : List ℕ) (x y : DiskState) → Finishes v pieces place header x y → Same (image_with pieces place header x.image) y.image → (f : Frozen v) → IsFirstPlan v f pieces place header x.image → IsMade v f y.image
@@ -111,7 +112,7 @@ module _ (v : Format) (laws : IsLawful v) where
 
           here : v.HeaderAt (slot_of_checkpoint v f.checkpoint) (slot_bytes y.image (slot_of_checkpoint v f.checkpoint)) f.checkpoint.header
           here = laws.header_local (slot_of_checkpoint v f.checkpoint) f.checkpoint.header _ (slot_bytes y.image (slot_of_checkpoint v f.checkpoint))
-              (λ k lt. g.seen (slot_place (slot_of_checkpoint v f.checkpoint) + k) (inr (in_slot (slot_of_checkpoint v f.checkpoint) k lt))) g.header
+              (λ k lt. g.seen (header_place (slot_of_checkpoint v f.checkpoint) + k) (inr (in_slot (slot_of_checkpoint v f.checkpoint) k lt))) g.header
 
           least : (s : ℕ) (h : v.Header) → v.HeaderAt s (slot_bytes y.image s) h → s ≡ slot_of_checkpoint v f.checkpoint → v.number h ≤ v.number f.checkpoint.header
           least s h at e =

@@ -3,23 +3,24 @@ use Rattle.std.proofs.Common.{◌≡◌, ◌≢◌, ◌⊎◌, ◌<◌, ◌≤�
 use Rattle.h2_num.specs.Places.{InRange, Places}
 use Rattle.h2_num.specs.PlaceLaws.{in_range}
 use Rattle.h2_disk.specs.Trace.{IsChanged, IsWritten, KeepsDurable, MayLeave, Opened, Synced, Trace, Wrote, durable}
-use Rattle.h2_checkpoint.specs.Slots.{InSlot, header_length, slot_of_number, slot_place}
+use Rattle.h2_geom.specs.Places.{header_bytes, header_place, turn_of}
+use Rattle.h2_checkpoint.specs.Slots.{InSlot}
 
 pub slots_apart : (s t k : ℕ) → InSlot s k → InSlot t k → s ≡ t
 slots_apart s t k a b =
-    let a0 : slot_place s ≤ k = a.0 in
-    let a1 : k < slot_place s + header_length = a.1 in
-    let b0 : slot_place t ≤ k = b.0 in
-    let b1 : k < slot_place t + header_length = b.1 in
+    let a0 : header_place s ≤ k = a.0 in
+    let a1 : k < header_place s + header_bytes = a.1 in
+    let b0 : header_place t ≤ k = b.0 in
+    let b1 : k < header_place t + header_bytes = b.1 in
     omega arith
 
-pub slot_below : (n : ℕ) → slot_of_number n < 4
+pub slot_below : (n : ℕ) → turn_of n < 4
 slot_below n = omega arith
 
-pub next_slot_apart : (n m : ℕ) → 1 ≤ n → m ≡ suc n → slot_of_number m ≢ slot_of_number n
+pub next_slot_apart : (n m : ℕ) → 1 ≤ n → m ≡ suc n → turn_of m ≢ turn_of n
 next_slot_apart n m le e same = absurd (omega arith)
 
-pub in_slot : (s k : ℕ) → k < header_length → InSlot s (slot_place s + k)
+pub in_slot : (s k : ℕ) → k < header_bytes → InSlot s (header_place s + k)
 in_slot s k lt = (omega arith, omega arith)
 
 -- the image is as the durable one where no write was to change it

@@ -9,7 +9,8 @@ use Rattle.h2_checkpoint.specs.Format.{Format, IsLawful}
 use Rattle.h2_checkpoint.specs.Marks.{Froze, Header_done, Header_out, IsFrozenForest, IsLanding, Mark, newest_at}
 use Rattle.h2_checkpoint.specs.Queue.{Entry}
 use Rattle.h2_checkpoint.specs.Runs.{CrashLaw, Does, Flush, HasFrozenForest, Idle, IsKept, IsMarked, IsOff, IsOffFlush, IsOpening, IsOpeningForest, MayBeLeft, Mounts, MountsCheckpoint, Present, Run, State, Survives, UnderWay, blocks_synced, entry_failed, entry_written, freeze, header_done, header_failed, header_written, more, none, opened, put, reads, sync_failed}
-use Rattle.h2_checkpoint.specs.Slots.{InSlot, IsSlot, slot_bytes, slot_place}
+use Rattle.h2_geom.specs.Places.{header_place}
+use Rattle.h2_checkpoint.specs.Slots.{InSlot, IsSlot, slot_bytes}
 use Rattle.h2_checkpoint.proofs.Steps as steps
 use Rattle.h2_checkpoint.proofs.Parts.{IsIntact, intact}
 use Rattle.h2_checkpoint.proofs.Landing.{lands_at_rest, lands_in_flush}
@@ -139,7 +140,7 @@ module _ (v : Format) (laws : IsLawful v) (opening : Newest v) where
   kept_entry x f g e later t q j (inl (is, same)) k = subst (λ (z : Trace). IsFlushing v z j x.newest f g (Writing f.queue)) (sym is) (steps.entry_failed v laws t e x.trace x.image j x.newest f g (Writing (e ∷ later)) k (k.queued e (inl refl)) same)
   kept_entry x f g e later t q j (inr (is, same)) k = subst (λ (z : Trace). IsFlushing v z j x.newest f g (Writing f.queue)) (sym is) (steps.set_back v laws x.trace x.image j x.newest f g (Writing (e ∷ later)) k same)
 
-  kept_header : (x : State v) (f : Frozen v) (g : Progress) (t : ℕ) (q : Trace) (j : Places) → Tried t (slot_place (slot_of_checkpoint v f.checkpoint)) f.bytes x.trace x.image q j
+  kept_header : (x : State v) (f : Frozen v) (g : Progress) (t : ℕ) (q : Trace) (j : Places) → Tried t (header_place (slot_of_checkpoint v f.checkpoint)) f.bytes x.trace x.image q j
       → IsFlushing v x.trace x.image x.newest f g Blocks_synced → IsFlushing v q j x.newest f Sent (Writing f.queue)
   kept_header x f g t q j (inl (is, same)) k = subst (λ (z : Trace). IsFlushing v z j x.newest f Sent (Writing f.queue)) (sym is) (steps.header_failed v laws t x.trace x.image j x.newest f g k same)
   kept_header x f g t q j (inr (is, same)) k = subst (λ (z : Trace). IsFlushing v z j x.newest f Sent (Writing f.queue)) (sym is) (steps.header_not_begun v laws x.trace x.image j x.newest f g k same)
@@ -218,15 +219,15 @@ module _ (v : Format) (laws : IsLawful v) (opening : Newest v) where
       (record { later = le; trace = λ m lt. refl; landing = λ m n lt l. l; frozen = λ n f h. h })
   keeps start x _ (header_written f g t j is le same stands) sx =
       let mk : IsMarked v opening x.marks x.moment (UnderWay f g Blocks_synced) = subst (λ (fl : Flush v). IsMarked v opening x.marks x.moment fl) is sx.present.marked in
-      goes_on start x (record x { trace = Wrote t (slot_place (slot_of_checkpoint v f.checkpoint)) f.bytes x.trace; image = j; moment = t; flush = UnderWay f Sent Header_written; marks = Header_out (v.number f.checkpoint.header) t ∷ x.marks }) sx
+      goes_on start x (record x { trace = Wrote t (header_place (slot_of_checkpoint v f.checkpoint)) f.bytes x.trace; image = j; moment = t; flush = UnderWay f Sent Header_written; marks = Header_out (v.number f.checkpoint.header) t ∷ x.marks }) sx
       (record {
         kept = steps.header_written v laws t x.trace x.image j x.newest f g (subst (λ (fl : Flush v). IsKept v x.trace x.image x.newest fl) is sx.present.kept) same stands;
-        times = λ m ge. after_write t m (slot_place (slot_of_checkpoint v f.checkpoint)) f.bytes x.trace ge;
+        times = λ m ge. after_write t m (header_place (slot_of_checkpoint v f.checkpoint)) f.bytes x.trace ge;
         newest = λ m ge. sx.present.newest m (omega arith);
         forest = forest_later v opening x.newest x.marks (Header_out (v.number f.checkpoint.header) t ∷ x.marks) (λ n u h. h) sx.present.forest;
         marked = (mk.0, λ s m ge. inl (refl, ge));
       })
-      (record { later = le; trace = λ m lt. before_write t m (slot_place (slot_of_checkpoint v f.checkpoint)) f.bytes x.trace lt; landing = λ m n lt l. out_more x.marks (v.number f.checkpoint.header) t m n l; frozen = λ n f h. h })
+      (record { later = le; trace = λ m lt. before_write t m (header_place (slot_of_checkpoint v f.checkpoint)) f.bytes x.trace lt; landing = λ m n lt l. out_more x.marks (v.number f.checkpoint.header) t m n l; frozen = λ n f h. h })
     where
       out_more : (marks : List (Mark v.Forest)) (k t m n : ℕ) → IsLanding (number_of v opening) marks m n → IsLanding (number_of v opening) (Header_out k t ∷ marks) m n
       out_more marks k t m n (inl e) = inl e
@@ -236,12 +237,12 @@ module _ (v : Format) (laws : IsLawful v) (opening : Newest v) where
       goes_on start x (record x { trace = q; image = j; moment = t; flush = UnderWay f Sent (Writing f.queue); marks = Header_out (v.number f.checkpoint.header) t ∷ x.marks }) sx
       (record {
         kept = kept_header x f g t q j tried (subst (λ (fl : Flush v). IsKept v x.trace x.image x.newest fl) is sx.present.kept);
-        times = λ m ge. after_try t m (slot_place (slot_of_checkpoint v f.checkpoint)) f.bytes x.trace q x.image j tried ge (sx.present.times m (omega arith));
+        times = λ m ge. after_try t m (header_place (slot_of_checkpoint v f.checkpoint)) f.bytes x.trace q x.image j tried ge (sx.present.times m (omega arith));
         newest = λ m ge. sx.present.newest m (omega arith);
         forest = forest_later v opening x.newest x.marks (Header_out (v.number f.checkpoint.header) t ∷ x.marks) (λ n u h. h) sx.present.forest;
         marked = (mk.0, λ s m ge. inl (refl, ge));
       })
-      (record { later = le; trace = λ m lt. before_try t m (slot_place (slot_of_checkpoint v f.checkpoint)) f.bytes x.trace q x.image j tried lt; landing = λ m n lt l. out_more x.marks (v.number f.checkpoint.header) t m n l; frozen = λ n f h. h })
+      (record { later = le; trace = λ m lt. before_try t m (header_place (slot_of_checkpoint v f.checkpoint)) f.bytes x.trace q x.image j tried lt; landing = λ m n lt l. out_more x.marks (v.number f.checkpoint.header) t m n l; frozen = λ n f h. h })
     where
       out_more : (marks : List (Mark v.Forest)) (k t m n : ℕ) → IsLanding (number_of v opening) marks m n → IsLanding (number_of v opening) (Header_out k t ∷ marks) m n
       out_more marks k t m n (inl e) = inl e

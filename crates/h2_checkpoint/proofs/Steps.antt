@@ -6,7 +6,8 @@ use Rattle.h2_disk.specs.Trace.{Appeared, Synced, Trace, Wrote, durable}
 use Rattle.h2_checkpoint.specs.Checkpoint.{Blank, Blocks_synced, Checkpoint, Completed, Fresh, Frozen, Header_written, IsAtRest, IsFlushing, IsGuarded, IsGuardedCheckpoint, IsHeaderUnderWay, IsPlanned, Newest, NewestOwnsByte, OwnsByte, Progress, Secured, Sent, Stage, Writing, entries_left, number_of, progress_after_sync, slot_of_checkpoint}
 use Rattle.h2_checkpoint.specs.Format.{Format, IsLawful}
 use Rattle.h2_checkpoint.specs.Queue.{Entry, InEntries, IsAmong}
-use Rattle.h2_checkpoint.specs.Slots.{InSlot, IsSlot, header_length, slot_bytes, slot_place}
+use Rattle.h2_geom.specs.Places.{header_bytes, header_place}
+use Rattle.h2_checkpoint.specs.Slots.{InSlot, IsSlot, slot_bytes}
 use Rattle.h2_checkpoint.proofs.Parts.{slots_apart, slot_below, next_slot_apart, in_slot}
 
 module _ (v : Format) (laws : IsLawful v) where
@@ -28,7 +29,7 @@ module _ (v : Format) (laws : IsLawful v) where
 
   -- a write off the slots brings no header
   appeared_before : (t at : ℕ) (bytes : List ℕ) (p : Trace) → ((s k : ℕ) → IsSlot s → InRange at (length bytes) k → InSlot s k → ⊥)
-      → (s : ℕ) (b : Places) → IsSlot s → Appeared (slot_place s) header_length (Wrote t at bytes p) b → Appeared (slot_place s) header_length p b
+      → (s : ℕ) (b : Places) → IsSlot s → Appeared (header_place s) header_bytes (Wrote t at bytes p) b → Appeared (header_place s) header_bytes p b
   appeared_before t at bytes p off s b lt (inr c) = c
   appeared_before t at bytes p off s b lt (inl may) = absurd (off s may.byte lt may.wrote may.met)
 
@@ -74,9 +75,9 @@ module _ (v : Format) (laws : IsLawful v) where
     secured = x.secured;
     sent = λ e. (
       (x.sent e).0,
-      holds_too (slot_place (slot_of_checkpoint v f.checkpoint)) f.bytes i j (x.sent e).1
+      holds_too (header_place (slot_of_checkpoint v f.checkpoint)) f.bytes i j (x.sent e).1
           (λ k r. outside at (length bytes) i j same k (λ q. off_slots (slot_of_checkpoint v f.checkpoint) k (slot_below (v.number f.checkpoint.header)) q
-          (let long : length f.bytes ≡ header_length = x.plan.long in let lt : k < slot_place (slot_of_checkpoint v f.checkpoint) + length f.bytes = r.1 in (r.0, omega arith)))),
+          (let long : length f.bytes ≡ header_bytes = x.plan.long in let lt : k < header_place (slot_of_checkpoint v f.checkpoint) + length f.bytes = r.1 in (r.0, omega arith)))),
     );
   }
 
@@ -160,7 +161,7 @@ module _ (v : Format) (laws : IsLawful v) where
   guards_synced t p i j d g same = record {
     checkpoint = g.checkpoint;
     header = laws.header_local (slot_of_checkpoint v d) d.header (slot_bytes (durable p) (slot_of_checkpoint v d)) (slot_bytes j (slot_of_checkpoint v d))
-        (λ k lt. same (slot_place (slot_of_checkpoint v d) + k) ∙ g.seen (slot_place (slot_of_checkpoint v d) + k) (inr (in_slot (slot_of_checkpoint v d) k lt))) g.header;
+        (λ k lt. same (header_place (slot_of_checkpoint v d) + k) ∙ g.seen (header_place (slot_of_checkpoint v d) + k) (inr (in_slot (slot_of_checkpoint v d) k lt))) g.header;
     blocks = λ k o. same k ∙ g.seen k (inl o) ∙ g.blocks k o;
     seen = λ k h. refl;
     unchanged = λ k h c. c;
@@ -213,7 +214,7 @@ module _ (v : Format) (laws : IsLawful v) where
 
   -- the header's write, well or not; if not, the queue starts anew
   pub header_failed : (t : ℕ) (p : Trace) (i j : Places) (d : Newest v) (f : Frozen v) (g : Progress) → IsFlushing v p i d f g Blocks_synced
-      → SameOutside (slot_place (slot_of_checkpoint v f.checkpoint)) (length f.bytes) i j → IsFlushing v (Wrote t (slot_place (slot_of_checkpoint v f.checkpoint)) f.bytes p) j d f Sent (Writing f.queue)
+      → SameOutside (header_place (slot_of_checkpoint v f.checkpoint)) (length f.bytes) i j → IsFlushing v (Wrote t (header_place (slot_of_checkpoint v f.checkpoint)) f.bytes p) j d f Sent (Writing f.queue)
   header_failed t p i j d f g x same = record {
     guards = guarded d x.guards x.plan.next;
     plan = x.plan;
@@ -232,10 +233,10 @@ module _ (v : Format) (laws : IsLawful v) where
   }
     where
       place : ℕ
-      place = slot_place (slot_of_checkpoint v f.checkpoint)
+      place = header_place (slot_of_checkpoint v f.checkpoint)
 
       written_in : (k : ℕ) → InRange place (length f.bytes) k → InSlot (slot_of_checkpoint v f.checkpoint) k
-      written_in k r = let long : length f.bytes ≡ header_length = x.plan.long in let lt : k < place + length f.bytes = r.1 in (r.0, omega arith)
+      written_in k r = let long : length f.bytes ≡ header_bytes = x.plan.long in let lt : k < place + length f.bytes = r.1 in (r.0, omega arith)
 
       guarded : (d : Newest v) → IsGuarded v p i d → v.number f.checkpoint.header ≡ suc (number_of v d) → IsGuarded v (Wrote t place f.bytes p) j d
       guarded (Blank first) g next = tt
@@ -245,16 +246,16 @@ module _ (v : Format) (laws : IsLawful v) where
             (slots_apart (slot_of_checkpoint v f.checkpoint) (slot_of_checkpoint v d) k (written_in k r) s)
       ])
 
-      older : (s : ℕ) (b : Places) (h : v.Header) → IsSlot s → v.HeaderAt s b h → Appeared (slot_place s) header_length (Wrote t place f.bytes p) b
+      older : (s : ℕ) (b : Places) (h : v.Header) → IsSlot s → v.HeaderAt s b h → Appeared (header_place s) header_bytes (Wrote t place f.bytes p) b
           → (v.number h ≤ number_of v d) ⊎ ((Sent ≡ Sent) × IsHeaderUnderWay v f s b)
       older s b h lt at (inl may) =
           let here : s ≡ slot_of_checkpoint v f.checkpoint = slots_apart s (slot_of_checkpoint v f.checkpoint) may.byte may.met (written_in may.byte may.wrote) in
-          inr (refl, record { slot = here; bytes = may.whole (ap slot_place (sym here)) x.plan.long })
+          inr (refl, record { slot = here; bytes = may.whole (ap header_place (sym here)) x.plan.long })
       older s b h lt at (inr c) = elim (x.older s b h lt c at) [ inl le ↦ inl le | inr u ↦ inr (refl, u.1) ]
 
   pub header_written : (t : ℕ) (p : Trace) (i j : Places) (d : Newest v) (f : Frozen v) (g : Progress) → IsFlushing v p i d f g Blocks_synced
-      → SameOutside (slot_place (slot_of_checkpoint v f.checkpoint)) (length f.bytes) i j → Holds (slot_place (slot_of_checkpoint v f.checkpoint)) f.bytes j
-      → IsFlushing v (Wrote t (slot_place (slot_of_checkpoint v f.checkpoint)) f.bytes p) j d f Sent Header_written
+      → SameOutside (header_place (slot_of_checkpoint v f.checkpoint)) (length f.bytes) i j → Holds (header_place (slot_of_checkpoint v f.checkpoint)) f.bytes j
+      → IsFlushing v (Wrote t (header_place (slot_of_checkpoint v f.checkpoint)) f.bytes p) j d f Sent Header_written
   header_written t p i j d f g x same stands =
       let y = header_failed t p i j d f g x same in
       record {
@@ -263,8 +264,8 @@ module _ (v : Format) (laws : IsLawful v) where
         older = y.older;
         queued = λ e m. absurd m;
         written = λ e m. inr (holds_too e.at e.bytes f.checkpoint.view j (x.plan.queue e m) (λ k r.
-            outside (slot_place (slot_of_checkpoint v f.checkpoint)) (length f.bytes) i j same k (λ q. x.plan.off_slots (slot_of_checkpoint v f.checkpoint) k (slot_below (v.number f.checkpoint.header)) (e, m, r)
-            (let long : length f.bytes ≡ header_length = x.plan.long in let lt : k < slot_place (slot_of_checkpoint v f.checkpoint) + length f.bytes = q.1 in (q.0, omega arith)))
+            outside (header_place (slot_of_checkpoint v f.checkpoint)) (length f.bytes) i j same k (λ q. x.plan.off_slots (slot_of_checkpoint v f.checkpoint) k (slot_below (v.number f.checkpoint.header)) (e, m, r)
+            (let long : length f.bytes ≡ header_bytes = x.plan.long in let lt : k < header_place (slot_of_checkpoint v f.checkpoint) + length f.bytes = q.1 in (q.0, omega arith)))
             ∙ view_stands p i d f g Blocks_synced x (λ e m. m) k (inr (e, m, r))));
         others = y.others;
         blocks_durable = y.blocks_durable;
@@ -279,7 +280,7 @@ module _ (v : Format) (laws : IsLawful v) where
     guards = record {
       checkpoint = x.plan.checkpoint;
       header = laws.header_local (slot_of_checkpoint v f.checkpoint) f.checkpoint.header (places f.bytes) (slot_bytes j (slot_of_checkpoint v f.checkpoint))
-          (λ k lt. same (slot_place (slot_of_checkpoint v f.checkpoint) + k) ∙ (x.sent refl).1 k (let long : length f.bytes ≡ header_length = x.plan.long in omega arith)) x.plan.spelled;
+          (λ k lt. same (header_place (slot_of_checkpoint v f.checkpoint) + k) ∙ (x.sent refl).1 k (let long : length f.bytes ≡ header_bytes = x.plan.long in omega arith)) x.plan.spelled;
       blocks = λ k o. same k ∙ view_stands p i d f g Header_written x (λ e m. m) k (inl o);
       seen = λ k h. refl;
       unchanged = λ k h c. c;
@@ -309,7 +310,7 @@ module _ (v : Format) (laws : IsLawful v) where
         blocks_durable = y.blocks_durable;
         unchanged = y.unchanged;
         secured = x.secured;
-        sent = λ e. ((x.sent e).0, λ k lt. same (slot_place (slot_of_checkpoint v f.checkpoint) + k) ∙ (x.sent e).1 k lt);
+        sent = λ e. ((x.sent e).0, λ k lt. same (header_place (slot_of_checkpoint v f.checkpoint) + k) ∙ (x.sent e).1 k lt);
       }
 
   pub rests_same : (p : Trace) (i j : Places) (d : Newest v) → IsAtRest v p i d → Same i j → IsAtRest v p j d

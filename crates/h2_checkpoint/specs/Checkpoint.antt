@@ -2,7 +2,8 @@
 use Rattle.std.specs.Prelude.{◌≡◌, ◌≢◌, ◌⊎◌, ◌<◌, ◌≤◌, ℕ, suc, List, [], slice_index, length}
 use Rattle.h2_num.specs.Places.{Places, places, Holds}
 use Rattle.h2_disk.specs.Trace.{Trace, durable, IsChanged, Appeared}
-use Rattle.h2_checkpoint.specs.Slots.{header_length, IsSlot, slot_place, slot_bytes, InSlot, slot_of_number}
+use Rattle.h2_geom.specs.Places.{header_bytes, header_place, turn_of}
+use Rattle.h2_checkpoint.specs.Slots.{IsSlot, slot_bytes, InSlot}
 use Rattle.h2_checkpoint.specs.Format.{Format, ReachesByte, SameReached, IsNewest, HasNoHeader}
 use Rattle.h2_checkpoint.specs.Queue.{Entry, IsAmong, InEntries}
 
@@ -49,7 +50,7 @@ module _ (v : Format) where
 
   -- the slot of its header
   abbrev pub slot_of_checkpoint : Checkpoint → ℕ
-  slot_of_checkpoint checkpoint = slot_of_number (v.number checkpoint.header)
+  slot_of_checkpoint checkpoint = turn_of (v.number checkpoint.header)
 
   -- a checkpoint that a flush is to complete, its header's bytes, and what is written before them
   pub record Frozen : Type 0 where
@@ -99,18 +100,18 @@ module _ (v : Format) where
   pub record IsAtRest (t : Trace) (image : Places) (newest : Newest) : Type 0 where
     pub guards : IsGuarded t image newest
     -- all headers that ever appeared in a slot are at most as new
-    pub older : (s : ℕ) (b : Places) (h : v.Header) → IsSlot s → Appeared (slot_place s) header_length t b → v.HeaderAt s b h → v.number h ≤ number_of newest
+    pub older : (s : ℕ) (b : Places) (h : v.Header) → IsSlot s → Appeared (header_place s) header_bytes t b → v.HeaderAt s b h → v.number h ≤ number_of newest
 
   -- the bytes are those of the header under way, in its slot
   pub record IsHeaderUnderWay (f : Frozen) (s : ℕ) (b : Places) : Type 0 where
     pub slot : s ≡ slot_of_checkpoint f.checkpoint
-    pub bytes : (k : ℕ) → k < header_length → b k ≡ slice_index f.bytes k
+    pub bytes : (k : ℕ) → k < header_bytes → b k ≡ slice_index f.bytes k
 
   -- what doesn't change while a flush is under way
   pub record IsPlanned (newest : Newest) (f : Frozen) : Type 0 where
     pub next : v.number f.checkpoint.header ≡ suc (number_of newest)
     pub checkpoint : IsCheckpoint f.checkpoint
-    pub long : length f.bytes ≡ header_length
+    pub long : length f.bytes ≡ header_bytes
     pub spelled : v.HeaderAt (slot_of_checkpoint f.checkpoint) (places f.bytes) f.checkpoint.header
     -- the queue spells the frozen image, off all that the completed header needs
     pub queue : (e : Entry) → IsAmong f.queue e → Holds e.at e.bytes f.checkpoint.view
@@ -126,7 +127,7 @@ module _ (v : Format) where
     pub guards : IsGuarded t image newest
     pub plan : IsPlanned newest f
     -- all headers that ever appeared in a slot are at most as new, but for the one under way
-    pub older : (s : ℕ) (b : Places) (h : v.Header) → IsSlot s → Appeared (slot_place s) header_length t b → v.HeaderAt s b h
+    pub older : (s : ℕ) (b : Places) (h : v.Header) → IsSlot s → Appeared (header_place s) header_bytes t b → v.HeaderAt s b h
         → (v.number h ≤ number_of newest) ⊎ ((progress ≡ Sent) × IsHeaderUnderWay f s b)
     -- what this try has left to write is of the queue, and the rest of the frozen image stands
     pub queued : (e : Entry) → IsAmong (entries_left stage) e → IsAmong f.queue e
@@ -137,11 +138,11 @@ module _ (v : Format) where
     pub unchanged : progress ≢ Fresh → (k : ℕ) → OwnsByte f.checkpoint k → IsChanged t k → ⊥
     -- the header is sent only after that sync
     pub secured : stage ≡ Blocks_synced → progress ≢ Fresh
-    pub sent : stage ≡ Header_written → (progress ≡ Sent) × Holds (slot_place (slot_of_checkpoint f.checkpoint)) f.bytes image
+    pub sent : stage ≡ Header_written → (progress ≡ Sent) × Holds (header_place (slot_of_checkpoint f.checkpoint)) f.bytes image
 
   -- headers are torn into no others: each header that the image has in a slot stood there at the opening, or was to be written there; of a slot that was written in part nothing is supposed
   abbrev pub HasOldHeaders : Trace → Places → Type 0
-  HasOldHeaders t image = (s : ℕ) (h : v.Header) → IsSlot s → v.HeaderAt s (slot_bytes image s) h → Appeared (slot_place s) header_length t (slot_bytes image s)
+  HasOldHeaders t image = (s : ℕ) (h : v.Header) → IsSlot s → v.HeaderAt s (slot_bytes image s) h → Appeared (header_place s) header_bytes t (slot_bytes image s)
 
   -- mounting the image gives this checkpoint
   pub record Lands (checkpoint : Checkpoint) (image : Places) : Type 0 where

@@ -2,7 +2,8 @@
 use Rattle.std.specs.Prelude.{◌≡◌, ◌≤◌, ℕ, List}
 use Rattle.std.specs.List.{Contains}
 use Rattle.h2_num.specs.Places.{Places, from_place, InRange, SameBelow}
-use Rattle.h2_checkpoint.specs.Slots.{header_length, IsSlot, slot_bytes, slot_of_number}
+use Rattle.h2_geom.specs.Places.{header_bytes, turn_of}
+use Rattle.h2_checkpoint.specs.Slots.{IsSlot, slot_bytes}
 
 -- what a volume is made of
 pub record Format : Type 1 where
@@ -41,14 +42,14 @@ module _ (v : Format) where
   -- Each relation depends on its own bytes alone, and a slot's bytes spell headers of one number, which is at least 1.
   pub record IsLawful : Type 0 where
     pub child_local : (r s : v.Ref) (a b : Places) → SameBelow (v.size r) a b → v.Child r a s → v.Child r b s
-    pub header_local : (s : ℕ) (h : v.Header) (a b : Places) → SameBelow header_length a b → v.HeaderAt s a h → v.HeaderAt s b h
+    pub header_local : (s : ℕ) (h : v.Header) (a b : Places) → SameBelow header_bytes a b → v.HeaderAt s a h → v.HeaderAt s b h
     pub one_number : (s : ℕ) (g h : v.Header) (b : Places) → v.HeaderAt s b g → v.HeaderAt s b h → v.number g ≡ v.number h
     pub header_counts : (s : ℕ) (h : v.Header) (b : Places) → v.HeaderAt s b h → 1 ≤ v.number h
     pub stands_local : (h : v.Header) (forest : v.Forest) (a b : Places) → SameReached a (v.roots h) b → v.Stands a h forest → v.Stands b h forest
 
   -- a header of the image with the greatest number
   pub record IsNewest (image : Places) (h : v.Header) : Type 0 where
-    pub here : v.HeaderAt (slot_of_number (v.number h)) (slot_bytes image (slot_of_number (v.number h))) h
+    pub here : v.HeaderAt (turn_of (v.number h)) (slot_bytes image (turn_of (v.number h))) h
     pub greatest : (s : ℕ) (other : v.Header) → IsSlot s → v.HeaderAt s (slot_bytes image s) other → v.number other ≤ v.number h
 
   -- no slot has a header

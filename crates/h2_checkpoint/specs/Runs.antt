@@ -2,7 +2,8 @@
 use Rattle.std.specs.Prelude.{◌≡◌, ◌⊎◌, ◌≤◌, ℕ, List, [], ◌∷◌, length}
 use Rattle.h2_num.specs.Places.{Places, InRange, SameOutside, Same, Holds}
 use Rattle.h2_disk.specs.Trace.{Trace, Opened, Wrote, Synced, up_to, LeftAt, KeepsDurable, Tried}
-use Rattle.h2_checkpoint.specs.Slots.{IsSlot, slot_place, InSlot}
+use Rattle.h2_geom.specs.Places.{header_place}
+use Rattle.h2_checkpoint.specs.Slots.{IsSlot, InSlot}
 use Rattle.h2_checkpoint.specs.Format.{Format, IsLawful, IsNewest, HasNoHeader}
 use Rattle.h2_checkpoint.specs.Queue.{Entry, InEntries}
 use Rattle.h2_checkpoint.specs.Checkpoint.{Progress, Fresh, Sent, progress_after_sync, Stage, Writing, Blocks_synced, Header_written, OwnsByte, slot_of_checkpoint, Frozen, IsCheckpoint, Newest, Blank, Completed, base_of, number_of, NewestOwnsByte, IsAtRest, IsPlanned, IsQueuedOrThere, IsFlushing, HasOldHeaders}
@@ -61,10 +62,10 @@ module _ (v : Format) where
         → x.moment ≤ t → Same x.image j
         → Does x (record x { image = j; moment = t; flush = UnderWay f g (Writing f.queue) })
     header_written : (f : Frozen v) (g : Progress) (t : ℕ) (j : Places) → x.flush ≡ UnderWay f g Blocks_synced
-        → x.moment ≤ t → SameOutside (slot_place (slot_of_checkpoint v f.checkpoint)) (length f.bytes) x.image j → Holds (slot_place (slot_of_checkpoint v f.checkpoint)) f.bytes j
-        → Does x (record x { trace = Wrote t (slot_place (slot_of_checkpoint v f.checkpoint)) f.bytes x.trace; image = j; moment = t; flush = UnderWay f Sent Header_written; marks = Header_out (v.number f.checkpoint.header) t ∷ x.marks })
+        → x.moment ≤ t → SameOutside (header_place (slot_of_checkpoint v f.checkpoint)) (length f.bytes) x.image j → Holds (header_place (slot_of_checkpoint v f.checkpoint)) f.bytes j
+        → Does x (record x { trace = Wrote t (header_place (slot_of_checkpoint v f.checkpoint)) f.bytes x.trace; image = j; moment = t; flush = UnderWay f Sent Header_written; marks = Header_out (v.number f.checkpoint.header) t ∷ x.marks })
     header_failed : (f : Frozen v) (g : Progress) (t : ℕ) (q : Trace) (j : Places) → x.flush ≡ UnderWay f g Blocks_synced
-        → x.moment ≤ t → Tried t (slot_place (slot_of_checkpoint v f.checkpoint)) f.bytes x.trace x.image q j
+        → x.moment ≤ t → Tried t (header_place (slot_of_checkpoint v f.checkpoint)) f.bytes x.trace x.image q j
         → Does x (record x { trace = q; image = j; moment = t; flush = UnderWay f Sent (Writing f.queue); marks = Header_out (v.number f.checkpoint.header) t ∷ x.marks })
     -- the checkpoint is completed
     header_done : (f : Frozen v) (g : Progress) (t : ℕ) (j : Places) → x.flush ≡ UnderWay f g Header_written

@@ -5,7 +5,7 @@ use Rattle.h2_num.specs.Causes.{one_more}
 use Rattle.h2_disk.specs.Trace.{Trace, IsDurable}
 use Rattle.h2_disk.specs.declared.disk.DiskFault.{DiskFault}
 use Rattle.h2_disk.specs.Laid.{laid}
-use Rattle.h2_checkpoint.specs.Slots.{slot_place}
+use Rattle.h2_geom.specs.Places.{header_place}
 use Rattle.h2_checkpoint.specs.Format.{Format, IsLawful}
 use Rattle.h2_checkpoint.specs.Queue.{Entry, InEntries, entry_of, overlay_all}
 use Rattle.h2_checkpoint.specs.Checkpoint.{Progress, Sent, progress_after_sync, Stage, Writing, Blocks_synced, Header_written, Newest, Completed, slot_of_checkpoint, Frozen}
@@ -33,7 +33,7 @@ SameElsewhere pieces place n old new = (k : ℕ) → (InEntries (queue_of pieces
 -- the pieces and the header's bytes are those of the frozen flush
 pub record IsPlanOf (v : Format) (f : Frozen v) (pieces : List Piece) (place : ℕ) (header : List ℕ) : Type 0 where
   pub queue : f.queue ≡ queue_of pieces
-  pub place_is : place ≡ slot_place (slot_of_checkpoint v f.checkpoint)
+  pub place_is : place ≡ header_place (slot_of_checkpoint v f.checkpoint)
   pub header_is : f.bytes ≡ header
 
 -- the header went out in this time and is done, and so it is noted
@@ -76,7 +76,7 @@ FailsToWritePieces v pieces old new =
 abbrev pub SendsHeader : (v : Format) → ℕ → List ℕ → DiskState → DiskState → Type 0
 SendsHeader v place header old new =
     IsLawful v → (start : ℕ) (opening newest : Newest v) (before : Trace) (f : Frozen v) (g : Progress) (marks : List (Mark v.Forest))
-    → place ≡ slot_place (slot_of_checkpoint v f.checkpoint) → f.bytes ≡ header
+    → place ≡ header_place (slot_of_checkpoint v f.checkpoint) → f.bytes ≡ header
     → StandsAt v start opening before old newest (UnderWay f g Blocks_synced) marks
     → StandsAt v start opening before new newest (UnderWay f Sent Header_written) (Header_out (v.number f.checkpoint.header) new.moment ∷ marks)
 
@@ -84,7 +84,7 @@ SendsHeader v place header old new =
 abbrev pub FailsToSend : (v : Format) → ℕ → List ℕ → DiskState → DiskState → Type 0
 FailsToSend v place header old new =
     IsLawful v → (start : ℕ) (opening newest : Newest v) (before : Trace) (f : Frozen v) (g : Progress) (marks : List (Mark v.Forest))
-    → place ≡ slot_place (slot_of_checkpoint v f.checkpoint) → f.bytes ≡ header
+    → place ≡ header_place (slot_of_checkpoint v f.checkpoint) → f.bytes ≡ header
     → StandsAt v start opening before old newest (UnderWay f g Blocks_synced) marks
     → StandsAt v start opening before new newest (UnderWay f Sent (Writing f.queue)) (Header_out (v.number f.checkpoint.header) new.moment ∷ marks)
 

@@ -2,8 +2,8 @@
 use Rattle.std.proofs.Common.{◌≡◌, ◌⊎◌, ◌<◌, ◌≤◌, ℕ, zero, suc, ◌*◌, ◌%◌, List, [], ◌∷◌, ◌++◌, length, refl, ◌∙◌, inl, inr, arith}
 use Rattle.std.proofs.lemmas.List.{length-append}
 use Rattle.h2_num.specs.Places.{InRange}
-use Rattle.h2_geom.specs.Places.{node_place}
-use Rattle.h2_header.specs.Map.{turn_of, top_level, zones_under}
+use Rattle.h2_geom.specs.Places.{node_place, turn_of}
+use Rattle.h2_header.specs.Map.{top_level, zones_under}
 use Rattle.h2_freeleaf.specs.Plan.{blocks_of, level_places, map_places}
 use Rattle.h2_image.specs.NewVolume.{blocks_up_to, InNewMap}
 use Rattle.h2_image.specs.NewVolumeLaws.{top_most}

@@ -14,7 +14,8 @@ use Rattle.h2_header.specs.declared.fault.HeadFault.{HeadFault}
 use Rattle.h2_header.specs.Header.{IsHeaderAt, NoHeaderAt}
 use Rattle.h2_header.specs.HeaderLaws.{IsHeaderAt-same, one_number}
 use Rattle.h2_header.specs.Newest.{NoneOf, IsNewestOf}
-use Rattle.h2_checkpoint.specs.Slots.{slot_bytes, slot_place}
+use Rattle.h2_geom.specs.Places.{header_place}
+use Rattle.h2_checkpoint.specs.Slots.{slot_bytes}
 use Rattle.h2_checkpoint.specs.Stands.{DiskState}
 use Rattle.h2_image.specs.VolumeFormat.{HasNoHeader}
 use Rattle.h2_cmd.specs.Formatting.{IsSlotHeader, AreSlotHeaders, IsNewestNumber, CutsFormat}
@@ -97,7 +98,7 @@ newest_some image headers slot h newest is are =
 -- Where nothing was written
 
 no_header_same : (a b : Places) → Same a b → HasNoHeader a → HasNoHeader b
-no_header_same a b same none s h slot at = none s h slot (IsHeaderAt-same s h (slot_bytes b s) (slot_bytes a s) (λ k lt. sym (same (slot_place s + k))) at)
+no_header_same a b same none s h slot at = none s h slot (IsHeaderAt-same s h (slot_bytes b s) (slot_bytes a s) (λ k lt. sym (same (header_place s + k))) at)
 
 pub cuts_nothing : (zones : ℕ) (old new : DiskState) → new.trace ≡ old.trace → latest old.trace ≤ old.moment → IsDurable old.trace old.image → HasNoHeader old.image → CutsFormat zones old new
 cuts_nothing zones old new is past durable none = record {

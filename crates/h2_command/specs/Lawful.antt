@@ -1,22 +1,13 @@
 -- Commands that a script can hold.
-use Rattle.std.specs.Prelude.{◌≡◌, ◌⊎◌, ℕ, ◌<◌, ◌≤◌, List, length, All}
+use Rattle.std.specs.Prelude.{◌≡◌, ◌<◌, ◌≤◌, length, All}
 use Rattle.h2_dirkey.specs.Name.{IsName}
+use Rattle.h2_dirkey.specs.PfsName.{IsPfsName}
 use Rattle.h2_command.specs.declared.path.Path.{Path}
 use Rattle.h2_command.specs.declared.command.Command.{Command}
 use Rattle.h2_command.specs.declared.command.Command.TheVariants.{Mkdir, Create, Link, Rm, Rmdir, Mv, Ls, Stat, Attach, Close, ReadAt, WriteAt, Cut, Sync, Bulkfree, Snapshot, PfsCreate, PfsDelete, PfsList}
 use Rattle.h2_command.specs.declared.history.Item.{Item}
 use Rattle.h2_command.specs.declared.history.Item.TheVariants.{Call, Mark as Marked}
 use Rattle.h2_contents.specs.Payload.{payload_bytes}
-
--- a letter, a digit, '.', '_' or '-'
-abbrev pub IsPfsNameByte : ℕ → Type 0
-IsPfsNameByte b = ((48 ≤ b) × (b ≤ 57)) ⊎ (((65 ≤ b) × (b ≤ 90)) ⊎ (((97 ≤ b) × (b ≤ 122)) ⊎ ((b ≡ 46) ⊎ ((b ≡ 95) ⊎ (b ≡ 45)))))
-
--- the name of a PFS has 1 to 64 such bytes
-pub record IsPfsName (name : List ℕ) : Type 0 where
-  pub some : 1 ≤ length name
-  pub few : length name ≤ 64
-  pub bytes : All IsPfsNameByte name
 
 -- a path names a PFS, and goes on by names that a directory may have
 pub record IsPath (p : Path) : Type 0 where

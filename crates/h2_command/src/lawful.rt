@@ -1,54 +1,19 @@
-ghost use Rattle.std.specs.Prelude.{◌↔◌, ◌≤◌, ◌≡◌, IsTrue, All, length};
+ghost use Rattle.std.specs.Prelude.{◌↔◌, ◌≡◌, IsTrue, All};
 ghost use Rattle.h2_dirkey.specs.Name.{IsName};
-ghost use Rattle.h2_command.specs.Lawful.{IsPfsNameByte, IsPfsName, IsPath, IsEntryPath, AreInOnePfs, Lawful, IsLawfulItem};
+ghost use Rattle.h2_dirkey.specs.PfsName.{IsPfsName};
+ghost use Rattle.h2_command.specs.Lawful.{IsPath, IsEntryPath, AreInOnePfs, Lawful, IsLawfulItem};
 
 use crate::command::Command;
 use crate::history::{History, Item};
 use crate::path::Path;
-use h2_dirkey::check_name;
+use h2_dirkey::{check_name, is_pfs_name};
 use h2_num::Name;
 
 /// The most bytes that one command reads or writes.
 const DATA_BYTES: usize = 1_048_576;
 
-/// The most bytes of a PFS's name.
-const PFS_NAME_BYTES: usize = 64;
-
 /// How many clients there are.
 const CLIENTS: u32 = 8;
-
-fn is_pfs_name_byte(byte: u8) -> bool
-    ensures { IsTrue result ↔ IsPfsNameByte byte }
-{
-    match byte {
-        b'0'..=b'9' | b'A'..=b'Z' | b'a'..=b'z' | b'.' | b'_' | b'-' => true,
-        _ => false,
-    }
-}
-
-fn are_pfs_name_bytes(bytes: &[u8]) -> bool
-    ensures { IsTrue result ↔ All IsPfsNameByte bytes.now }
-{
-    for byte in bytes {
-        if !is_pfs_name_byte(*byte) {
-            return false;
-        }
-    }
-    true
-}
-
-/// Whether a PFS may have the name: 1 to 64 bytes of letters, digits, `.`, `_` and `-`.
-pub fn is_pfs_name(name: &[u8]) -> bool
-    ensures { IsTrue result ↔ IsPfsName name.now }
-{
-    if name.is_empty() {
-        return false;
-    }
-    if name.len() > PFS_NAME_BYTES {
-        return false;
-    }
-    are_pfs_name_bytes(name)
-}
 
 #[tactic(auto, using(h2_dirkey::specs::NameLaws::no_fault))]
 fn is_name(name: &Name) -> bool

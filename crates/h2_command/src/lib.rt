@@ -14,8 +14,8 @@ mod same;
 
 pub use command::Command;
 pub use h2_contents::Payload;
+pub use h2_dirkey::is_pfs_name;
 pub use h2_ref::Why;
 pub use history::{Entry, History, Item, Mark};
-pub use lawful::is_pfs_name;
 pub use path::Path;
 pub use reply::Reply;

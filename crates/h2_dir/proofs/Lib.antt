@@ -10,7 +10,6 @@ pub mod Renewed
 pub mod Others
 pub mod Areas
 pub mod Walked
-pub mod Alike
 pub mod Loading
 pub mod Listed
 pub mod Ordered

@@ -13,7 +13,7 @@ use Rattle.std.specs.FinMap.{get, entries, from_entries, from_sorted, get-from_e
 use Rattle.std.specs.FinMap.Entries.{below_all}
 use Rattle.h2_inode.specs.ListLaws.{all_beside}
 use Rattle.h2_dir.specs.Listing.{by_name}
-use Rattle.h2_dir.specs.Held.{held_in, held_by, exact_names, names_total}
+use Rattle.h2_inode.specs.FoundLaws.{held_in, held_by, exact_names, names_total}
 
 abbrev pub Name : Type 0
 Name = List ℕ

@@ -15,7 +15,7 @@ use Rattle.h2_dir.specs.Names.{IsNamed, MayBeNamed, NoneNamed}
 use Rattle.h2_dir.specs.Finding.{HoldsEntries, last_key}
 use Rattle.h2_dir.specs.Members.{at_place, has_place, kept, keeps}
 use Rattle.std.proofs.lemmas.Bool.Decides.{nat_tests}
-use Rattle.h2_dir.specs.Held.{held_in, held_by, exact_names, names_total}
+use Rattle.h2_inode.specs.FoundLaws.{held_in, held_by, exact_names, names_total}
 
 pub between : (low high : ℕ) (leaf : Ref) → low ≤ leaf.key → leaf.key ≤ high → is_between low high leaf ≡ true
 between low high leaf from to = grind (arith, nat_tests)

@@ -1,7 +1,6 @@
 pub mod Names
 pub mod Finding
 pub mod Members
-pub mod Held
 pub mod Agreeing
 pub mod FoundLaws
 pub mod Placing

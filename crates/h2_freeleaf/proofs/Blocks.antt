@@ -5,12 +5,12 @@ use Rattle.std.proofs.lemmas.Bool.{cases_lt}
 use Rattle.std.proofs.lemmas.List.{get_or_push, get_or_append_left, get_or_past, length_push, map-append, append_assoc}
 use Rattle.h2_num.specs.Places.{Places, places, from_place, AreBytes, SameBelow, Holds}
 use Rattle.h2_check.specs.CrcLaws.{crc32c_of-same, crc32c_of-lt}
-use Rattle.h2_geom.specs.Places.{node_place}
+use Rattle.h2_geom.specs.Places.{node_place, turn_of}
 use Rattle.h2_codes.specs.declared.code.Code.{Code}
 use Rattle.h2_ref.specs.declared.reference.Check.TheVariants.{Crc}
 use Rattle.h2_ref.specs.declared.reference.Ref.{Ref}
 use Rattle.h2_ref.specs.Ref.{empty_ref, IsValid}
-use Rattle.h2_header.specs.Map.{turn_of, top_level, zones_under, IsMapRef, IsMapEntry}
+use Rattle.h2_header.specs.Map.{top_level, zones_under, IsMapRef, IsMapEntry}
 use Rattle.h2_freeleaf.specs.Leaf.{IsLeaf, LeafBytes}
 use Rattle.h2_freeleaf.specs.LeafLaws.{LeafBytes-same}
 use Rattle.h2_freeleaf.specs.Node.{IsNode, NodeBytes}

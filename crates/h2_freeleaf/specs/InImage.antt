@@ -3,12 +3,12 @@ use Rattle.std.specs.Prelude.{◌≡◌, ◌<◌, ◌≤◌, ℕ, zero, suc, ◌
 use Rattle.h2_num.specs.Places.{Places, from_place, SameBelow}
 use Rattle.h2_check.specs.Crc.{crc32c_of}
 use Rattle.h2_geom.specs.Geometry.{segments_of}
-use Rattle.h2_geom.specs.Places.{zone_place, node_place}
+use Rattle.h2_geom.specs.Places.{zone_place, node_place, turn_of}
 use Rattle.h2_codes.specs.declared.code.Code.{Code}
 use Rattle.h2_ref.specs.declared.reference.Check.TheVariants.{Crc}
 use Rattle.h2_ref.specs.declared.reference.Ref.{Ref}
 use Rattle.h2_header.specs.declared.header.Header.{Header}
-use Rattle.h2_header.specs.Map.{turn_of, top_level, zones_under, map_kind, IsMapEntry, IsMap}
+use Rattle.h2_header.specs.Map.{top_level, zones_under, map_kind, IsMapEntry, IsMap}
 use Rattle.h2_freeleaf.specs.Leaf.{IsLeaf, LeafBytes}
 use Rattle.h2_freeleaf.specs.Node.{IsNode, NodeBytes}
 

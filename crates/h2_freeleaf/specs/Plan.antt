@@ -1,11 +1,11 @@
 -- The plan of a copy of the freemap: its blocks in the order of writing, and the references of the header's map.
 use Rattle.std.specs.Prelude.{◌≡◌, ◌<◌, ℕ, zero, suc, ◌+◌, ◌-◌, ◌*◌, ◌/◌, ◌%◌, List, [], ◌∷◌, ◌++◌, length, map, slice_index_or, All}
 use Rattle.h2_num.specs.Places.{Places, Holds}
-use Rattle.h2_geom.specs.Places.{node_place}
+use Rattle.h2_geom.specs.Places.{node_place, turn_of}
 use Rattle.h2_codes.specs.declared.code.Code.{Code}
 use Rattle.h2_ref.specs.declared.reference.Ref.{Ref}
 use Rattle.h2_ref.specs.Ref.{empty_ref, IsValid}
-use Rattle.h2_header.specs.Map.{turn_of, top_level, zones_under, IsMapRef}
+use Rattle.h2_header.specs.Map.{top_level, zones_under, IsMapRef}
 use Rattle.h2_freeleaf.specs.InImage.{LeadsTo, AreMapped}
 
 -- a block of the level may begin with the zone

@@ -1,5 +1,5 @@
 -- Where headers and the blocks of the freemap lie: all in the reserved first segments of zones.
-use Rattle.std.specs.Prelude.{◌<◌, ◌≤◌, ◌⊎◌, ℕ, ◌+◌, ◌*◌}
+use Rattle.std.specs.Prelude.{◌<◌, ◌≤◌, ◌⊎◌, ℕ, ◌+◌, ◌-◌, ◌*◌, ◌%◌}
 use Rattle.h2_geom.specs.Geometry.{zone_bytes, chunk_bytes}
 
 -- bytes of a header's slot
@@ -17,6 +17,10 @@ zone_place zone = zone_bytes * zone
 -- the place of a header's slot: slot s opens zone s
 abbrev pub header_place : ℕ → ℕ
 header_place slot = zone_place slot
+
+-- the turn of a checkpoint, of which there are four: the slot of its header, and its copy of the freemap
+abbrev pub turn_of : ℕ → ℕ
+turn_of number = (number - 1) % 4
 
 -- the place of a copy of the freemap in a zone: behind the room of a header, a chunk for each copy
 abbrev pub copy_place : ℕ → ℕ → ℕ

@@ -5,7 +5,8 @@ use Rattle.std.proofs.lemmas.Bool.{both_ways}
 use Rattle.h2_num.specs.Places.{Places, number_at, from_place, ZeroIn}
 use Rattle.h2_header.specs.declared.header.Header.{Header}
 use Rattle.h2_header.specs.declared.fault.HeadFault.TheVariants.{Magic, Version, Check}
-use Rattle.h2_header.specs.Map.{turn_of, IsMap}
+use Rattle.h2_geom.specs.Places.{turn_of}
+use Rattle.h2_header.specs.Map.{IsMap}
 use Rattle.h2_header.specs.Header.{IsRoot, IsHeaderAt}
 use Rattle.h2_header.specs.FaultLaws.{HasNumbers}
 use Rattle.h2_ref.specs.Set.{RefsBytes}

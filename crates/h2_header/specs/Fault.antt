@@ -8,7 +8,8 @@ use Rattle.h2_ref.specs.Ref.{IsValid, RefBytes}
 use Rattle.h2_ref.specs.Set.{MayFollow}
 use Rattle.h2_header.specs.declared.fault.HeadFault.{HeadFault}
 use Rattle.h2_header.specs.declared.fault.HeadFault.TheVariants.{Magic, Version, Check, Field}
-use Rattle.h2_header.specs.Map.{turn_of, IsMapSlot}
+use Rattle.h2_geom.specs.Places.{turn_of}
+use Rattle.h2_header.specs.Map.{IsMapSlot}
 use Rattle.h2_header.specs.Header.{IsRootRef}
 
 -- the number is one of a checkpoint, and the slot's turn

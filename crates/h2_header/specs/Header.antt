@@ -8,7 +8,8 @@ use Rattle.h2_ref.specs.declared.reference.Ref.{Ref}
 use Rattle.h2_ref.specs.Ref.{IsValid}
 use Rattle.h2_ref.specs.Set.{RefsBytes, IsSet}
 use Rattle.h2_header.specs.declared.header.Header.{Header}
-use Rattle.h2_header.specs.Map.{turn_of, IsMap}
+use Rattle.h2_geom.specs.Places.{turn_of}
+use Rattle.h2_header.specs.Map.{IsMap}
 
 -- its references are valid, as many as it has room for
 pub record HasRefs (h : Header) : Type 0 where

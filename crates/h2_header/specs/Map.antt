@@ -1,14 +1,10 @@
 -- The freemap of a header: which references it has to it.
 use Rattle.std.specs.Prelude.{◌≡◌, ◌⊎◌, ◌<◌, ◌≤◌, ℕ, zero, suc, ◌+◌, ◌*◌, ◌-◌, ◌%◌, ◌^◌, nat_le, if◌then◌else◌, List, length, slice_index_or, All}
-use Rattle.h2_geom.specs.Places.{zone_place, node_place}
+use Rattle.h2_geom.specs.Places.{zone_place, node_place, turn_of}
 use Rattle.h2_ref.specs.declared.reference.Kind.{Kind}
 use Rattle.h2_ref.specs.declared.reference.Kind.TheVariants.{MapNode, MapLeaf}
 use Rattle.h2_ref.specs.declared.reference.Ref.{Ref}
 use Rattle.h2_ref.specs.Ref.{empty_ref, IsValid}
-
--- the turn of a checkpoint, of which there are four: the slot of its header, and its copy of the map
-abbrev pub turn_of : ℕ → ℕ
-turn_of number = (number - 1) % 4
 
 -- the level of the blocks that a header names: leaves up to 8 zones, nodes of level 1 up to 64, else of level 2
 abbrev pub top_level : ℕ → ℕ

@@ -4,7 +4,7 @@ use Rattle.h2_num.specs.Places.{Places, ZeroIn}
 use Rattle.h2_ref.specs.declared.reference.Ref.{Ref}
 use Rattle.h2_ref.specs.Ref.{IsValid, RefBytes}
 use Rattle.h2_header.specs.declared.header.Header.{Header}
-use Rattle.h2_header.specs.Map.{turn_of}
+use Rattle.h2_geom.specs.Places.{turn_of}
 use Rattle.h2_header.specs.Header.{IsHeader, ValueBytes}
 use Rattle.h2_header.specs.Fault.{ref_bytes, IsRootAt, IsMapAt}
 

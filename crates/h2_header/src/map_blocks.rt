@@ -1,6 +1,6 @@
 ghost use Rattle.std.specs.Prelude.{◌≡◌, ◌≤◌, ◌<◌, ◌↔◌, ◌+◌, ◌*◌, IsTrue};
-ghost use Rattle.h2_header.specs.Map.{IsMapEntry, IsMapRef, IsMapSlot, map_kind, top_level, turn_of, zones_under};
-ghost use Rattle.h2_geom.specs.Places.{node_place};
+ghost use Rattle.h2_header.specs.Map.{IsMapEntry, IsMapRef, IsMapSlot, map_kind, top_level, zones_under};
+ghost use Rattle.h2_geom.specs.Places.{node_place, turn_of};
 
 use h2_geom::{SLOTS, ZONE_BYTES, leaf_place, node_place};
 use h2_ref::{Kind, Ref};

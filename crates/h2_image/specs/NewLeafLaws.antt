@@ -9,8 +9,8 @@ use Rattle.h2_codes.specs.Codes.{code_at}
 use Rattle.h2_ref.specs.declared.reference.Ref.{Ref}
 use Rattle.h2_ref.specs.Ref.{empty_ref}
 use Rattle.h2_header.specs.declared.header.Header.{Header}
-use Rattle.h2_header.specs.Map.{turn_of, top_level, zones_under, IsMapRef}
-use Rattle.h2_geom.specs.Places.{leaf_place, node_place}
+use Rattle.h2_header.specs.Map.{top_level, zones_under, IsMapRef}
+use Rattle.h2_geom.specs.Places.{leaf_place, node_place, turn_of}
 use Rattle.h2_freemap.specs.Space.{code_in}
 use Rattle.h2_freeleaf.specs.Leaf.{IsLeaf, LeafBytes}
 use Rattle.h2_freeleaf.specs.InImage.{IsZoneOf, LeadsTo}

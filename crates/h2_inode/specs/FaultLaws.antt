@@ -12,7 +12,8 @@ use Rattle.h2_inode.specs.declared.inode.Inode.{Inode}
 use Rattle.h2_inode.specs.declared.fault.InodeFault.{InodeFault}
 use Rattle.h2_inode.specs.declared.fault.InodeFault.TheVariants.{Kind, Body as BadBody, Links, Number, Size, Next, Name, Padding, Reference, Shape}
 use Rattle.h2_inode.specs.Kind.{kind_byte}
-use Rattle.h2_inode.specs.Limits.{limits_of, numbers, InSpan}
+use Rattle.h2_ref.specs.Ref.{InSpan}
+use Rattle.h2_inode.specs.Limits.{limits_of, numbers}
 use Rattle.h2_inode.specs.Head.{body_of, zeros_from, MustBeZero}
 use Rattle.h2_inode.specs.Inode.{BodyFits, BodyBytes, body_byte, IsInode, InodeBytes, NoInode}
 use Rattle.h2_inode.specs.Fault.{IsFaultOf, IsFaultFor, IsRefsFault}

@@ -6,7 +6,8 @@ use Rattle.h2_inode.specs.declared.kind.InodeKind.{InodeKind}
 use Rattle.h2_inode.specs.declared.kind.InodeKind.TheVariants.{Directory, File, Pfs}
 use Rattle.h2_inode.specs.declared.fault.InodeFault.{InodeFault}
 use Rattle.h2_inode.specs.declared.fault.InodeFault.TheVariants.{Kind, Body, Links, Number, Size, Next, Name, Padding, Reference, Shape}
-use Rattle.h2_inode.specs.Limits.{limits_of, numbers, InSpan}
+use Rattle.h2_ref.specs.Ref.{InSpan}
+use Rattle.h2_inode.specs.Limits.{limits_of, numbers}
 
 -- the number of the body: a file of at most 512 bytes has its bytes there, every other inode references
 abbrev pub body_of : InodeKind → ℕ → ℕ

@@ -11,7 +11,8 @@ use Rattle.h2_inode.specs.declared.inode.Body.{Body}
 use Rattle.h2_inode.specs.declared.inode.Body.TheVariants.{Refs, Bytes}
 use Rattle.h2_inode.specs.declared.inode.Inode.{Inode}
 use Rattle.h2_inode.specs.Kind.{kind_byte}
-use Rattle.h2_inode.specs.Limits.{limits_of, numbers, InSpan}
+use Rattle.h2_ref.specs.Ref.{InSpan}
+use Rattle.h2_inode.specs.Limits.{limits_of, numbers}
 use Rattle.h2_inode.specs.Head.{body_of, HasName, IsNameOf}
 
 -- Which references an inode's tree may hold

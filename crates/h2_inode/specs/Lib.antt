@@ -31,6 +31,7 @@ pub mod FoundLaws
 pub mod Loaded
 pub mod NamedLaws
 pub mod LoadedLaws
+pub mod AlikeLaws
 pub mod PathLaws
 pub mod LoadedExample
 pub mod NamesOneLaws

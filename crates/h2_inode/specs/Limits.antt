@@ -1,13 +1,10 @@
 -- What the fields of an inode may hold, by its kind.
-use Rattle.std.specs.Prelude.{ℕ, ◌≤◌, ◌-◌, ◌^◌}
+use Rattle.std.specs.Prelude.{◌-◌, ◌^◌}
 use Rattle.h2_inode.specs.declared.kind.InodeKind.{InodeKind}
 use Rattle.h2_inode.specs.declared.kind.InodeKind.TheVariants.{Directory, File, Pfs}
-use Rattle.h2_inode.specs.declared.limits.Span.{Span}
+use Rattle.h2_ref.specs.declared.table.Span.{Span}
+use Rattle.h2_ref.specs.Table.{span}
 use Rattle.h2_inode.specs.declared.limits.Limits.{Limits}
-
--- the numbers from a least one to a last one
-abbrev pub span : ℕ → ℕ → Span
-span least last = record { least = least; last = last }
 
 -- links, size, and next inode number of each kind
 abbrev pub limits_of : InodeKind → Limits
@@ -18,8 +15,3 @@ limits_of Pfs = record { links = span 1 1; sizes = span 0 0; nexts = span 2 (2 ^
 -- the numbers of inodes and of PFSs
 abbrev pub numbers : Span
 numbers = span 1 (2 ^ 62 - 1)
-
--- the number is in the span
-pub record InSpan (s : Span) (n : ℕ) : Type 0 where
-  pub least : s.least ≤ n
-  pub last : n ≤ s.last

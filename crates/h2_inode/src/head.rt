@@ -9,10 +9,11 @@ use crate::layout::{
     BODY_AT, BODY_END, CONTENTS_AT, INODE_BYTES, LINKS_AT, NAME_AT, NAME_LEN_AT, NAME_LEN_END,
     NEXT_AT, NUMBER_AT, SIZE_AT,
 };
-use crate::limits::{NUMBERS, in_span, limits_of};
+use crate::limits::{NUMBERS, limits_of};
 use crate::pfs_name::PfsName;
 use h2_dirkey::{PFS_NAME_BYTES, is_pfs_name};
 use h2_num::{first_nonzero, get16, get32, get64};
+use h2_ref::in_span;
 
 /// The greatest size of a file whose bytes lie in its inode.
 pub const EMBEDDED_BYTES: u64 = 512;

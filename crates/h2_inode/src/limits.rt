@@ -1,14 +1,8 @@
-ghost use Rattle.std.specs.Prelude.{◌≡◌, ◌↔◌, IsTrue};
-ghost use Rattle.h2_inode.specs.Limits.{limits_of, InSpan};
+ghost use Rattle.std.specs.Prelude.{◌≡◌};
+ghost use Rattle.h2_inode.specs.Limits.{limits_of};
 
 use crate::kind::InodeKind;
-
-/// The numbers from a least one to a last one.
-#[derive(Clone, Copy)]
-pub struct Span {
-    pub least: u64,
-    pub last: u64,
-}
+use h2_ref::Span;
 
 /// What the fields of an inode of one kind may hold.
 #[derive(Clone, Copy)]
@@ -64,11 +58,4 @@ pub fn limits_of(kind: InodeKind) -> Limits
             },
         },
     }
-}
-
-/// Whether a number is in a span.
-pub fn in_span(span: Span, n: u64) -> bool
-    ensures { IsTrue result ↔ InSpan span n }
-{
-    span.least <= n && n <= span.last
 }

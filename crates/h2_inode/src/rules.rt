@@ -10,11 +10,11 @@ use crate::head::{EMBEDDED_BYTES, body_of};
 use crate::inode::{Body, Inode};
 use crate::kind::InodeKind;
 use crate::layout::BODY_BYTES;
-use crate::limits::{NUMBERS, in_span, limits_of};
+use crate::limits::{NUMBERS, limits_of};
 use h2_dirkey::is_pfs_name;
 use h2_num::first_nonzero;
-use h2_ref::{Kind, Ref};
-use h2_set::Set;
+use h2_ref::in_span;
+use h2_set::{Set, is_held};
 
 /// The references that a body has room for.
 const BODY_REFS: u8 = 4;
@@ -29,14 +29,7 @@ fn name_fits(kind: InodeKind, name: &[u8]) -> bool
     }
 }
 
-/// Whether a set may hold the reference: it is valid, and names something.
-fn is_held(r: &Ref) -> bool
-    ensures { IsTrue result ↔ IsHeld r.now }
-{
-    r.valid() && r.kind != Kind::Empty
-}
-
-/// Whether it may hold all references of the set.
+/// Whether a set may hold all references of this one.
 fn are_held(set: &Set) -> bool
     ensures { IsTrue result ↔ All IsHeld set.now.refs }
 {
@@ -52,6 +45,7 @@ fn are_held(set: &Set) -> bool
 fn is_root_set(kind: InodeKind, size: u64, set: &Set) -> bool
     ensures { IsTrue result ↔ IsRootSet kind size set.now.refs }
 {
+    // For the proof alone: the contract of `len` tells that the references of a set ascend.
     let _len = set.len();
     are_held(set) && are_parts_of(kind, size, set)
 }

@@ -1,36 +1,11 @@
 //! Which leaves a tree may have.
-ghost use Rattle.std.specs.Prelude.{◌≡◌, ◌&&◌, not, Some};
-ghost use Rattle.h2_ref.specs.ValidTest.{passes_as_valid};
-ghost use Rattle.h2_set.specs.HeldTest.{names_something, passes_as_held};
+ghost use Rattle.std.specs.Prelude.{◌≡◌, ◌&&◌, Some};
 ghost use Rattle.h2_memory_sets.specs.Owners.{is_leaf_of, is_plain, inode_allows, tree_allows, allows_of};
 
 use crate::node::{Leaves, Node};
 use h2_inode::{Body, Inode, InodeKind};
 use h2_ref::{Kind, Ref};
-
-// Whether a reference is valid.
-fn is_valid(r: &Ref) -> bool
-    ensures { result ≡ passes_as_valid r.now }
-{
-    r.valid()
-}
-
-// Whether a reference of the kind names something.
-fn names_something(kind: Kind) -> bool
-    ensures { result ≡ names_something kind }
-{
-    match kind {
-        Kind::Empty => false,
-        _ => true,
-    }
-}
-
-// Whether a set may hold a reference.
-fn is_held(r: &Ref) -> bool
-    ensures { result ≡ passes_as_held r.now }
-{
-    is_valid(r) && names_something(r.kind)
-}
+use h2_set::is_held;
 
 // Whether leaves of a kind are those of an inode of the other.
 fn is_leaf_of(kind: InodeKind, leaf: Kind) -> bool

@@ -12,7 +12,6 @@ pub mod Gone
 pub mod Planted
 pub mod Added
 pub mod Spaced
-pub mod Alike
 pub mod Loading
 pub mod Apart
 pub mod Followed

@@ -10,13 +10,9 @@ use Rattle.h2_ref.specs.Ref.{RefBytes}
 abbrev pub RefsBytes : List Ref → Places → Type 0
 RefsBytes refs b = (i : ℕ) (d : Ref) → i < length refs → RefBytes (slice_index_or refs i d) (from_place b (128 * i))
 
--- where the range of a reference's keys ends
-abbrev pub limit : Ref → ℕ
-limit r = r.key + 2 ^ r.keybits
-
 -- a reference may stand after another: it is empty, or the other isn't and its range ends before this one's begins
 abbrev pub MayFollow : Ref → Ref → Type 0
-MayFollow r s = (s.kind ≡ Empty) ⊎ ((r.kind ≡ Empty → ⊥) × (limit r ≤ s.key))
+MayFollow r s = (s.kind ≡ Empty) ⊎ ((r.kind ≡ Empty → ⊥) × (r.key + 2 ^ r.keybits ≤ s.key))
 
 -- a set: references whose ranges ascend and are disjoint, and then empty ones
 abbrev pub IsSet : List Ref → Type 0

@@ -28,7 +28,9 @@ pub use faults::{RefFault, Trouble, Why};
 pub use laws::{refusal_law, spelling_law};
 pub use layout::REF_BYTES;
 pub use reference::{Check, Dirent, Kind, Ref};
+pub use rules::in_span;
 pub use set::{is_set, may_follow};
+pub use table::Span;
 
 #[cfg(test)]
 mod tests;

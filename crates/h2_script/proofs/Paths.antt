@@ -4,7 +4,7 @@ use Rattle.std.specs.List.{join_with_byte}
 use Rattle.std.proofs.lemmas.Bool.Decides.{nat_tests}
 use Rattle.std.proofs.lemmas.List.{length-append}
 use Rattle.h2_command.specs.declared.path.Path.{Path}
-use Rattle.h2_command.specs.Lawful.{IsPfsNameByte, IsPfsName}
+use Rattle.h2_dirkey.specs.PfsName.{IsPfsNameByte, IsPfsName}
 use Rattle.h2_script.specs.Cuts.{IsCut, HasNoColon}
 use Rattle.h2_script.specs.Names.{IsEntryName, SpellsNames, AreNoNames}
 use Rattle.h2_script.specs.Paths.{BeginsWithSlash, SpellsPath, IsNoPath, IsNoEntryPath}

@@ -1,7 +1,7 @@
 -- What the words after a command's word spell.
 use Rattle.std.specs.Prelude.{◌≡◌, ◌≢◌, ◌⊎◌, ◌<◌, ◌^◌, ℕ, List, [], ◌∷◌, length}
 use Rattle.h2_command.specs.declared.path.Path.{Path}
-use Rattle.h2_command.specs.Lawful.{IsPfsName}
+use Rattle.h2_dirkey.specs.PfsName.{IsPfsName}
 use Rattle.h2_contents.specs.declared.payload.Payload.{Payload}
 use Rattle.h2_script.specs.declared.fault.LineFault.{LineFault}
 use Rattle.h2_script.specs.declared.fault.LineFault.TheVariants.{Word, Path as BadPath, Number, Payload as NoData, TooLong}

@@ -2,7 +2,7 @@
 use Rattle.std.specs.Prelude.{◌≡◌, ◌≤◌, ℕ, List, ◌∷◌, ◌++◌, length}
 use Rattle.h2_dirkey.specs.Name.{slash}
 use Rattle.h2_command.specs.declared.path.Path.{Path}
-use Rattle.h2_command.specs.Lawful.{IsPfsName}
+use Rattle.h2_dirkey.specs.PfsName.{IsPfsName}
 use Rattle.h2_script.specs.Cuts.{colon}
 use Rattle.h2_script.specs.Names.{SpellsNames}
 

@@ -3,7 +3,7 @@ ghost use Rattle.h2_script.specs.Cuts.{colon};
 ghost use Rattle.h2_script.specs.Paths.{SpellsPath, SpellsEntryPath, IsNoPath, IsNoEntryPath, BeginsWithSlash};
 ghost use Rattle.h2_script.specs.Refusals.{RefusedBy};
 ghost use Rattle.h2_script.specs.declared.fault.LineFault.{LineFault};
-ghost use Rattle.h2_command.specs.Lawful.{IsPfsName};
+ghost use Rattle.h2_dirkey.specs.PfsName.{IsPfsName};
 
 use crate::cut::cut_at_colon;
 use crate::fault::{LineFault, Refusal};

@@ -1,5 +1,5 @@
 -- Whether a set may hold a reference as a test, for models that need a Bool, and that it is the same as the fact.
-use Rattle.std.specs.Prelude.{◌≡◌, ◌↔◌, Bool, true, ◌&&◌, not, ◌==◌}
+use Rattle.std.specs.Prelude.{◌≡◌, ◌↔◌, Bool, true, false, ◌&&◌, not, ◌==◌, refl}
 use Rattle.std.proofs.Common.{ap, sym, ◌∙◌, inl, inr}
 use Rattle.std.proofs.lemmas.Bool.{cases_Bool, and_parts, and_from, eqb-true, false≢true}
 use Rattle.h2_ref.specs.declared.reference.Kind.{Kind}
@@ -36,3 +36,8 @@ held-test r h = and_from (passes_as_valid r) (names_something r.kind) ((valid-te
 -- a reference passes exactly where a set may hold it
 pub held-tested : (r : Ref) → (passes_as_held r ≡ true) ↔ IsHeld r
 held-tested r = (held-fact r, held-test r)
+
+-- what answers the fact answers the test
+pub held-decided : (r : Ref) (b : Bool) → ((b ≡ true) ↔ IsHeld r) → b ≡ passes_as_held r
+held-decided r true h = sym (held-test r (h.0 refl))
+held-decided r false h = elim (cases_Bool (passes_as_held r)) [ inl e ↦ h.1 (held-fact r e) ∙ sym e | inr e ↦ sym e ]

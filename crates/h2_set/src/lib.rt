@@ -11,6 +11,7 @@
 #![tactic(auto)]
 
 mod conditions;
+mod held;
 mod laws;
 mod range;
 mod set;
@@ -19,6 +20,7 @@ mod set_encoding;
 mod sets;
 mod split;
 
+pub use held::is_held;
 pub use laws::{path_law, set_bytes_law, split_law};
 pub use range::{holds, is_indirect};
 pub use set::{PutAnswer, Set, Split};

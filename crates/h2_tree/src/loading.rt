@@ -6,7 +6,9 @@ use h2_ref::Trouble;
 use h2_set::{NodeId, Sets};
 use std::alloc::Global;
 
-// Loads the node that one reference leads to, and no other.
+/// Loads the node that the reference at place `i` of a node leads to, and no other. An error has its cause and
+/// changes nothing; it comes only where that node isn't loaded, and is no bad block where its references are
+/// known.
 pub(crate) fn load_child<N: Sets>(
     alloc: Global,
     n: &mut N,

@@ -11,7 +11,7 @@ use Rattle.h2_dir.specs.Knowing.{KnowsWay}
 use Rattle.h2_dir.proofs.Way.{way_alike, way_block, way_found, way_next, good_trouble}
 use Rattle.h2_dir.proofs.Unchanging.{beside_visits}
 use Rattle.h2_dir.proofs.Searched.{loads_same}
-use Rattle.h2_dir.proofs.Alike.{walks_alike, unchanged_alike, seeks_alike}
+use Rattle.h2_inode.specs.AlikeLaws.{walks_alike, unchanged_alike, seeks_alike}
 use Rattle.h2_dir.proofs.Loading.{path_loads, inode_loads, search_loads, failed_loads}
 use Rattle.h2_dir.proofs.Walked.{cause_earlier, inode_before, pfs_leaf, pfs_stays, step_found, step_fails, step_trouble}
 use Rattle.h2_dir.proofs.walking.step.Goals as goal

@@ -4,7 +4,7 @@ use Rattle.h2_tree.specs.Changes.{Inserts}
 use Rattle.h2_inode.specs.Nodes.{Visits}
 use Rattle.h2_inode.specs.VisitLaws.{unchanged_visits}
 use Rattle.h2_inode.specs.Loaded.{StandsAlike, view_of}
-use Rattle.h2_pfs.proofs.Alike.{unchanged_alike}
+use Rattle.h2_inode.specs.AlikeLaws.{unchanged_alike}
 use Rattle.h2_pfs.specs.Meets.{LoadsPfss}
 use Rattle.h2_pfs.proofs.Loading.{none_loads}
 use Rattle.h2_pfs.proofs.Answering.{always_err, beside_on}

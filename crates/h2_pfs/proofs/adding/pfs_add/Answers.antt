@@ -8,7 +8,7 @@ use Rattle.h2_pfs.specs.Listing.{HasPfss, id_of}
 use Rattle.h2_pfs.specs.Faults.{IsAddFault, IsFaultIn}
 use Rattle.h2_pfs.specs.Addition.{HasSpace}
 use Rattle.h2_inode.specs.LoadedLaws.{alike_trans}
-use Rattle.h2_pfs.proofs.Alike.{walks_alike}
+use Rattle.h2_inode.specs.AlikeLaws.{walks_alike}
 use Rattle.h2_pfs.proofs.Loading.{tree_loads, loads_trans}
 use Rattle.h2_pfs.proofs.Apart.{founds_others}
 use Rattle.h2_pfs.proofs.Answering.{always_err, carried_err, beside_on}

@@ -9,7 +9,7 @@ use Rattle.h2_inode.specs.VisitLaws.{unchanged_visits, seeks_visit}
 use Rattle.h2_pfs.specs.declared.met.Met.{Met}
 use Rattle.h2_pfs.proofs.Answering.{carried_err}
 use Rattle.h2_pfs.proofs.Known.{named_good}
-use Rattle.h2_pfs.proofs.Alike.{unchanged_alike, seeks_alike}
+use Rattle.h2_inode.specs.AlikeLaws.{unchanged_alike, seeks_alike}
 use Rattle.h2_pfs.proofs.Loading.{none_loads, seek_loads}
 use Rattle.h2_pfs.proofs.Visiting.{seeks_meets, seeks_tells}
 use Rattle.h2_pfs.proofs.scanning.meet.Goals as goal

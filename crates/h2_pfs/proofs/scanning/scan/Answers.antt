@@ -12,7 +12,7 @@ use Rattle.h2_pfs.specs.Listing.{HasPfss, KeepsPfss}
 use Rattle.h2_pfs.specs.Mets.{met_of}
 use Rattle.h2_pfs.specs.Meets.{Meets, MetBy, AreKnown, AreLeaves, InodeMissing}
 use Rattle.h2_pfs.specs.Faults.{IsTrouble}
-use Rattle.h2_pfs.proofs.Alike.{walks_alike}
+use Rattle.h2_inode.specs.AlikeLaws.{walks_alike}
 use Rattle.h2_pfs.proofs.Answering.{carried_err, on_ok, on_err}
 use Rattle.h2_pfs.proofs.Loading.{tree_loads, loads_trans}
 use Rattle.h2_pfs.proofs.Scanned.{listed_leaves, super_stays}

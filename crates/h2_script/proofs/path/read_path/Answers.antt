@@ -1,5 +1,5 @@
 use Rattle.std.proofs.Common.{◌≡◌, ◌∙◌, refl, subst, sym}
-use Rattle.h2_command.specs.Lawful.{IsPfsName}
+use Rattle.h2_dirkey.specs.PfsName.{IsPfsName}
 use Rattle.h2_script.specs.Names.{AreNoNames}
 use Rattle.h2_script.specs.Paths.{SpellsPath, IsNoPath, BeginsWithSlash}
 use Rattle.h2_script.specs.declared.fault.LineFault.TheVariants.{Path}
