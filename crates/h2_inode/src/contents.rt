@@ -1,4 +1,4 @@
-ghost use Rattle.std.specs.Prelude.{◌≡◌, ◌↔◌, ◌≤◌, ◌<◌, ℕ, All, drop, length, slice_index, IsTrue, IfOk, IfErr};
+ghost use Rattle.std.specs.Prelude.{◌≡◌, ◌↔◌, ◌≤◌, ◌<◌, ℕ, All, drop, length, slice_index, IsTrue, IfOk, IfErr, OnOk};
 ghost use Rattle.h2_num.specs.Places.{places, from_place};
 ghost use Rattle.h2_set.specs.SetBytes.{SetBytes, IsSetAt};
 ghost use Rattle.h2_inode.specs.Inode.{IsLeafOf, IsPartOf, IsRootSet, keys_from, keys_end};
@@ -91,17 +91,15 @@ fn in_body(fault: SetFault) -> InodeFault
     }
 }
 
-/// The set that stands in the body, where it is one of the kind; else Shape.
-fn own_set(kind: InodeKind, size: u64, b: &[u8; INODE_BYTES], set: Set) -> Result<Set, InodeFault>
-    requires capacity { set.capacity ≡ 4 }
-    requires found { IsSetAt 4 set.refs (from_place (places b.now) 512) }
-    ensures capacity { IfOk result (λ s. s.capacity ≡ 4) }
-    ensures fits { IfOk result (λ s. IsRootSet kind size s.refs) }
-    ensures bytes { IfOk result (λ s. SetBytes 4 s.refs (from_place (places b.now) 512)) }
+/// Shape, where the set that stands in the body isn't one of the kind.
+fn check_own(kind: InodeKind, size: u64, b: &[u8; INODE_BYTES], set: &Set) -> Result<(), InodeFault>
+    requires capacity { set.now.capacity ≡ 4 }
+    requires found { IsSetAt 4 set.now.refs (from_place (places b.now) 512) }
+    ensures fits { OnOk result (IsRootSet kind size set.now.refs) }
     ensures fault { IfErr result (IsRefsFault kind size (from_place (places b.now) 512)) }
 {
-    if are_parts_of(kind, size, &set) {
-        Ok(set)
+    if are_parts_of(kind, size, set) {
+        Ok(())
     } else {
         Err(InodeFault::Shape)
     }
@@ -116,7 +114,10 @@ pub fn refs_of(kind: InodeKind, size: u64, b: &[u8; INODE_BYTES]) -> Result<Set,
     ensures fault { IfErr result (IsRefsFault kind size (from_place (places b.now) 512)) }
 {
     match decode_set(contents_of(b)) {
-        Ok(set) => own_set(kind, size, b, set),
+        Ok(set) => match check_own(kind, size, b, &set) {
+            Ok(()) => Ok(set),
+            Err(fault) => Err(fault),
+        },
         Err(fault) => Err(in_body(fault)),
     }
 }

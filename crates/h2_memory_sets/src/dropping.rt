@@ -3,6 +3,7 @@ ghost use Rattle.std.specs.Prelude.{◌≡◌, ◌&&◌, ◌||◌, ◌<◌, ℕ,
 ghost use Rattle.h2_ref.specs.declared.reference.Ref.{Ref};
 ghost use Rattle.h2_memory_sets.specs.declared.node.Node.{Node};
 ghost use Rattle.h2_set.specs.Ranges.{holds};
+ghost use Rattle.h2_set.specs.RefSet.{RefSet};
 ghost use Rattle.h2_memory_sets.specs.View.{names_same, lacks, loses, goes, goes_with, lost, dropped_all};
 
 use crate::node::Node;
@@ -53,12 +54,36 @@ pub(crate) fn loses(old: &Set, new: &Set, key: u64) -> bool
     false
 }
 
+// Whether a place of a set has a reference with the key of `q`, which leads further down too or doesn't either.
+fn stands_at(set: &Set, i: usize, q: &Ref) -> bool
+    ensures { IsTrue result → lacks set.now.refs q.now ≡ false }
+{
+    if i >= set.len() {
+        return false;
+    }
+    names_same(q, set.at(i))
+}
+
+// Whether a set has such a reference. It is looked for at place `i` and at the next first, where it stands unless
+// the set has lost or won more than one before it.
+fn has(set: &Set, i: usize, q: &Ref) -> bool
+    ensures { IsTrue result → lacks set.now.refs q.now ≡ false }
+{
+    if stands_at(set, i, q) {
+        return true;
+    }
+    if stands_at(set, i.saturating_add(1), q) {
+        return true;
+    }
+    !lacks(set, q)
+}
+
 // Whether each reference of a set has one with its key in another, which leads further down too or doesn't either.
 fn has_all(old: &Set, new: &Set) -> bool
     ensures { IsTrue result → (i : ℕ) (q : Ref) → slice_get old.now.refs i ≡ Some q → lacks new.now.refs q ≡ false }
 {
     for i in 0..old.len() {
-        if lacks(new, old.at(i)) {
+        if !has(new, i, old.at(i)) {
             return false;
         }
     }
@@ -104,4 +129,18 @@ pub(crate) fn drop_all(nodes: &mut [Node], root: u32, bits: u8, old: &Set, new: 
         let is_gone = is_dropped(nodes, i, root, bits, old, new);
         lose_one(&mut nodes[i], is_gone);
     }
+}
+
+/// Drops what is below references that the set of node `at` has and `new` hasn't, or belongs to what these lead to. The
+/// node is one of the tree with this root, and its range has 2^bits keys. Its set is copied only where it loses some.
+pub(crate) fn drop_lost(nodes: &mut [Node], at: usize, root: u32, bits: u8, new: &Set)
+    requires { at < length nodes.old }
+    ensures { (x : Node) → slice_get nodes.old at ≡ Some x → nodes.new ≡ dropped_all root bits (let s : RefSet = x.set in s.refs) new.now.refs nodes.old }
+{
+    let x = &nodes[at];
+    if has_all(&x.set, new) {
+        return;
+    }
+    let old = x.set.copy();
+    drop_all(nodes, root, bits, &old, new);
 }

@@ -6,7 +6,7 @@ ghost use Rattle.h2_memory_sets.specs.Kept.{AreKept};
 
 use crate::adding::{add_node, new_reference, with_left, with_one};
 use crate::altering::{clean_all, is_settled, mark_all, place_of, recount_all};
-use crate::dropping::drop_all;
+use crate::dropping::drop_lost;
 use crate::hints::Hints;
 use crate::holding::{hold_one, release_one};
 use crate::judging::{bring_in, find_unspoiled, is_due};
@@ -360,8 +360,7 @@ impl Sets for MemorySets {
     fn store(&mut self, at: NodeId, set: Set) {
         let x = &self.nodes[at.0 as usize];
         let (root, bits) = (x.root, x.bits);
-        let old = x.set.copy();
-        drop_all(&mut self.nodes, root, bits, &old, &set);
+        drop_lost(&mut self.nodes, at.0 as usize, root, bits, &set);
         give_set(&mut self.nodes[at.0 as usize], set);
     }
 

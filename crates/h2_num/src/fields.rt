@@ -74,6 +74,25 @@ pub fn clear(b: &mut [u8])
     b.fill(0);
 }
 
+/// A place from `from` up to `to` before which each byte is zero, found eight bytes at a time: fewer than eight are left
+/// behind it, or the eight there aren't all zero.
+fn behind_zeros(b: &[u8], from: usize, to: usize) -> usize
+    requires ordered { from ≤ to }
+    requires within { to ≤ length b.now }
+    ensures least { from ≤ result }
+    ensures most { result ≤ to }
+    ensures zeros { ZeroIn from result (places b.now) }
+{
+    let words = (to - from) / 8;
+    for i in 0..words {
+        let word = get64(b, from + 8 * i);
+        if word != 0 {
+            return from + 8 * i;
+        }
+    }
+    from + 8 * words
+}
+
 /// The least place from `from` up to before `to` whose byte isn't zero, or None where each is.
 pub fn first_nonzero(b: &[u8], from: usize, to: usize) -> Option<usize>
     requires ordered { from ≤ to }
@@ -81,7 +100,8 @@ pub fn first_nonzero(b: &[u8], from: usize, to: usize) -> Option<usize>
     ensures { MatchOption result (ZeroIn from to (places b.now))
         (λ at. (from ≤ at) × (at < to) × (0 < slice_index b.now at) × ZeroIn from at (places b.now)) }
 {
-    for at in from..to {
+    let start = behind_zeros(b, from, to);
+    for at in start..to {
         if b[at] != 0 {
             return Some(at);
         }

@@ -78,8 +78,8 @@ pub fn decode(b: &[u8; REF_BYTES]) -> Result<Ref, RefFault>
         return Err(RefFault::Kind(b[KIND_AT]));
     };
     let w = row_of(kind, b[METHOD_AT]);
-    match fault_by(&w, b) {
+    match fault_by(w, b) {
         Some(fault) => Err(fault),
-        None => Ok(read(kind, &w, b)),
+        None => Ok(read(kind, w, b)),
     }
 }

@@ -52,7 +52,7 @@ pub fn encode(r: &Ref) -> [u8; REF_BYTES]
 {
     let method = method_number(r.check);
     let w = row_of(r.kind, method);
-    let mut b = area_over_zeros(r, &w);
+    let mut b = area_over_zeros(r, w);
     put_dirent(&r.dirent, &mut b);
     put8(&mut b, KIND_AT, w.number);
     put8(&mut b, METHOD_AT, method);

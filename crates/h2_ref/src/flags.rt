@@ -6,6 +6,11 @@ use bitflags::{Flag, Flags, bitflag_items};
 #[derive(Clone, Copy, Debug, PartialEq, Eq)]
 pub struct RefFlags(u8);
 
+impl RefFlags {
+    /// No flag.
+    pub const NONE: RefFlags = RefFlags(0);
+}
+
 bitflag_items! {
     impl RefFlags: u8 {
         /// The name of the entry stands in the reference.

@@ -143,5 +143,5 @@ fn fits_row(w: &Row, r: &Ref) -> bool
 pub fn is_valid(r: &Ref) -> bool
     ensures { IsTrue result ↔ IsValid r.now }
 {
-    fits_row(&row_of(r.kind, method_number(r.check)), r)
+    fits_row(row_of(r.kind, method_number(r.check)), r)
 }

@@ -1,11 +1,10 @@
 ghost use Rattle.std.specs.Prelude.{◌≡◌};
 ghost use Rattle.h2_ref.specs.Fault.{kind_of};
-ghost use Rattle.h2_ref.specs.Table.{block_row, inline_row, map_row, row_of};
+ghost use Rattle.h2_ref.specs.Table.{row_of};
 
 use crate::flags::RefFlags;
 use crate::methods::Method;
 use crate::reference::Kind;
-use bitflags::Flags;
 
 /// The numbers from a least one to a last one.
 #[derive(Clone, Copy)]
@@ -118,64 +117,98 @@ const KINDS: [Kind; 7] = [
     Kind::MapLeaf,
 ];
 
-/// The row of a block of files and directories.
-fn block_row(number: u8, radix: u8, keybits: Keybits, keys: Span) -> Row
-    ensures { result ≡ block_row number radix keybits keys }
-{
-    Row {
-        number,
-        methods: BLOCK_METHODS,
-        flags: RefFlags::empty(),
-        radix,
-        keybits,
-        keys,
-        ids: IDS,
-        names: None,
-    }
-}
+/// What rows of blocks of files and directories have in common.
+const BLOCK: Row = Row {
+    number: 0,
+    methods: BLOCK_METHODS,
+    flags: RefFlags::NONE,
+    radix: 10,
+    keybits: Keybits::Just(0),
+    keys: KEYS,
+    ids: IDS,
+    names: None,
+};
 
-/// The row of a block of the freemap.
-fn map_row(number: u8, keybits: Keybits) -> Row
-    ensures { result ≡ map_row number keybits }
-{
-    Row {
-        methods: Methods::One(Method::Freemap),
-        ..block_row(number, 10, keybits, PLACES)
-    }
-}
+/// The reference that names nothing.
+const EMPTY: Row = Row {
+    methods: Methods::One(Method::Absent),
+    radix: 0,
+    keys: ZERO,
+    ids: ZERO,
+    ..BLOCK
+};
 
-/// The row of an entry whose name stands in it.
-fn inline_row() -> Row
-    ensures { result ≡ inline_row }
-{
-    Row {
-        methods: Methods::One(Method::Absent),
-        flags: RefFlags::INLINE,
-        names: Some(SHORT_NAMES),
-        ..block_row(4, 0, Keybits::Just(0), NAME_KEYS)
-    }
-}
+/// An inode's block.
+const INODE: Row = Row {
+    number: 1,
+    keys: INODES,
+    ..BLOCK
+};
 
-/// The row of a kind and a method's number, which tells the two rows of an entry apart and nothing else.
-pub fn row_of(kind: Kind, method: u8) -> Row
-    ensures { result ≡ row_of kind method }
+/// A block with references to what is below.
+const INDIRECT: Row = Row {
+    number: 2,
+    radix: 12,
+    keybits: Keybits::Between(1, 62),
+    ..BLOCK
+};
+
+/// A part of a file's contents.
+const CONTENT: Row = Row {
+    number: 3,
+    radix: 14,
+    keybits: Keybits::Just(14),
+    keys: CONTENTS,
+    ..BLOCK
+};
+
+/// An entry whose name stands in it.
+const SHORT_ENTRY: Row = Row {
+    methods: Methods::One(Method::Absent),
+    flags: RefFlags::INLINE,
+    radix: 0,
+    names: Some(SHORT_NAMES),
+    ..LONG_ENTRY
+};
+
+/// An entry whose name has a block.
+const LONG_ENTRY: Row = Row {
+    number: 4,
+    keys: NAME_KEYS,
+    names: Some(LONG_NAMES),
+    ..BLOCK
+};
+
+/// A node of the freemap.
+const MAP_NODE: Row = Row {
+    number: 5,
+    methods: Methods::One(Method::Freemap),
+    keybits: Keybits::Either(28, 31),
+    keys: PLACES,
+    ..BLOCK
+};
+
+/// A leaf of the freemap.
+const MAP_LEAF: Row = Row {
+    number: 6,
+    keybits: Keybits::Just(25),
+    ..MAP_NODE
+};
+
+/// The row of a kind and a method's number, which tells the two rows of an entry apart and nothing else. It is lent,
+/// so that no row is made for each reference that is judged.
+pub fn row_of(kind: Kind, method: u8) -> &'static Row
+    ensures { result.now ≡ row_of kind method }
 {
     match kind {
-        Kind::Empty => Row {
-            methods: Methods::One(Method::Absent),
-            ids: ZERO,
-            ..block_row(0, 0, Keybits::Just(0), ZERO)
-        },
-        Kind::Inode => block_row(1, 10, Keybits::Just(0), INODES),
-        Kind::Indirect => block_row(2, 12, Keybits::Between(1, 62), KEYS),
-        Kind::Content => block_row(3, 14, Keybits::Just(14), CONTENTS),
-        Kind::Dirent if method == 0 => inline_row(),
-        Kind::Dirent => Row {
-            names: Some(LONG_NAMES),
-            ..block_row(4, 10, Keybits::Just(0), NAME_KEYS)
-        },
-        Kind::MapNode => map_row(5, Keybits::Either(28, 31)),
-        Kind::MapLeaf => map_row(6, Keybits::Just(25)),
+        Kind::Empty => &EMPTY,
+        Kind::Inode => &INODE,
+        Kind::Indirect => &INDIRECT,
+        Kind::Content => &CONTENT,
+        Kind::Dirent if method == 0 => &SHORT_ENTRY,
+        Kind::Dirent => &LONG_ENTRY,
+        Kind::MapNode => &MAP_NODE,
+        Kind::MapLeaf => &MAP_LEAF,
     }
 }
 

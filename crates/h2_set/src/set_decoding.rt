@@ -1,4 +1,4 @@
-ghost use Rattle.std.specs.Prelude.{◌≡◌, ◌<◌, ◌≤◌, ◌⊎◌, ◌*◌, ◌/◌, ◌+◌, ◌%◌, ℕ, Some, None, All, length, IsTrue, ◌↔◌, IfOk, IfErr, OnOk};
+ghost use Rattle.std.specs.Prelude.{◌≡◌, ◌<◌, ◌≤◌, ◌⊎◌, ◌*◌, ◌/◌, ◌+◌, ◌%◌, ℕ, [], Some, None, All, length, IsTrue, ◌↔◌, IfOk, IfErr, OnOk};
 ghost use Rattle.h2_num.specs.Places.{places};
 ghost use Rattle.h2_ref.specs.Ref.{RefBytes, IsValid, empty_ref};
 ghost use Rattle.h2_ref.specs.Set.{RefsBytes};
@@ -94,23 +94,25 @@ fn extends(set: &Set, r: &Ref) -> bool
     may_follow(set, r.key)
 }
 
-/// The longest front of the references that is a set. The error is the first of them that is refused.
-fn front_of(b: &[u8], capacity: u8) -> Result<Set, SetFault>
+/// Fills an empty set with the longest front of the references that is a set. The error is the first of them that is
+/// refused.
+fn fill_front(b: &[u8], capacity: u8, set: &mut Set) -> Result<(), SetFault>
     requires known { (capacity ≡ 4) ⊎ (capacity ≡ 32) }
     requires whole { length b.now ≡ 128 * capacity }
-    ensures capacity { IfOk result (λ s. s.capacity ≡ capacity) }
-    ensures found { IfOk result (λ s. IsFront capacity s.refs (places b.now)) }
+    requires room { set.old.capacity ≡ capacity }
+    requires empty { set.old.refs ≡ [] }
+    ensures capacity { OnOk result (set.new.capacity ≡ capacity) }
+    ensures found { OnOk result (IsFront capacity set.new.refs (places b.now)) }
     ensures fault { IfErr result (IsRefused capacity (places b.now)) }
 {
-    let mut set = Set::new(capacity);
     for i in 0..capacity as usize {
         let r = ref_at(b, i)?;
-        if !extends(&set, &r) {
-            return Ok(set);
+        if !extends(set, &r) {
+            return Ok(());
         }
         set.put(r);
     }
-    Ok(set)
+    Ok(())
 }
 
 /// Decodes the references from a place on. The error is the first that is refused.
@@ -155,9 +157,11 @@ pub fn decode_set(b: &[u8]) -> Result<Set, SetFault>
     ensures found { IfOk result (λ s. IsSetAt s.capacity s.refs (places b.now)) }
     ensures fault { IfErr result (IsFaultOf (length b.now / 128) (places b.now)) }
 {
-    let front = front_of(b, (b.len() / REF_BYTES) as u8)?;
-    match check_rest(b, front.len()) {
-        Ok(()) => Ok(front),
+    let capacity = (b.len() / REF_BYTES) as u8;
+    let mut set = Set::new(capacity);
+    fill_front(b, capacity, &mut set)?;
+    match check_rest(b, set.len()) {
+        Ok(()) => Ok(set),
         Err(fault) => Err(fault),
     }
 }

@@ -3,8 +3,8 @@ use Rattle.h2_num.specs.Places.{places, from_place}
 use Rattle.h2_inode.proofs.SetLemmas.{refs_fault, lies_there, fault_of_body, set_of_body}
 use Rattle.h2_inode.proofs.contents.refs_of.Goals as goal
 
-pub own_set-requires : goal.own_set-requires
-own_set-requires c =
+pub check_own-requires : goal.check_own-requires
+check_own-requires c =
     let at = set_of_body (length c.contents_of.result.now) c.in-Ok.set.capacity c.in-Ok.set.refs (from_place (places c.args.b.now) 512) (places c.contents_of.result.now) c.in-Ok.ensures.capacity c.contents_of.ensures.len c.contents_of.ensures.bytes c.in-Ok.ensures.found in
     record { capacity = at.0; found = at.1 }
 

@@ -11,7 +11,7 @@ returns c =
     let z = c.area_over_zeros-b.ensures in
     let r = c.args.r.now in
     let method : c.method_number-method.result ≡ method_number r.check = c.method_number-method.ensures.number in
-    let w : c.row_of-w.result ≡ row r = c.row_of-w.ensures ∙ ap (row_of r.kind) method in
+    let w : c.row_of-w.result.now ≡ row r = c.row_of-w.ensures ∙ ap (row_of r.kind) method in
     let number = ap (λ (v : Row). v.number) w ∙ row_numbered r.kind (method_number r.check) in
     let flags = c.bits.ensures tt ∙ ap (λ (v : Row). v.flags.0) w in
     fields_put r (places c.area_over_zeros-b.result) (places c.put_dirent.new.b) (places c.put8.new.b) (places c.put8-2.new.b) (places c.put8-3.new.b) (places c.put8-4.new.b) (places c.put64.new.b) (places c.put64-2.new.b) (places c.put64-3.new.b)

@@ -1,6 +1,7 @@
-use Rattle.std.proofs.Common.{refl, sym, ap, ◌∙◌}
+use Rattle.std.proofs.Common.{refl, sym, ap, ◌∙◌, List, slice_get}
 use Rattle.std.proofs.lemmas.Option.{slice_get_read}
 use Rattle.h2_set.specs.RefSet.{RefSet}
+use Rattle.h2_memory_sets.specs.declared.node.Node.{Node}
 use Rattle.h2_memory_sets.proofs.Drops.{dropped_written, dropped_length}
 use Rattle.h2_memory_sets.proofs.Stored.{stored}
 use Rattle.h2_memory_sets.proofs.Nodes.{is_there}
@@ -13,9 +14,9 @@ returns-clause-stores c =
     let x = c.index-x.result.now in
     let there = is_there xs c.args.at.0 c.requires.stands in
     let read = slice_get_read xs _ c.args.at.0 x refl there c.index-x.ensures in
-    let items_is = dropped_written xs c.deref_mut.result.now c.drop_all.new.nodes p.nodes.len x.root x.bits c.copy-old.result.refs (let t : RefSet = c.args.set in t.refs) (sym (c.drop_all.auto.nodes ∙ c.deref_mut.ensures.len)) c.deref_mut.ensures.value c.drop_all.ensures in
-    let read_y = slice_get_read _ _ c.args.at.0 c.index_mut.result.now refl (dropped_length xs x.root x.bits c.copy-old.result.refs (let t : RefSet = c.args.set in t.refs) _ c.args.at.0 items_is there) c.index_mut.ensures.value in
-    (stored xs _ c.args.at.0 x c.index_mut.result.now c.args.set c.copy-old.result.refs p.spare p.epoch p.room p.failed p.bad p.met c.requires.sound c.requires.stands c.requires.storable p.rooted p.kept items_is (ap (λ (t : RefSet). t.refs) c.copy-old.ensures.same) read read_y c.give_set.new.x c.give_set.ensures).stores
+    let items_is = dropped_written xs c.deref_mut.result.now c.drop_lost.new.nodes p.nodes.len x.root x.bits (let t : RefSet = x.set in t.refs) (let t : RefSet = c.args.set in t.refs) (sym (c.drop_lost.auto.nodes ∙ c.deref_mut.ensures.len)) c.deref_mut.ensures.value (c.drop_lost.ensures x (ap (λ (l : List Node). slice_get l c.args.at.0) c.deref_mut.ensures.value ∙ read)) in
+    let read_y = slice_get_read _ _ c.args.at.0 c.index_mut.result.now refl (dropped_length xs x.root x.bits (let t : RefSet = x.set in t.refs) (let t : RefSet = c.args.set in t.refs) _ c.args.at.0 items_is there) c.index_mut.ensures.value in
+    (stored xs _ c.args.at.0 x c.index_mut.result.now c.args.set (let t : RefSet = x.set in t.refs) p.spare p.epoch p.room p.failed p.bad p.met c.requires.sound c.requires.stands c.requires.storable p.rooted p.kept items_is refl read read_y c.give_set.new.x c.give_set.ensures).stores
 
 pub invariant_of-self-clause-rooted : goal.invariant_of-self-clause-rooted
 invariant_of-self-clause-rooted c =
@@ -24,9 +25,9 @@ invariant_of-self-clause-rooted c =
     let x = c.index-x.result.now in
     let there = is_there xs c.args.at.0 c.requires.stands in
     let read = slice_get_read xs _ c.args.at.0 x refl there c.index-x.ensures in
-    let items_is = dropped_written xs c.deref_mut.result.now c.drop_all.new.nodes p.nodes.len x.root x.bits c.copy-old.result.refs (let t : RefSet = c.args.set in t.refs) (sym (c.drop_all.auto.nodes ∙ c.deref_mut.ensures.len)) c.deref_mut.ensures.value c.drop_all.ensures in
-    let read_y = slice_get_read _ _ c.args.at.0 c.index_mut.result.now refl (dropped_length xs x.root x.bits c.copy-old.result.refs (let t : RefSet = c.args.set in t.refs) _ c.args.at.0 items_is there) c.index_mut.ensures.value in
-    (stored xs _ c.args.at.0 x c.index_mut.result.now c.args.set c.copy-old.result.refs p.spare p.epoch p.room p.failed p.bad p.met c.requires.sound c.requires.stands c.requires.storable p.rooted p.kept items_is (ap (λ (t : RefSet). t.refs) c.copy-old.ensures.same) read read_y c.give_set.new.x c.give_set.ensures).rooted
+    let items_is = dropped_written xs c.deref_mut.result.now c.drop_lost.new.nodes p.nodes.len x.root x.bits (let t : RefSet = x.set in t.refs) (let t : RefSet = c.args.set in t.refs) (sym (c.drop_lost.auto.nodes ∙ c.deref_mut.ensures.len)) c.deref_mut.ensures.value (c.drop_lost.ensures x (ap (λ (l : List Node). slice_get l c.args.at.0) c.deref_mut.ensures.value ∙ read)) in
+    let read_y = slice_get_read _ _ c.args.at.0 c.index_mut.result.now refl (dropped_length xs x.root x.bits (let t : RefSet = x.set in t.refs) (let t : RefSet = c.args.set in t.refs) _ c.args.at.0 items_is there) c.index_mut.ensures.value in
+    (stored xs _ c.args.at.0 x c.index_mut.result.now c.args.set (let t : RefSet = x.set in t.refs) p.spare p.epoch p.room p.failed p.bad p.met c.requires.sound c.requires.stands c.requires.storable p.rooted p.kept items_is refl read read_y c.give_set.new.x c.give_set.ensures).rooted
 
 pub invariant_of-self-clause-kept : goal.invariant_of-self-clause-kept
 invariant_of-self-clause-kept c =
@@ -35,9 +36,9 @@ invariant_of-self-clause-kept c =
     let x = c.index-x.result.now in
     let there = is_there xs c.args.at.0 c.requires.stands in
     let read = slice_get_read xs _ c.args.at.0 x refl there c.index-x.ensures in
-    let items_is = dropped_written xs c.deref_mut.result.now c.drop_all.new.nodes p.nodes.len x.root x.bits c.copy-old.result.refs (let t : RefSet = c.args.set in t.refs) (sym (c.drop_all.auto.nodes ∙ c.deref_mut.ensures.len)) c.deref_mut.ensures.value c.drop_all.ensures in
-    let read_y = slice_get_read _ _ c.args.at.0 c.index_mut.result.now refl (dropped_length xs x.root x.bits c.copy-old.result.refs (let t : RefSet = c.args.set in t.refs) _ c.args.at.0 items_is there) c.index_mut.ensures.value in
-    (stored xs _ c.args.at.0 x c.index_mut.result.now c.args.set c.copy-old.result.refs p.spare p.epoch p.room p.failed p.bad p.met c.requires.sound c.requires.stands c.requires.storable p.rooted p.kept items_is (ap (λ (t : RefSet). t.refs) c.copy-old.ensures.same) read read_y c.give_set.new.x c.give_set.ensures).kept
+    let items_is = dropped_written xs c.deref_mut.result.now c.drop_lost.new.nodes p.nodes.len x.root x.bits (let t : RefSet = x.set in t.refs) (let t : RefSet = c.args.set in t.refs) (sym (c.drop_lost.auto.nodes ∙ c.deref_mut.ensures.len)) c.deref_mut.ensures.value (c.drop_lost.ensures x (ap (λ (l : List Node). slice_get l c.args.at.0) c.deref_mut.ensures.value ∙ read)) in
+    let read_y = slice_get_read _ _ c.args.at.0 c.index_mut.result.now refl (dropped_length xs x.root x.bits (let t : RefSet = x.set in t.refs) (let t : RefSet = c.args.set in t.refs) _ c.args.at.0 items_is there) c.index_mut.ensures.value in
+    (stored xs _ c.args.at.0 x c.index_mut.result.now c.args.set (let t : RefSet = x.set in t.refs) p.spare p.epoch p.room p.failed p.bad p.met c.requires.sound c.requires.stands c.requires.storable p.rooted p.kept items_is refl read read_y c.give_set.new.x c.give_set.ensures).kept
 
 pub returns-clause-beside : goal.returns-clause-beside
 returns-clause-beside c =
@@ -46,6 +47,6 @@ returns-clause-beside c =
     let x = c.index-x.result.now in
     let there = is_there xs c.args.at.0 c.requires.stands in
     let read = slice_get_read xs _ c.args.at.0 x refl there c.index-x.ensures in
-    let items_is = dropped_written xs c.deref_mut.result.now c.drop_all.new.nodes p.nodes.len x.root x.bits c.copy-old.result.refs (let t : RefSet = c.args.set in t.refs) (sym (c.drop_all.auto.nodes ∙ c.deref_mut.ensures.len)) c.deref_mut.ensures.value c.drop_all.ensures in
-    let read_y = slice_get_read _ _ c.args.at.0 c.index_mut.result.now refl (dropped_length xs x.root x.bits c.copy-old.result.refs (let t : RefSet = c.args.set in t.refs) _ c.args.at.0 items_is there) c.index_mut.ensures.value in
-    (stored xs _ c.args.at.0 x c.index_mut.result.now c.args.set c.copy-old.result.refs p.spare p.epoch p.room p.failed p.bad p.met c.requires.sound c.requires.stands c.requires.storable p.rooted p.kept items_is (ap (λ (t : RefSet). t.refs) c.copy-old.ensures.same) read read_y c.give_set.new.x c.give_set.ensures).beside
+    let items_is = dropped_written xs c.deref_mut.result.now c.drop_lost.new.nodes p.nodes.len x.root x.bits (let t : RefSet = x.set in t.refs) (let t : RefSet = c.args.set in t.refs) (sym (c.drop_lost.auto.nodes ∙ c.deref_mut.ensures.len)) c.deref_mut.ensures.value (c.drop_lost.ensures x (ap (λ (l : List Node). slice_get l c.args.at.0) c.deref_mut.ensures.value ∙ read)) in
+    let read_y = slice_get_read _ _ c.args.at.0 c.index_mut.result.now refl (dropped_length xs x.root x.bits (let t : RefSet = x.set in t.refs) (let t : RefSet = c.args.set in t.refs) _ c.args.at.0 items_is there) c.index_mut.ensures.value in
+    (stored xs _ c.args.at.0 x c.index_mut.result.now c.args.set (let t : RefSet = x.set in t.refs) p.spare p.epoch p.room p.failed p.bad p.met c.requires.sound c.requires.stands c.requires.storable p.rooted p.kept items_is refl read read_y c.give_set.new.x c.give_set.ensures).beside

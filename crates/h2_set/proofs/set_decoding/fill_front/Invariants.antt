@@ -1,7 +1,7 @@
 use Rattle.std.proofs.Common.{◌≡◌, length}
 use Rattle.h2_num.specs.Places.{places}
 use Rattle.h2_set.specs.Front.{FrontAt}
-use Rattle.h2_set.proofs.set_decoding.front_of.Given as goal
+use Rattle.h2_set.proofs.set_decoding.fill_front.Given as goal
 
 abbrev pub invariant-loop-i : goal.invariant-loop-i
 invariant-loop-i l = record {

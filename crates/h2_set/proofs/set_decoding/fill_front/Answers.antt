@@ -1,7 +1,7 @@
 use Rattle.h2_num.specs.Places.{places}
 use Rattle.h2_set.specs.ValidLaws.{valid_limit}
 use Rattle.h2_set.proofs.Fronts.{apart_last, front_step}
-use Rattle.h2_set.proofs.set_decoding.front_of.Goals as goal
+use Rattle.h2_set.proofs.set_decoding.fill_front.Goals as goal
 
 pub put-requires-clause-apart : goal.put-requires-clause-apart
 put-requires-clause-apart c = apart_last c.in_ok-r.r c.loop-i.set.refs (c.extends.ensures.0 c.if-not-extends.false).1
