@@ -20,3 +20,4 @@ pub mod Entries
 pub mod Known
 pub mod Way
 pub mod Stepping
+pub mod Agreed

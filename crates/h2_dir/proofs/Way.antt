@@ -51,7 +51,7 @@ pub record KnowsRoot (v : View) (may : ℕ → ℕ → Bool) (c : ℕ) (name : L
 
 -- the root that was sought is the one that the leaf names in the reading
 module _ (u v : View) (pfs c : ℕ) (leaf : Ref) (seeks : Seeks u.forest v.forest pfs leaf.key c) where
-  same_root : (t : Tree) (i : Inode) (d : ℕ) → NamesInode u.forest u.holds u.tells (at_root pfs) leaf i t → IsSameTree u v t (at_root d) → v.forest.stands d ≡ true → d ≡ c
+  pub same_root : (t : Tree) (i : Inode) (d : ℕ) → NamesInode u.forest u.holds u.tells (at_root pfs) leaf i t → IsSameTree u v t (at_root d) → v.forest.stands d ≡ true → d ≡ c
   same_root (at_root m) i d (inl (e, named, has, is)) same stands =
       let tree : at_root m ≡ at_root e = is in
       let at : m ≡ e = (cc) in
