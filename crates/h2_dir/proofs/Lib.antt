@@ -21,3 +21,6 @@ pub mod Known
 pub mod Way
 pub mod Stepping
 pub mod Agreed
+pub mod Agreeing
+pub mod FoundLaws
+pub mod RootLaws

@@ -15,7 +15,7 @@ use Rattle.h2_inode.specs.LoadedLaws.{rereads_follow, alike_stands, alike_leaves
 use Rattle.h2_dir.specs.declared.fault.DirFault.{DirFault}
 use Rattle.h2_dir.specs.declared.fault.DirFault.TheVariants as fault
 use Rattle.h2_dir.specs.Finding.{FindFails, IsBadBlock}
-use Rattle.h2_dir.specs.FoundLaws.{reached_in}
+use Rattle.h2_dir.proofs.FoundLaws.{reached_in}
 use Rattle.h2_dir.specs.Members.{at_place}
 use Rattle.h2_dir.specs.Knowing.{KnowsEntries, KnowsInode, KnowsWay}
 

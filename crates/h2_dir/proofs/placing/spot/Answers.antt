@@ -6,7 +6,7 @@ use Rattle.h2_inode.specs.VisitLaws.{walks_visit, visits_inode}
 use Rattle.h2_dirkey.specs.Key.{IsPicked}
 use Rattle.h2_dirkey.specs.NameLaws.{no_fault}
 use Rattle.h2_dir.specs.Names.{Scanned, NoneNamed, IsPlaceOfName}
-use Rattle.h2_dir.specs.Agreeing.{found_between, missing_between}
+use Rattle.h2_dir.proofs.Agreeing.{found_between, missing_between}
 use Rattle.h2_dir.specs.declared.fault.DirFault.TheVariants as fault
 use Rattle.h2_dir.specs.Finding.{IsBadBlock}
 use Rattle.h2_dir.proofs.Known.{entries_named}
