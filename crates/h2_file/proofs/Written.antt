@@ -1,6 +1,6 @@
 -- The blocks of a write are what the file with the written bytes asks for.
-use Rattle.std.specs.Prelude.{◌≡◌, ◌⊎◌, ℕ, zero, suc, ◌+◌, ◌-◌, ◌*◌, ◌/◌, ◌%◌, ◌^◌, ◌<◌, ◌≤◌, max, true, false, cond, nat_lt, nat_le, ◌&&◌, List, length, Option, Some, None, slice_get, slice_index, refl}
-use Rattle.std.proofs.Common.{ap, sym, ◌∙◌, arith, subst, inl, inr}
+use Rattle.std.specs.Prelude.{◌≡◌, ◌⊎◌, ℕ, ◌+◌, ◌*◌, ◌/◌, ◌%◌, ◌^◌, ◌<◌, ◌≤◌, max, true, false, List, length, Option, Some, None, slice_get, slice_index, refl}
+use Rattle.std.proofs.Common.{ap, sym, ◌∙◌, arith, inl, inr}
 use Rattle.std.proofs.lemmas.Bool.{cases_lt}
 use Rattle.std.proofs.lemmas.Bool.Decides.{nat_tests}
 use Rattle.h2_num.specs.Places.{Places, places}
@@ -15,7 +15,7 @@ use Rattle.h2_contents.specs.ByteLaws.{byte_written, length-written_at}
 use Rattle.h2_contents.specs.Windows.{laid}
 use Rattle.h2_file.specs.declared.blocks.Touched.{Touched}
 use Rattle.h2_file.specs.Touching.{IsEmbedded, Touches, IsTouched, TouchesBlocks}
-use Rattle.h2_file.specs.Linking.{AreBlocks, IsBlock}
+use Rattle.h2_file.specs.Linking.{AreBlocks}
 use Rattle.h2_file.specs.FileContents.{IsBlockOf, LinksBytes, CoversBytes}
 use Rattle.h2_file.specs.Writing.{IsPut, AreOfTouched, IsMerged, ReadsBlock}
 use Rattle.h2_file.proofs.Lifted.{zero_covers, none_covers}
