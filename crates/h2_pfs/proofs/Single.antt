@@ -1,7 +1,7 @@
 -- Where each leaf names one root at most, it still does once a PFS came or went.
 use Rattle.std.proofs.Common.{◌≡◌, ℕ, true, false, sym, ◌∙◌, Option}
 use Rattle.h2_ref.specs.declared.reference.Ref.{Ref}
-use Rattle.h2_set.specs.Forest.{Forest, IsSound}
+use Rattle.h2_set.specs.Forest.{Forest}
 use Rattle.h2_set.specs.StayLaws.{InPlace-trans}
 use Rattle.h2_tree.specs.Changes.{Removes}
 use Rattle.h2_inode.specs.declared.inode.Inode.{Inode}
