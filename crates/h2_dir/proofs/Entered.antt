@@ -23,7 +23,7 @@ pub record Put (P : Ref → Pair → Type 0) (xs : List Ref) (ys : List Pair) (r
   pub each : OneByOne P (put r xs) named
   pub same : IsPermutation (y ∷ ys) named
 
-holds_own : (q : Ref) → holds q.key q ≡ true
+pub holds_own : (q : Ref) → holds q.key q ≡ true
 holds_own q = let pos = pow_pos q.keybits in in_holds q.key q (omega arith) (omega (arith, pos))
 
 put_second : (P : Ref → Pair → Type 0) (q r : Ref) (qs : List Ref) (z y : Pair) (zs : List Pair) → nat_lt r.key q.key ≡ false → find r.key (q ∷ qs) ≡ None → OneByOne P (q ∷ qs) (z ∷ zs)

@@ -19,3 +19,7 @@ pub mod Entries
 pub mod Known
 pub mod Way
 pub mod Stepping
+pub mod Agreed
+pub mod Agreeing
+pub mod FoundLaws
+pub mod RootLaws

@@ -13,7 +13,7 @@ use Rattle.h2_dirkey.specs.Key.{upper_bits, least_key}
 use Rattle.h2_dir.specs.Names.{AnyLongCandidate, NoneNamed, IsPlaceOfName, Scanned}
 use Rattle.h2_dir.specs.Finding.{last_key, IsFound, IsMissing, MayLoad}
 use Rattle.h2_dir.proofs.Unchanging.{named_stays, may_stays}
-use Rattle.h2_dir.specs.Agreeing.{key_between}
+use Rattle.h2_dir.proofs.Agreeing.{key_between}
 
 touched_same : (f g h : Forest) (from to : ℕ) → LoadsTouched f g from to → Unchanged g h → LoadsTouched f h from to
 touched_same f g h from to touched same = record {

@@ -15,7 +15,7 @@ use Rattle.h2_inode.specs.LoadedLaws.{rereads_follow, alike_stands, alike_leaves
 use Rattle.h2_dir.specs.declared.fault.DirFault.{DirFault}
 use Rattle.h2_dir.specs.declared.fault.DirFault.TheVariants as fault
 use Rattle.h2_dir.specs.Finding.{FindFails, IsBadBlock}
-use Rattle.h2_dir.specs.FoundLaws.{reached_in}
+use Rattle.h2_dir.proofs.FoundLaws.{reached_in}
 use Rattle.h2_dir.specs.Members.{at_place}
 use Rattle.h2_dir.specs.Knowing.{KnowsEntries, KnowsInode, KnowsWay}
 
@@ -51,7 +51,7 @@ pub record KnowsRoot (v : View) (may : ℕ → ℕ → Bool) (c : ℕ) (name : L
 
 -- the root that was sought is the one that the leaf names in the reading
 module _ (u v : View) (pfs c : ℕ) (leaf : Ref) (seeks : Seeks u.forest v.forest pfs leaf.key c) where
-  same_root : (t : Tree) (i : Inode) (d : ℕ) → NamesInode u.forest u.holds u.tells (at_root pfs) leaf i t → IsSameTree u v t (at_root d) → v.forest.stands d ≡ true → d ≡ c
+  pub same_root : (t : Tree) (i : Inode) (d : ℕ) → NamesInode u.forest u.holds u.tells (at_root pfs) leaf i t → IsSameTree u v t (at_root d) → v.forest.stands d ≡ true → d ≡ c
   same_root (at_root m) i d (inl (e, named, has, is)) same stands =
       let tree : at_root m ≡ at_root e = is in
       let at : m ≡ e = (cc) in

@@ -1,11 +1,8 @@
 pub mod Names
 pub mod Finding
 pub mod Members
-pub mod Agreeing
-pub mod FoundLaws
 pub mod Placing
 pub mod Changing
-pub mod RootLaws
 pub mod Others
 pub mod Walking
 pub mod Knowing

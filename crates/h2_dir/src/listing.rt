@@ -10,6 +10,7 @@ ghost use Rattle.h2_inode.specs.Directory.{Entries};
 ghost use Rattle.h2_dir.specs.Names.{IsNamed, AllNamed};
 ghost use Rattle.h2_dir.specs.Finding.{HoldsEntries, IsBadBlock};
 ghost use Rattle.h2_dir.specs.Listing.{IsEntryLeaf, SaysEntry, HasLongName, AnyLongName, IsListing, ListFails, by_name, entries_of};
+ghost use Rattle.h2_dir.specs.Walking.{LoadsNone};
 
 use crate::fault::DirFault;
 use crate::finding::is_directory;
@@ -79,9 +80,9 @@ fn sort_by_name(all: &mut Vec<(Name, u64)>) -> Result<(), AllocError>
 /// The names and the numbers of a directory's entries, in byte order of the names. Each block of the tree is loaded,
 /// and the name of each entry with more than 64 bytes is read; no node is loaded but of this tree.
 ///
-/// NotDir exactly where the inode isn't that of a directory; never NoEntry or Exists. Trouble only where a node that may
-/// have entries isn't loaded or an entry has such a name, or for want of memory; never a bad block where the directory's
-/// entries are known.
+/// NotDir exactly where the inode isn't that of a directory, and then nothing is loaded; never NoEntry or Exists. Trouble
+/// only where a node that may have entries isn't loaded or an entry has such a name, or for want of memory; never a bad
+/// block where the directory's entries are known.
 pub fn list<N: Nodes>(alloc: Global, n: &mut N, dir: NodeId) -> Result<Vec<(Name, u64)>, DirFault>
     requires sound { IsSound (N.forest n.old) }
     requires inode { (i : Inode) × HasInode (N.forest n.old) (held_by N.fields (N.beside n.old)) dir.0 i }
@@ -91,6 +92,7 @@ pub fn list<N: Nodes>(alloc: Global, n: &mut N, dir: NodeId) -> Result<Vec<(Name
     ensures kind { (i : Inode) → HasInode (N.forest n.old) (held_by N.fields (N.beside n.old)) dir.0 i → IfOk result (λ v. i.kind ≡ Directory) }
     ensures err { (i : Inode) → HasInode (N.forest n.old) (held_by N.fields (N.beside n.old)) dir.0 i → IfErr result (ListFails (N.forest n.old) (N.forest n.new) i.kind dir.0) }
     ensures good { (may : ℕ → ℕ → Bool) (size : ℕ) (entries : Entries) → HoldsEntries (N.forest n.old) (held_by N.fields (N.beside n.old)) (N.told n.old) may dir.0 size entries → IfErr result (λ e. IsBadBlock e → ⊥) }
+    ensures none { (i : Inode) → HasInode (N.forest n.old) (held_by N.fields (N.beside n.old)) dir.0 i → (i.kind ≡ Directory → ⊥) → LoadsNone (N.forest n.old) (N.forest n.new) }
     ensures touched { LoadsIn (N.forest n.old) (N.forest n.new) dir.0 (2 ^ 63) (2 ^ 64 - 1) }
     ensures beside { KeepsBeside (N.forest n.old) (N.forest n.new) (N.beside n.old) (N.beside n.new) }
     ensures later { N.later n.old n.new }

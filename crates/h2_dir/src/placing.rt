@@ -10,6 +10,7 @@ ghost use Rattle.h2_inode.specs.Nodes.{held_by, HasInode};
 ghost use Rattle.h2_inode.specs.Directory.{Entries};
 ghost use Rattle.h2_dir.specs.Finding.{last_key, HoldsEntries, IsBadBlock};
 ghost use Rattle.h2_dir.specs.Placing.{IsSpot, SpotFails, SpotAgrees};
+ghost use Rattle.h2_dir.specs.Walking.{LoadsNone};
 
 use crate::fault::DirFault;
 use crate::finding::is_directory;
@@ -46,7 +47,7 @@ fn free_key(alloc: Global, leaves: &[Ref], least: u64) -> Result<u64, NoMemory>
 
 /// The key that a new entry of a directory with this name gets: the least one with the upper bits of the name's keys
 /// that no entry has. The name is one that an entry may have. Afterwards the key's path is loaded, as all paths of the
-/// name's keys are; what is loaded and read is as in `find`.
+/// name's keys are; what is loaded and read is as in `find`, and nothing is loaded with NotDir.
 ///
 /// Exists exactly where an entry has the name, NotDir exactly where the inode isn't that of a directory; never NoEntry.
 /// Trouble as in `find`. A directory has at most 4096 entries, so one of the 32768 keys is free; where a volume that
@@ -61,6 +62,7 @@ pub fn spot<N: Nodes>(alloc: Global, n: &mut N, dir: NodeId, name: &[u8]) -> Res
     ensures err { (i : Inode) → HasInode (N.forest n.old) (held_by N.fields (N.beside n.old)) dir.0 i → IfErr result (SpotFails (N.forest n.old) (N.forest n.new) i.kind dir.0 name.now) }
     ensures agrees { (may : ℕ → ℕ → Bool) (size : ℕ) (entries : Entries) → HoldsEntries (N.forest n.old) (held_by N.fields (N.beside n.old)) (N.told n.old) may dir.0 size entries → SpotAgrees entries name.now result }
     ensures good { (may : ℕ → ℕ → Bool) (size : ℕ) (entries : Entries) → HoldsEntries (N.forest n.old) (held_by N.fields (N.beside n.old)) (N.told n.old) may dir.0 size entries → IfErr result (λ e. IsBadBlock e → ⊥) }
+    ensures none { (i : Inode) → HasInode (N.forest n.old) (held_by N.fields (N.beside n.old)) dir.0 i → (i.kind ≡ Directory → ⊥) → LoadsNone (N.forest n.old) (N.forest n.new) }
     ensures touched { LoadsIn (N.forest n.old) (N.forest n.new) dir.0 (least_key name.now) (last_key name.now) }
     ensures beside { KeepsBeside (N.forest n.old) (N.forest n.new) (N.beside n.old) (N.beside n.new) }
     ensures later { N.later n.old n.new }

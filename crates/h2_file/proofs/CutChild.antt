@@ -15,13 +15,13 @@ use Rattle.h2_set.specs.ChangeLaws.{Keeps-Stays, Keeps-trans, leaves_move, same_
 use Rattle.h2_set.specs.RenewLaws.{Keeps-Renews, Renews-trans, Alike-length, LikeAt, like_at, Alike-sym}
 use Rattle.h2_tree.specs.Changes.{Under, LoadsIn, WalksUnder, PathUnloaded}
 use Rattle.h2_file.specs.Blocks.{HasContents}
-use Rattle.h2_file.specs.Cutting.{IsCutBlock, cut_to, front, leads, Cuts, cut_block, ReachesBy, misses, arrives}
+use Rattle.h2_file.specs.Cutting.{IsCutBlock, cut_to, front, leads, Cuts, kept_to, ReachesBy, misses, arrives}
 use Rattle.h2_file.proofs.Answering.{In-on}
 use Rattle.h2_file.proofs.Parts.{Alike-take, cut_append, Parted, leaves_parted, leaves_join, take_from, taken_at, take_next, in_order}
 use Rattle.h2_file.proofs.Onward.{contents_root, onward}
 use Rattle.h2_file.proofs.Altered.{contents_keep}
 use Rattle.h2_file.proofs.Fronts.{reaches_keeps, same_holds, same_holds_back}
-use Rattle.h2_file.proofs.CutLevels.{Readied, FrontLeft, nothing_left, none_before, none_upto, none_of, own_below, cut_parts, block_le}
+use Rattle.h2_file.proofs.CutLevels.{Readied, FrontLeft, nothing_left, none_before, none_upto, none_of, own_below, cut_parts, kept_le}
 
 -- A load of what the last reference below the size leads to
 
@@ -281,10 +281,10 @@ module _ (f h : Forest) (at count size : ℕ) (last : Option Ref) (r : Ref) (sou
   pub past_front : (k : Forest) → Walks h k → (key : ℕ) → size ≤ key → FrontLeft k at (front (count - 1) None (refs k at)) size last key
   past_front k after key le = nothing_left k at (take (count - 1) (refs k at)) size last key (none_before _ _ (refs k at) (count - 1) size key r (after.sound.node at (after.stays at stands_h).place.stands).inside (ap (λ (s : RefSet). slice_get s.refs (count - 1)) (after.sets at stands_h) ∙ read_at_h) low le)
 
-  key_at : (key j : ℕ) (q : Ref) → key < cut_block size → slice_get (refs h at) j ≡ Some q → holds key q ≡ true → j < count
+  key_at : (key j : ℕ) (q : Ref) → key < kept_to size last → slice_get (refs h at) j ≡ Some q → holds key q ≡ true → j < count
   key_at key j q lt read' in_q = elim (cases_lt j count) as (λ _. j < count) [
     | inl less ↦ less
-    | inr le ↦ absurd (let a = past_h j q read' le in let b = (holds_inside key q in_q).0 in let d = block_le size in omega (arith, a, b, d, lt))
+    | inr le ↦ absurd (let a = past_h j q read' le in let b = (holds_inside key q in_q).0 in let d = kept_le size last in omega (arith, a, b, d, lt))
   ]
 
   -- the child's own reference and node, by its place
@@ -303,7 +303,7 @@ module _ (f h : Forest) (at count size : ℕ) (last : Option Ref) (r : Ref) (sou
     keeps_at : Keeps h k at
     keeps_at = kept f h at (count - 1) size r sound stands read ind in_r walks loads c link k last cuts
 
-    go : {key : ℕ} {o : Option Ref} → Reaches h key at o → key < cut_block size → ReachesBy k key at (take count (refs k at)) o
+    go : {key : ℕ} {o : Option Ref} → Reaches h key at o → key < kept_to size last → ReachesBy k key at (take count (refs k at)) o
     go {key} (nowhere miss) lt = misses (λ i q read'.
         let there = (take_from count (refs k at) i q read').1 in
         let back = like_at (refs k at) (refs h at) (Alike-sym (refs h at) (refs k at) keeps_at.alike) i q there in
@@ -322,7 +322,7 @@ module _ (f h : Forest) (at count size : ℕ) (last : Option Ref) (r : Ref) (sou
         ] in
         leads {c = d} {r = it.ref} i (taken_at count (refs k at) i it.ref it.read less) (same_holds key x it.ref true it.like in_x) (ap leads_on it.like.kind ∙ ind_x) link_k rest_k
 
-    pub before_cut : (key : ℕ) (o : Option Ref) → key < cut_block size → Reaches f key at o → ReachesBy k key at (front count None (refs k at)) o
+    pub before_cut : (key : ℕ) (o : Option Ref) → key < kept_to size last → Reaches f key at o → ReachesBy k key at (front count None (refs k at)) o
     before_cut key o lt reached = go (Reaches-walks sound walks stands reached) lt
 
   module _ (clear : (key : ℕ) (o : Option Ref) → key < size → Reaches h key c o → o ≡ None) where
@@ -330,7 +330,7 @@ module _ (f h : Forest) (at count size : ℕ) (last : Option Ref) (r : Ref) (sou
       same_refs : take (count - 1) (refs h at) ≡ take (count - 1) (refs k at)
       same_refs = ap (λ (s : RefSet). take (count - 1) s.refs) (sym (after.sets at stands_h))
 
-      go_front : {key : ℕ} {o : Option Ref} → Reaches h key at o → key < cut_block size → ReachesBy k key at (take (count - 1) (refs h at)) o
+      go_front : {key : ℕ} {o : Option Ref} → Reaches h key at o → key < kept_to size last → ReachesBy k key at (take (count - 1) (refs h at)) o
       go_front (nowhere miss) lt = misses (λ i q read'. miss i q ((take_from (count - 1) (refs h at) i q read').1))
       go_front {key} (here {r = x} i read' in_x k') lt = elim (same_or_not i (count - 1)) as (λ _. ReachesBy k key at (take (count - 1) (refs h at)) (Some x)) [
         | inl same ↦
@@ -343,7 +343,7 @@ module _ (f h : Forest) (at count size : ℕ) (last : Option Ref) (r : Ref) (sou
       go_front {key} {o} (below {c = d} {r = x} i read' in_x ind_x link_x rest) lt = elim (same_or_not i (count - 1)) as (λ _. ReachesBy k key at (take (count - 1) (refs h at)) o) [
         | inl same ↦
             let own = own_place i d x same read' link_x in
-            let none = clear key o (let b = block_le size in omega (arith, b, lt)) (subst (λ z. Reaches h key z o) own.1 rest) in
+            let none = clear key o (let b = kept_le size last in omega (arith, b, lt)) (subst (λ z. Reaches h key z o) own.1 rest) in
             let inside = holds_inside key x in_x in
             subst (λ y. ReachesBy k key at (take (count - 1) (refs h at)) y) (sym none) (misses (λ j q read''.
             let it = take_from (count - 1) (refs h at) j q read'' in
@@ -354,7 +354,7 @@ module _ (f h : Forest) (at count size : ℕ) (last : Option Ref) (r : Ref) (sou
             leads {c = d} {r = x} i (taken_at (count - 1) (refs h at) i x read' (omega (arith, less, ne))) in_x ind_x ((after.stays at stands_h).near x.key d link_x) (Reaches-walks walks.sound after (stands_below h walks.sound at x.key d stands_h link_x) rest)
       ]
 
-      pub before_front : (key : ℕ) (o : Option Ref) → key < cut_block size → Reaches f key at o → ReachesBy k key at (front (count - 1) None (refs k at)) o
+      pub before_front : (key : ℕ) (o : Option Ref) → key < kept_to size last → Reaches f key at o → ReachesBy k key at (front (count - 1) None (refs k at)) o
       before_front key o lt reached = subst (λ rs. ReachesBy k key at rs o) same_refs (go_front (Reaches-walks sound walks stands reached) lt)
 
     go_none : {key : ℕ} {o : Option Ref} → Reaches h key at o → count ≡ 1 → key < size → o ≡ None

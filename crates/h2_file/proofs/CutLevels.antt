@@ -14,7 +14,7 @@ use Rattle.h2_set.specs.ChangeLaws.{Keeps-refl, Keeps-trans, same_or_not}
 use Rattle.h2_set.specs.RenewLaws.{Keeps-Renews, Renews-trans}
 use Rattle.h2_tree.specs.Changes.{Under, LoadsIn, WalksUnder}
 use Rattle.h2_file.specs.Blocks.{HasContents}
-use Rattle.h2_file.specs.Cutting.{cut_block, IsCutBlock, in_place, cut_to, front, FitsLast, ReachesBy, misses, arrives, IsLeft, KeepsFront, Cuts, leads}
+use Rattle.h2_file.specs.Cutting.{cut_block, kept_to, IsCutBlock, in_place, cut_to, front, FitsLast, ReachesBy, misses, arrives, IsLeft, KeepsFront, Cuts, leads}
 use Rattle.h2_file.proofs.Answering.{In-refl, In-on, none_in}
 use Rattle.h2_file.proofs.Parts.{cut_append, cut_one, cut_key, end_block, Parted, leaves_parted, leaves_join, behind_gone, before_stays, take_from, drop_from, take_next, set_next, in_order, taken_at}
 
@@ -88,7 +88,7 @@ in_append [] x (suc i) y e = absurd (none-some y e)
 in_append (z ∷ xs) x zero y e = inl e
 in_append (z ∷ xs) x (suc i) y e = in_append xs x i y e
 
-pub cuts_front : (f k g : Forest) (at size count : ℕ) (last last' : Option Ref) → Readied f k at size → KeepsFront k g at count last' → ((l : List Ref) → LeavesOf f at l → HasLeaves k at (front count last' (refs k at)) (cut_to size last l)) → ((key : ℕ) → size ≤ key → FrontLeft k at (front count last' (refs k at)) size last key) → ((key : ℕ) (o : Option Ref) → key < cut_block size → Reaches f key at o → ReachesBy k key at (front count last' (refs k at)) o) → Cuts f g at size last
+pub cuts_front : (f k g : Forest) (at size count : ℕ) (last last' : Option Ref) → Readied f k at size → KeepsFront k g at count last' → ((l : List Ref) → LeavesOf f at l → HasLeaves k at (front count last' (refs k at)) (cut_to size last l)) → ((key : ℕ) → size ≤ key → FrontLeft k at (front count last' (refs k at)) size last key) → ((key : ℕ) (o : Option Ref) → key < kept_to size last → Reaches f key at o → ReachesBy k key at (front count last' (refs k at)) o) → Cuts f g at size last
 cuts_front f k g at size count last last' mid keeps leaves past before = record {
   sound = keeps.sound;
   fixed = Fixed-trans f k g (λ m st st'. keeps.none_new m st') mid.fixed keeps.fixed;
@@ -191,8 +191,9 @@ clear_here size (nowhere miss) past lt = refl
 clear_here {key = key} size (here {r = r} i read in_r k) past lt = absurd (let a = past i r read in let b = (holds_inside key r in_r).0 in omega (arith, a, b, lt))
 clear_here {key = key} size (below {r = r} i read in_r ind link rest) past lt = absurd (let a = past i r read in let b = (holds_inside key r in_r).0 in omega (arith, a, b, lt))
 
-pub block_le : (size : ℕ) → cut_block size ≤ size
-block_le size = omega arith
+pub kept_le : (size : ℕ) (last : Option Ref) → kept_to size last ≤ size
+kept_le size None = omega arith
+kept_le size (Some q) = omega arith
 
 -- A node of which the reference at place count - 1 is the last below the size
 module _ (f : Forest) (at count size : ℕ) (last : Option Ref) (r : Ref) (sound : IsSound f) (stands : f.stands at ≡ true) (is : IfSome last (IsCutBlock size)) (holds_contents : HasContents f at) (pos : 0 < count) (read : slice_get (refs f at) (count - 1) ≡ Some r) (low : r.key < size) (past : (j : ℕ) (q : Ref) → slice_get (refs f at) j ≡ Some q → count ≤ j → size ≤ q.key) where
@@ -254,8 +255,8 @@ module _ (f : Forest) (at count size : ℕ) (last : Option Ref) (r : Ref) (sound
       ] in
       nothing_left f at (take count (refs f at)) size last key (none_upto _ _ (refs f at) (count - 1) count size key r next node.inside read low le (outside_holds key r (inr (omega (arith, high, le)))))
 
-  pub before_here : (key : ℕ) (o : Option Ref) → key < cut_block size → Reaches f key at o → ReachesBy f key at (front count None (refs f at)) o
-  before_here key o lt reached = front_before reached count (λ j q read' le. let a = past j q read' le in let b = block_le size in omega (arith, a, b, lt))
+  pub before_here : (key : ℕ) (o : Option Ref) → key < kept_to size last → Reaches f key at o → ReachesBy f key at (front count None (refs f at)) o
+  before_here key o lt reached = front_before reached count (λ j q read' le. let a = past j q read' le in let b = kept_le size last in omega (arith, a, b, lt))
 
   -- the reference is the leaf in which the cut ends
   module _ (leaf : is_indirect r ≡ false) (in_r : holds size r ≡ true) where
@@ -343,15 +344,19 @@ module _ (f : Forest) (at count size : ℕ) (last : Option Ref) (r : Ref) (sound
         let key : q.key ≡ r.key = sym (same_key q it) in
         rw same key
 
-    pub before_in : (key : ℕ) (o : Option Ref) → key < cut_block size → Reaches f key at o → ReachesBy f key at (front count last (refs f at)) o
-    before_in key o lt reached =
+    before_by : (last' : Option Ref) → IfSome last' (IsCutBlock size) → (key : ℕ) (o : Option Ref) → key < kept_to size last' → Reaches f key at o → ReachesBy f key at (front count last' (refs f at)) o
+    before_by None it key o lt reached = front_before reached count (λ j q read' le. let a = past j q read' le in omega (arith, a, lt))
+    before_by (Some p) it key o lt reached =
         let start = start_r in
         let first : ReachesBy f key at (take (count - 1) (refs f at)) o = front_before reached (count - 1) (λ j q read' le. elim (same_or_not j (count - 1)) as (λ _. key < q.key) [
-          | inl e ↦ let there : slice_get (refs f at) (count - 1) ≡ Some q = subst (λ z. slice_get (refs f at) z ≡ Some q) e read' in let it : r ≡ q = (cc) in subst (λ (y : Ref). key < y.key) it (omega (arith, start, lt))
-          | inr ne ↦ let a = past j q read' (omega (arith, le, ne, pos)) in let b = block_le size in omega (arith, a, b, lt)
+          | inl e ↦ let there : slice_get (refs f at) (count - 1) ≡ Some q = subst (λ z. slice_get (refs f at) z ≡ Some q) e read' in let same : r ≡ q = (cc) in subst (λ (y : Ref). key < y.key) same (omega (arith, start, lt))
+          | inr ne ↦ let a = past j q read' (omega (arith, le, ne, pos)) in let b = kept_le size (Some p) in omega (arith, a, b, lt)
         ]) in
-        let out : holds key (in_place last r) ≡ false = outside_holds key (in_place last r) (inl (let k = in_place_key last is in omega (arith, k, start, lt))) in
-        subst (λ rs. ReachesBy f key at rs o) (sym (placed last is)) (by_append (in_place last r) first out)
+        let out : holds key (in_place (Some p) r) ≡ false = outside_holds key (in_place (Some p) r) (inl (let k = in_place_key (Some p) it in omega (arith, k, start, lt))) in
+        subst (λ rs. ReachesBy f key at rs o) (sym (placed (Some p) it)) (by_append (in_place (Some p) r) first out)
+
+    pub before_in : (key : ℕ) (o : Option Ref) → key < kept_to size last → Reaches f key at o → ReachesBy f key at (front count last (refs f at)) o
+    before_in = before_by last is
 
     pub past_in : (key : ℕ) → size ≤ key → FrontLeft f at (front count last (refs f at)) size last key
     past_in key le = subst (λ rs. FrontLeft f at rs size last key) (sym (placed last is)) (by (holds key (in_place last r)) refl)
@@ -390,4 +395,4 @@ root_ready f k at size sound stands top under touched = (let walks = under.walks
 })
 
 pub root_cut : (f k g : Forest) (at size : ℕ) (last : Option Ref) → IsSound f → f.stands at ≡ true → f.root at ≡ at → WalksUnder f k at → LoadsIn f k at size size → ((l : List Ref) → LeavesOf f at l → cut_to size last l ≡ []) → ((key : ℕ) (o : Option Ref) → key < size → Reaches f key at o → o ≡ None) → KeepsFront k g at 0 None → Cuts f g at size last
-root_cut f k g at size last sound stands top under touched none clear keeps = cuts_front f k g at size 0 last None (root_ready f k at size sound stands top under touched) keeps (λ l hl. subst (λ z. HasLeaves k at (take 0 (refs k at)) z) (sym (none l hl)) done) (λ key le. nothing_left k at (take 0 (refs k at)) size last key (λ i r read. absurd (none-some r read))) (λ key o lt reached. subst (λ x. ReachesBy k key at (take 0 (refs k at)) x) (sym (clear key o (let b = block_le size in omega (arith, b, lt)) reached)) (misses (λ i r read. absurd (none-some r read))))
+root_cut f k g at size last sound stands top under touched none clear keeps = cuts_front f k g at size 0 last None (root_ready f k at size sound stands top under touched) keeps (λ l hl. subst (λ z. HasLeaves k at (take 0 (refs k at)) z) (sym (none l hl)) done) (λ key le. nothing_left k at (take 0 (refs k at)) size last key (λ i r read. absurd (none-some r read))) (λ key o lt reached. subst (λ x. ReachesBy k key at (take 0 (refs k at)) x) (sym (clear key o (let b = kept_le size last in omega (arith, b, lt)) reached)) (misses (λ i r read. absurd (none-some r read))))

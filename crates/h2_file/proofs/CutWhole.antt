@@ -1,5 +1,5 @@
 -- A node that may be left as it is, and a root that is written in any case.
-use Rattle.std.proofs.Common.{◌≡◌, ℕ, ◌<◌, ◌≤◌, true, false, arith, refl, sym, ◌∙◌, ap, List, length, Option, Some, None, subst, inl, inr, slice_get, take}
+use Rattle.std.proofs.Common.{◌≡◌, ℕ, ◌<◌, ◌≤◌, true, false, arith, sym, ◌∙◌, ap, List, length, Option, Some, None, subst, inl, inr, slice_get, take}
 use Rattle.std.proofs.lemmas.Bool.{cases_Bool}
 use Rattle.std.proofs.lemmas.Option.{none-some}
 use Rattle.std.proofs.lemmas.List.{take_all}
@@ -13,7 +13,7 @@ use Rattle.h2_set.specs.RenewLaws.{Keeps-Renews, Renews-trans}
 use Rattle.h2_tree.specs.Changes.{LoadsIn, WalksUnder}
 use Rattle.h2_file.specs.declared.cutting.Left.{Left}
 use Rattle.h2_file.specs.declared.cutting.Left.TheVariants.{Nothing, All, Something}
-use Rattle.h2_file.specs.Cutting.{cut_block, cut_to, front, ReachesBy, misses, arrives, leads, GoesBehind, KeepsFront, Shortens, Cuts, CutsNodes, Remains}
+use Rattle.h2_file.specs.Cutting.{kept_to, cut_to, front, ReachesBy, misses, arrives, leads, GoesBehind, KeepsFront, Shortens, Cuts, CutsNodes, Remains}
 use Rattle.h2_file.specs.Sizing.{Sizes}
 use Rattle.h2_file.proofs.CutLevels.{Readied, FrontLeft, cuts_front, root_ready}
 use Rattle.h2_file.proofs.CutNodes.{nodes_here}
@@ -28,7 +28,7 @@ by_path (nowhere miss) = misses miss
 by_path (here {r = r} i read in_r leaf) = arrives {r = r} i read in_r leaf
 by_path (below {c = c} {r = r} i read in_r ind link rest) = leads {c = c} {r = r} i read in_r ind link rest
 
-cuts_whole : (f k : Forest) (at size count : ℕ) (last : Option Ref) → Readied f k at size → count ≡ length (refs k at) → k.copies at ≤ 62 → ((l : List Ref) → LeavesOf f at l → HasLeaves k at (front count None (refs k at)) (cut_to size last l)) → ((key : ℕ) → size ≤ key → FrontLeft k at (front count None (refs k at)) size last key) → ((key : ℕ) (o : Option Ref) → key < cut_block size → Reaches f key at o → ReachesBy k key at (front count None (refs k at)) o) → Cuts f k at size last
+cuts_whole : (f k : Forest) (at size count : ℕ) (last : Option Ref) → Readied f k at size → count ≡ length (refs k at) → k.copies at ≤ 62 → ((l : List Ref) → LeavesOf f at l → HasLeaves k at (front count None (refs k at)) (cut_to size last l)) → ((key : ℕ) → size ≤ key → FrontLeft k at (front count None (refs k at)) size last key) → ((key : ℕ) (o : Option Ref) → key < kept_to size last → Reaches f key at o → ReachesBy k key at (front count None (refs k at)) o) → Cuts f k at size last
 cuts_whole f k at size count last mid whole copies leaves past before =
     let all : take count (refs k at) ≡ refs k at = take_all count (refs k at) (omega (arith, whole)) in
     record {
@@ -47,14 +47,14 @@ cuts_whole f k at size count last mid whole copies leaves past before =
       spare = mid.spare;
     }
 
-pub cut_short : (f k g : Forest) (at size count : ℕ) (last last' : Option Ref) (left : Left) → Readied f k at size → WalksUnder f k at → k.stands at ≡ true → k.copies at ≤ 62 → Shortens k g at count last' left → ((q : Ref) → last' ≡ Some q → last ≡ Some q) → ((i : ℕ) (x : Ref) → slice_get (refs k at) i ≡ Some x → limit x ≤ size → i < count) → ((l : List Ref) → LeavesOf f at l → HasLeaves k at (front count last' (refs k at)) (cut_to size last l)) → ((key : ℕ) → size ≤ key → FrontLeft k at (front count last' (refs k at)) size last key) → ((key : ℕ) (o : Option Ref) → key < cut_block size → Reaches f key at o → ReachesBy k key at (front count last' (refs k at)) o) → Remains f g at size last left
+pub cut_short : (f k g : Forest) (at size count : ℕ) (last last' : Option Ref) (left : Left) → Readied f k at size → WalksUnder f k at → k.stands at ≡ true → k.copies at ≤ 62 → Shortens k g at count last' left → ((q : Ref) → last' ≡ Some q → last ≡ Some q) → ((i : ℕ) (x : Ref) → slice_get (refs k at) i ≡ Some x → limit x ≤ size → i < count) → ((l : List Ref) → LeavesOf f at l → HasLeaves k at (front count last' (refs k at)) (cut_to size last l)) → ((key : ℕ) → size ≤ key → FrontLeft k at (front count last' (refs k at)) size last key) → ((key : ℕ) (o : Option Ref) → key < kept_to size last → Reaches f key at o → ReachesBy k key at (front count last' (refs k at)) o) → Remains f g at size last left
 cut_short f k g at size count last last' Nothing mid under stands copies short given stay leaves past before = absurd short
 cut_short f k g at size count last last' All mid under stands copies short given stay leaves past before =
     let same : k ≡ g = sym short.0 in
     let none = short.2 in
     let leaves_n : (l : List Ref) → LeavesOf f at l → HasLeaves k at (front count None (refs k at)) (cut_to size last l) = λ l hl. subst (λ z. HasLeaves k at (front count z (refs k at)) (cut_to size last l)) none (leaves l hl) in
     let past_n : (key : ℕ) → size ≤ key → FrontLeft k at (front count None (refs k at)) size last key = λ key le. subst (λ z. FrontLeft k at (front count z (refs k at)) size last key) none (past key le) in
-    let before_n : (key : ℕ) (o : Option Ref) → key < cut_block size → Reaches f key at o → ReachesBy k key at (front count None (refs k at)) o = λ key o lt reached. subst (λ z. ReachesBy k key at (front count z (refs k at)) o) none (before key o lt reached) in
+    let before_n : (key : ℕ) (o : Option Ref) → key < kept_to size last → Reaches f key at o → ReachesBy k key at (front count None (refs k at)) o = λ key o lt reached. subst (λ z. ReachesBy k key at (front count z (refs k at)) o) none (before key o lt reached) in
     subst (λ z. Cuts f z at size last × WalksUnder f z at) same (cuts_whole f k at size count last mid short.1 copies leaves_n past_n before_n, under)
 cut_short f k g at size count last last' Something mid under stands copies short given stay leaves past before = (cuts_front f k g at size count last last' mid short.0 leaves past before, nodes_here f k g at size count last last' under.walks mid.touched stands short.0 (inr short.1) given stay)
 

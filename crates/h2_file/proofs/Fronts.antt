@@ -10,13 +10,13 @@ use Rattle.h2_ref.specs.declared.reference.Kind.{Kind}
 use Rattle.h2_ref.specs.declared.reference.Kind.TheVariants.{Content}
 use Rattle.h2_set.specs.Ranges.{Rising, limit, holds, is_indirect, leads_on}
 use Rattle.h2_set.specs.RefSet.{RefSet}
-use Rattle.h2_set.specs.Forest.{Forest, refs, loaded, HasLeaves, KeepsLeaves, Fits, IsSoundNode, IsSound, InPlace, Fixed, Stays, Keeps, IsAlike, Alike, Alters, Stores, Storable, Same, AllRenewed, GoesBelow, GoesWith, OnWay, inside, across, IsAbove, itself, by, Reaches, nowhere, here, below}
+use Rattle.h2_set.specs.Forest.{Forest, refs, loaded, HasLeaves, KeepsLeaves, Fits, IsSoundNode, IsSound, InPlace, Stays, Keeps, IsAlike, Alike, Alters, Stores, Storable, Same, GoesBelow, itself, Reaches, nowhere, here, below}
 use Rattle.h2_set.specs.StayLaws.{Alike-refl, Fixed-trans, InPlace-trans, leaves_stay}
 use Rattle.h2_set.specs.LeafLaws.{holds_inside, place_above}
 use Rattle.h2_set.specs.EditLaws.{Rising-set, length-slice_set}
 use Rattle.h2_set.specs.ChangeLaws.{Keeps-Stays, Keeps-trans, Same-Keeps, leaves_move, same_or_not, apart_places}
 use Rattle.h2_set.specs.SplitLaws.{nested, below_high}
-use Rattle.h2_set.specs.RenewLaws.{Keeps-Renews, Renews-trans, Alike-length, Alike-sym, like_at}
+use Rattle.h2_set.specs.RenewLaws.{Keeps-Renews, Renews-trans, Alike-sym, like_at}
 use Rattle.h2_tree.specs.Changes.{Under}
 use Rattle.h2_file.specs.Blocks.{HasContents}
 use Rattle.h2_file.specs.Cutting.{front, FitsLast, ReachesBy, misses, arrives, leads, GoesBehind, KeepsFront}

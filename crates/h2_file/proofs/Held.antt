@@ -10,6 +10,8 @@ use Rattle.h2_set.specs.Ranges.{holds, find}
 use Rattle.h2_set.specs.Forest.{Forest, LeavesOf}
 use Rattle.h2_set.specs.LeafLaws.{holds_inside, leaves_rising}
 use Rattle.h2_inode.specs.Nodes.{Fields, Told}
+use Rattle.h2_set.specs.PathLaws.{in_holds}
+use Rattle.h2_inode.specs.Access.{Access}
 use Rattle.h2_inode.specs.Contents.{IsPart}
 use Rattle.h2_inode.specs.Loaded.{at_root}
 use Rattle.h2_contents.specs.Bytes.{cut_to as bytes_to}
@@ -41,8 +43,26 @@ found_part P key (x ∷ l) r all e = by (holds key x) refl e (λ e'. found_part 
     by true in_x e' ih = let it : x ≡ r = (cc) in subst (λ (y : Ref). P y × (holds key y ≡ true)) it (all_head P x l all, in_x)
     by false in_x e' ih = ih e'
 
+-- a block that has one place of 16384 in a row has each of them
+part_has : (a : Access) (t : a.Tree) (size : ℕ) (bytes : List ℕ) (r : Ref) (start k : ℕ) → IsPart a t size bytes r → k / 16384 ≡ start / 16384 → holds k r ≡ true → holds start r ≡ true
+part_has a t size bytes r start k part same in_r =
+    let inside = holds_inside k r in_r in
+    let bits = part.keybits_are in
+    let aligned : r.key % 16384 ≡ 0 = part.aligned in
+    let long : 2 ^ r.keybits ≡ 16384 = ap (λ n. 2 ^ n) bits in
+    in_holds start r (omega (arith, aligned, same, inside.0, inside.1, long)) (omega (arith, aligned, same, inside.0, inside.1, long))
+
+no_part : (a : Access) (t : a.Tree) (size : ℕ) (bytes : List ℕ) (start k : ℕ) (l : List Ref) → All (IsPart a t size bytes) l → k / 16384 ≡ start / 16384 → find start l ≡ None → find k l ≡ None
+no_part a t size bytes start k [] all same none = refl
+no_part a t size bytes start k (x ∷ l) all same none = by (holds start x) refl none (holds k x) refl (no_part a t size bytes start k l (all_tail (IsPart a t size bytes) x l all) same)
+  where
+    by : (b : Bool) → holds start x ≡ b → cond b (Some x) (find start l) ≡ None → (d : Bool) → holds k x ≡ d → (find start l ≡ None → find k l ≡ None) → cond d (Some x) (find k l) ≡ None
+    by true in_x e d in_k more = absurd (none-some x (sym e))
+    by false out e true in_k more = absurd (let clash : true ≡ false = sym (part_has a t size bytes x start k (all_head (IsPart a t size bytes) x l all) same in_k) ∙ out in cc)
+    by false out e false in_k more = more e
+
 pub reads : (f : Forest) (inodes : ℕ → Option Fields) (tells : Ref → Option Told) (blocks : Ref → Option Places) (at size : ℕ) (bytes : List ℕ) (start : ℕ) (o : Option Ref) → ((l : List Ref) → LeavesOf f at l → o ≡ find start l) → FileHas f inodes tells blocks at size bytes → IsBlockOf f inodes tells blocks at size bytes start o
-reads f inodes tells blocks at size bytes start None found has = has.holes start (sym (found has.leaves has.has.read))
+reads f inodes tells blocks at size bytes start None found has = λ k same. has.holes k (no_part (file_reading f inodes tells blocks) (at_root at) size bytes start k has.leaves has.parts same (sym (found has.leaves has.has.read)))
 reads f inodes tells blocks at size bytes start (Some r) found has = found_part (IsPart (file_reading f inodes tells blocks) (at_root at) size bytes) start has.leaves r has.parts (sym (found has.leaves has.has.read))
 
 -- A cut

@@ -1,5 +1,5 @@
 -- Where the leaves of a node are known, no bad block is met below it.
-use Rattle.std.proofs.Common.{◌≡◌, ℕ, true, false, refl, sym, ◌∙◌, List, [], ◌∷◌, Some, subst, slice_get, suc, zero, Result, Ok, Err, IfErr}
+use Rattle.std.proofs.Common.{◌≡◌, ℕ, true, false, sym, ◌∙◌, List, Some, subst, slice_get, suc, zero, Result, Ok, Err, IfErr}
 use Rattle.std.specs.Result.{IsErrAnd}
 use Rattle.std.proofs.lemmas.Option.{none-some}
 use Rattle.h2_ref.specs.declared.reference.Ref.{Ref}

@@ -22,3 +22,5 @@ mod Known
 mod Watched
 mod Spent
 mod SpentAll
+pub mod Lifted
+pub mod Written

@@ -22,6 +22,11 @@ pub record IsCutBlock (size : ℕ) (r : Ref) : Type 0 where
   pub low : r.key < size
   pub high : size < limit r
 
+-- Up to this place a cut leaves what paths lead to: up to the size, or, where a last one is put, up to its block.
+abbrev pub kept_to : ℕ → Option Ref → ℕ
+kept_to size None = size
+kept_to size (Some q) = cut_block size
+
 -- the reference, or the one that is put in its place
 abbrev pub in_place : Option Ref → Ref → Ref
 in_place None r = r
@@ -134,8 +139,8 @@ pub record Cuts (f g : Forest) (at size : ℕ) (last : Option Ref) : Type 0 wher
   pub fixed : Fixed f g
   pub place : InPlace f g at
   pub leaves : (l : List Ref) → LeavesOf f at l → LeavesOf g at (cut_to size last l)
-  -- loaded paths to blocks before the one in which the cut ends stay, and lead to what they led to
-  pub before : (key : ℕ) (o : Option Ref) → key < cut_block size → Reaches f key at o → Reaches g key at o
+  -- loaded paths to what is left stay, and lead to what they led to
+  pub before : (key : ℕ) (o : Option Ref) → key < kept_to size last → Reaches f key at o → Reaches g key at o
   -- all paths from the size on are loaded now
   pub past : (key : ℕ) → size ≤ key → LeadsLeft g at size last key
   pub tree : (m : ℕ) → f.stands m ≡ true → f.root m ≡ f.root at → (Under f m at → ⊥) → Keeps f g m
@@ -206,8 +211,8 @@ Remains f g at size last Something = Cuts f g at size last × CutsNodes f g at s
 pub record CutsFile (f g : Forest) (at size : ℕ) (last : Option Ref) : Type 0 where
   pub sound : IsSound g
   pub leaves : (l : List Ref) → LeavesOf f at l → LeavesOf g at (cut_to size last l)
-  -- loaded paths to blocks before the one in which the cut ends stay, and lead to what they led to
-  pub before : (key : ℕ) (o : Option Ref) → key < cut_block size → Reaches f key at o → Reaches g key at o
+  -- loaded paths to what is left stay, and lead to what they led to
+  pub before : (key : ℕ) (o : Option Ref) → key < kept_to size last → Reaches f key at o → Reaches g key at o
   -- all paths from the size on are loaded now
   pub past : (key : ℕ) → size ≤ key → LeadsLeft g at size last key
   pub place : InPlace f g at

@@ -1,5 +1,5 @@
 -- The bytes that a file's tree stands for, as its loaded nodes and what is told of others say.
-use Rattle.std.specs.Prelude.{◌≡◌, ◌<◌, ◌≤◌, ◌+◌, ℕ, true, List, Option, Some, None, length, slice_get, slice_index}
+use Rattle.std.specs.Prelude.{◌≡◌, ◌<◌, ◌≤◌, ◌+◌, ◌/◌, ℕ, true, List, Option, Some, None, length, slice_get, slice_index}
 use Rattle.h2_num.specs.Places.{Places}
 use Rattle.h2_ref.specs.declared.reference.Ref.{Ref}
 use Rattle.h2_set.specs.Ranges.{holds, NoneHolds}
@@ -19,9 +19,10 @@ file_reading f inodes tells blocks = loaded_nodes f inodes tells (λ r block. bl
 abbrev pub FileHas : Forest → (ℕ → Option Fields) → (Ref → Option Told) → (Ref → Option Places) → ℕ → ℕ → List ℕ → Type 0
 FileHas f inodes tells blocks at size bytes = IsContents (file_reading f inodes tells blocks) (at_root at) size bytes
 
--- what was found for a place of a file with these bytes: the block that has its byte, or a hole, where it is zero
+-- What was found for a place of a file with these bytes: the block that has its byte, or a hole. There all 16384 bytes
+-- are zeros that the block with the place would have.
 abbrev pub IsBlockOf : Forest → (ℕ → Option Fields) → (Ref → Option Told) → (Ref → Option Places) → ℕ → ℕ → List ℕ → ℕ → Option Ref → Type 0
-IsBlockOf f inodes tells blocks at size bytes start None = slice_index bytes start ≡ 0
+IsBlockOf f inodes tells blocks at size bytes start None = (k : ℕ) → k / 16384 ≡ start / 16384 → slice_index bytes k ≡ 0
 IsBlockOf f inodes tells blocks at size bytes start (Some r) = IsPart (file_reading f inodes tells blocks) (at_root at) size bytes r × (holds start r ≡ true)
 
 -- The block in which a cut to the size ends: a last one has the bytes up to the size, and zeros behind them. Where none
@@ -40,6 +41,6 @@ pub record LinksBytes (blocks : Ref → Option Places) (rs : List Ref) (size : �
   pub same : (k : ℕ) → NoneHolds k rs → slice_index new k ≡ slice_index bytes k
 
 -- Of bytes that leave the inode none is lost: the place of each that isn't zero is in one of the blocks. Block 0 has the
--- places of all that may stand in an inode (`zero_covers`).
+-- places of all that may stand in an inode (`written_law`).
 abbrev pub CoversBytes : List Ref → List ℕ → Type 0
 CoversBytes rs bytes = (k : ℕ) → NoneHolds k rs → slice_index bytes k ≡ 0

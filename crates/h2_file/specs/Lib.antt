@@ -4,4 +4,4 @@ pub mod Cutting
 pub mod Sizing
 pub mod FileContents
 pub mod Linking
-pub mod LiftLaws
+pub mod Writing

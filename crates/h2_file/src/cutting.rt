@@ -5,7 +5,7 @@ ghost use Rattle.h2_set.specs.Ranges.{is_indirect, limit};
 ghost use Rattle.h2_set.specs.RefSet.{RefSet};
 ghost use Rattle.h2_set.specs.Forest.{Forest, refs, IsSound, Walks, HasCause, IsBad, LeavesOf, HasLeaves, KeepsBeside};
 ghost use Rattle.h2_tree.specs.Changes.{LoadsIn, PathUnloaded, WalksUnder};
-ghost use Rattle.h2_inode.specs.Nodes.{held_by, KeepsOthersBeside};
+ghost use Rattle.h2_inode.specs.Nodes.{held_by, KeepsOthersBeside, NamesOne};
 ghost use Rattle.h2_num.specs.Places.{Places};
 ghost use Rattle.h2_contents.specs.Bytes.{cut_to as bytes_to};
 ghost use Rattle.h2_file.specs.Blocks.{IsFileOfRefs, HasContents};
@@ -226,6 +226,7 @@ pub fn cut_blocks<N: Nodes>(
     ensures cuts { OnOk result (CutsFile (N.forest n.old) (N.forest n.new) inode.0 size last) }
     ensures contents { (blocks : Ref → Option Places) (old : ℕ) (bytes : List ℕ) → FileHas (N.forest n.old) (held_by N.fields (N.beside n.old)) (N.told n.old) blocks inode.0 old bytes → EndsIn blocks size bytes last → OnOk result (FileHas (N.forest n.new) (held_by N.fields (N.beside n.new)) (N.told n.new) blocks inode.0 size (bytes_to bytes size)) }
     ensures others { OnOk result (RenewsOthers (view_of N.fields (N.forest n.old) (N.beside n.old) (N.told n.old)) (view_of N.fields (N.forest n.new) (N.beside n.new) (N.told n.new)) inode.0) }
+    ensures one { NamesOne (N.forest n.old) → NamesOne (N.forest n.new) }
     ensures inode { OnOk result ((file : IsFileOfRefs (N.forest n.old) (held_by N.fields (N.beside n.old)) inode.0) → HasResized (N.forest n.new) (held_by N.fields (N.beside n.new)) inode.0 file.inode size) }
     ensures walks { OnErr result (Walks (N.forest n.old) (N.forest n.new)) }
     ensures err { IfErr result (HasCause (N.forest n.old) (N.forest n.new)) }

@@ -13,7 +13,8 @@
 //!
 //! `link_blocks` puts the references of new blocks in (`specs/Linking`): of the list it makes `put_each`, and of the bytes
 //! those of the blocks in their places (`LinksBytes`). It is the chain of insertions that it says it is (`LinksNodes`).
-//! Bytes that stood in the inode leave it for these blocks (`CoversBytes`).
+//! Bytes that stood in the inode leave it for these blocks (`CoversBytes`). That the blocks which a write touches, with the
+//! written bytes merged in, are such blocks of the written file, is `written_law`.
 //!
 //! The trees of all other roots stay, but for where blocks of inodes and indirect ones lie (`RenewsOthers` of `h2_inode`),
 //! no root is new, and no bad block is met where the file's references are known.
@@ -22,6 +23,7 @@
 mod blocks;
 mod cutting;
 mod fault;
+mod laws;
 mod linking;
 mod merging;
 mod reading;
@@ -31,6 +33,7 @@ mod touching;
 pub use blocks::Touched;
 pub use cutting::cut_blocks;
 pub use fault::{FILE_BYTES, FileFault, check_end};
+pub use laws::written_law;
 pub use linking::link_blocks;
 pub use merging::merge;
 pub use reading::read_block;

@@ -8,7 +8,7 @@ ghost use Rattle.h2_inode.specs.declared.inode.Body.{Body};
 ghost use Rattle.h2_inode.specs.declared.inode.Body.TheVariants.{Refs, Bytes};
 ghost use Rattle.h2_inode.specs.declared.inode.Inode.{Inode};
 ghost use Rattle.h2_inode.specs.Embedded.{EmbedsBytes};
-ghost use Rattle.h2_inode.specs.Nodes.{held_by, HasInode, Replaces, KeepsOthersBeside};
+ghost use Rattle.h2_inode.specs.Nodes.{held_by, HasInode, Replaces, KeepsOthersBeside, NamesOne};
 ghost use Rattle.h2_file.specs.Blocks.{IsFile, IsFileOfRefs, HasContents};
 ghost use Rattle.h2_file.specs.FileContents.{FileHas, LinksBytes, CoversBytes};
 ghost use Rattle.h2_file.specs.Sizing.{HasResized};
@@ -158,6 +158,7 @@ pub fn link_blocks<N: Nodes>(
     ensures contents { (blocks : Ref → Option Places) (old : ℕ) (bytes new : List ℕ) → FileHas (N.forest n.old) (held_by N.fields (N.beside n.old)) (N.told n.old) blocks inode.0 old bytes → LinksBytes blocks refs.now size bytes new → OnOk result (FileHas (N.forest n.new) (held_by N.fields (N.beside n.new)) (N.told n.new) blocks inode.0 size new) }
     ensures lifted { (blocks : Ref → Option Places) (i : Inode) (body bytes new : List ℕ) → HasInode (N.forest n.old) (held_by N.fields (N.beside n.old)) inode.0 i → i.body ≡ Bytes body → EmbedsBytes i.size body bytes → CoversBytes refs.now bytes → LinksBytes blocks refs.now size bytes new → OnOk result (FileHas (N.forest n.new) (held_by N.fields (N.beside n.new)) (N.told n.new) blocks inode.0 size new) }
     ensures others { OnOk result (RenewsOthers (view_of N.fields (N.forest n.old) (N.beside n.old) (N.told n.old)) (view_of N.fields (N.forest n.new) (N.beside n.new) (N.told n.new)) inode.0) }
+    ensures one { NamesOne (N.forest n.old) → NamesOne (N.forest n.new) }
     ensures inode { OnOk result ((i : Inode) → HasInode (N.forest n.old) (held_by N.fields (N.beside n.old)) inode.0 i → HasResized (N.forest n.new) (held_by N.fields (N.beside n.new)) inode.0 i size) }
     ensures walks { OnErr result (Walks (N.forest n.old) (N.forest n.new)) }
     ensures err { IfErr result (HasCause (N.forest n.old) (N.forest n.new)) }

@@ -14,9 +14,10 @@ use h2_set::NodeId;
 use h2_tree::lookup;
 use std::alloc::Global;
 
-/// The content reference of the file's block that holds the byte `start`; None exactly at a hole. The file's body is
-/// references. Afterwards every node on the path of `start` is loaded, and no other was, in no tree. Trouble only where
-/// one wasn't, and never a bad block where the file's references are known. Nothing but loads takes place.
+/// The content reference of the file's block that holds the byte `start`; None exactly at a hole, where the whole block
+/// that would hold it is zeros. The file's body is references. Afterwards every node on the path of `start` is loaded,
+/// and no other was, in no tree. Trouble only where one wasn't, and never a bad block where the file's references are
+/// known. Nothing but loads takes place.
 pub fn read_block<N: Nodes>(
     alloc: Global,
     n: &mut N,

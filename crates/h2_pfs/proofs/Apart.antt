@@ -190,7 +190,7 @@ put_before f g top own c key d only came other is = elim (came d is.stands) as (
 ]
 
 -- no root came where the leaf was taken in: a node that a split makes stands below another
-taken_before : (f g : Forest) (n : ℕ) (leaf : Ref) (blocks : ℕ) → IsSound f → IsSound g → f.stands n ≡ true → ChangesOnly f g n (λ m. ⊥) → TakesIn f g n leaf blocks None → (d : ℕ) → g.stands d ≡ true → g.root d ≡ d → f.stands d ≡ true
+pub taken_before : (f g : Forest) (n : ℕ) (leaf : Ref) (blocks : ℕ) → IsSound f → IsSound g → f.stands n ≡ true → ChangesOnly f g n (λ m. ⊥) → TakesIn f g n leaf blocks None → (d : ℕ) → g.stands d ≡ true → g.root d ≡ d → f.stands d ≡ true
 taken_before f g n leaf blocks sound after stands only (placed it) d st root = it.none_new d st
 taken_before f g n leaf blocks sound after stands only (parted it) d st root = elim (it.none_new d st) as (λ _. f.stands d ≡ true) [
   | inr stood ↦ stood
@@ -204,7 +204,7 @@ taken_before f g n leaf blocks sound after stands only (parted it) d st root = e
 ]
 
 -- no root came by loads in the tree of a root that stood
-loaded_before : (f g : Forest) (top d : ℕ) → ((m : ℕ) → f.stands m ≡ false → g.stands m ≡ true → g.root m ≡ top) → f.stands top ≡ true → g.stands d ≡ true → g.root d ≡ d → f.stands d ≡ true
+pub loaded_before : (f g : Forest) (top d : ℕ) → ((m : ℕ) → f.stands m ≡ false → g.stands m ≡ true → g.root m ≡ top) → f.stands top ≡ true → g.stands d ≡ true → g.root d ≡ d → f.stands d ≡ true
 loaded_before f g top d tree stands st root = elim (cases_Bool (f.stands d)) as (λ _. f.stands d ≡ true) [
   | inl stood ↦ stood
   | inr new ↦ subst (λ m. f.stands m ≡ true) (sym (tree d new st) ∙ root) stands

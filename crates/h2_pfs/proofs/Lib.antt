@@ -16,3 +16,4 @@ pub mod Loading
 pub mod Apart
 pub mod Followed
 pub mod Known
+pub mod Single

@@ -4,7 +4,7 @@ ghost use Rattle.h2_set.specs.Forest.{IsSound, Reaches, KeepsBeside};
 ghost use Rattle.h2_tree.specs.Changes.{Takes};
 ghost use Rattle.h2_inode.specs.declared.inode.Inode.{Inode};
 ghost use Rattle.h2_inode.specs.declared.kind.InodeKind.{InodeKind};
-ghost use Rattle.h2_inode.specs.Nodes.{held_by, IsPlantable, Visits};
+ghost use Rattle.h2_inode.specs.Nodes.{held_by, IsPlantable, NamesOne, Visits};
 ghost use Rattle.h2_inode.specs.Loaded.{StandsAlike, view_of};
 ghost use Rattle.h2_inode.specs.PfsList.{ListedPfs};
 ghost use Rattle.h2_pfs.specs.SuperRoot.{IsSuperRoot};
@@ -103,6 +103,7 @@ pub fn pfs_add<N: Nodes>(
     requires free { IsFreeId (N.forest n.old) root.0 leaf.key }
     ensures adds { OnOk result (AddsPfs (N.forest n.old) (N.forest n.new) (held_by N.fields (N.beside n.old)) (held_by N.fields (N.beside n.new)) (N.told n.old) root.0 leaf inode) }
     ensures listed { OnOk result (PutsPfs (N.forest n.old) (N.forest n.new) (held_by N.fields (N.beside n.old)) (held_by N.fields (N.beside n.new)) (N.told n.old) (N.told n.new) root.0 (pfs_of inode)) }
+    ensures one { NamesOne (N.forest n.old) → NamesOne (N.forest n.new) }
     ensures room { OnOk result (let f = N.forest n.old in let g = N.forest n.new in f.room ≤ g.room + 63) }
     ensures spare { OnOk result (let f = N.forest n.old in let g = N.forest n.new in f.spare ≤ g.spare + 2) }
     ensures fault { IfErr result (IsAddFault (N.forest n.old) (N.forest n.new) (held_by N.fields (N.beside n.new)) root.0 inode.name leaf.key) }

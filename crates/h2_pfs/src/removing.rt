@@ -1,6 +1,6 @@
 ghost use Rattle.std.specs.Prelude.{◌≡◌, ◌≤◌, ℕ, List, OnOk, IfErr, OnErr};
 ghost use Rattle.h2_set.specs.Forest.{IsSound, KeepsBeside};
-ghost use Rattle.h2_inode.specs.Nodes.{held_by, Visits};
+ghost use Rattle.h2_inode.specs.Nodes.{held_by, NamesOne, Visits};
 ghost use Rattle.h2_inode.specs.Loaded.{StandsAlike, view_of};
 ghost use Rattle.h2_inode.specs.PfsList.{ListedPfs};
 ghost use Rattle.h2_pfs.specs.SuperRoot.{IsSuperRoot};
@@ -37,6 +37,7 @@ pub fn pfs_remove<N: Nodes>(
     requires free { handles ≡ 0 → NoneHeld (N.forest n.old) (held_by N.fields (N.beside n.old)) root.0 name.now }
     ensures removes { OnOk result (RemovesPfs (N.forest n.old) (N.forest n.new) (held_by N.fields (N.beside n.old)) (held_by N.fields (N.beside n.new)) (N.told n.old) root.0 name.now) }
     ensures listed { OnOk result (DropsPfs (N.forest n.old) (N.forest n.new) (held_by N.fields (N.beside n.old)) (held_by N.fields (N.beside n.new)) (N.told n.old) (N.told n.new) root.0 name.now) }
+    ensures one { NamesOne (N.forest n.old) → NamesOne (N.forest n.new) }
     ensures unused { OnOk result (handles ≡ 0) }
     ensures fault { IfErr result (IsRemoveFault (N.forest n.old) (N.forest n.new) (held_by N.fields (N.beside n.new)) root.0 name.now handles) }
     ensures refused { IfErr result (λ e. (next : ℕ) (pfss : List ListedPfs) → HasPfss (N.forest n.old) (held_by N.fields (N.beside n.old)) (N.told n.old) root.0 next pfss → IsFaultIn name.now pfss e) }

@@ -15,7 +15,7 @@ use Rattle.h2_dir.proofs.Resized.{root_leaves, root_path, same_fields, regrown}
 use Rattle.h2_dir.proofs.Renewed.{keeps_tree, renews_tree}
 use Rattle.h2_dir.proofs.Others.{inserted_renews, inserted_exact}
 use Rattle.h2_dir.proofs.Entries.{tree_rising, tells_later, new_entry, entries_same, entries_more}
-use Rattle.h2_dir.specs.RootLaws.{added_roots, added_place, added_one}
+use Rattle.h2_dir.proofs.RootLaws.{added_roots, added_place, added_one}
 use Rattle.h2_dir.proofs.adding.add_at.Goals as goal
 
 pub inode-requires : goal.inode-requires

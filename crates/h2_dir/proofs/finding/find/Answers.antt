@@ -4,7 +4,7 @@ use Rattle.h2_ref.specs.declared.reference.Ref.{Ref}
 use Rattle.h2_set.specs.StayLaws.{Walks-refl}
 use Rattle.h2_dirkey.specs.NameLaws.{no_fault}
 use Rattle.h2_dir.specs.Names.{Scanned, NoneNamed, IsPlaceOfName}
-use Rattle.h2_dir.specs.Agreeing.{found_between, missing_between, missing_agrees}
+use Rattle.h2_dir.proofs.Agreeing.{found_between, missing_between, missing_agrees}
 use Rattle.h2_dir.specs.declared.fault.DirFault.TheVariants as fault
 use Rattle.h2_dir.specs.Finding.{IsBadBlock}
 use Rattle.h2_dir.proofs.Known.{entries_named}

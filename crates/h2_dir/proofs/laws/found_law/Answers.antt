@@ -1,4 +1,4 @@
-use Rattle.h2_dir.specs.FoundLaws.{found_number, missing_number}
+use Rattle.h2_dir.proofs.FoundLaws.{found_number, missing_number}
 use Rattle.h2_dir.proofs.laws.found_law.Goals as goal
 
 pub returns-clause-found : goal.returns-clause-found

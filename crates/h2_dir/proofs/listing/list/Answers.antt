@@ -102,3 +102,18 @@ returns-in_err-all-clause-good g c may size es h =
     let named = named_kept f middle _ h.leaves items c.in_ok-leaves.ensures.walks.fixed.name (c.in_ok-leaves.ensures.found h.leaves h.has.read) (entries_named _ _ _ _ _ _ _ h) in
     let good : IsBadBlock (fault.Trouble e) → ⊥ = subst (λ (xs : List Ref). AllNamed middle xs → IsBad e → ⊥) c.deref.ensures.value c.in_err-all.ensures.good named in
     search (good, rules)
+
+pub returns-then-not-is_directory-clause-none : goal.returns-then-not-is_directory-clause-none
+returns-then-not-is_directory-clause-none g c i h not m stands = stands
+
+pub returns-in_err-leaves-clause-none : goal.returns-in_err-leaves-clause-none
+returns-in_err-leaves-clause-none g c i h not = absurd (not ((c.is_directory.ensures i h).0 c.if-not-is_directory.false))
+
+pub returns-in_err-all-clause-none : goal.returns-in_err-all-clause-none
+returns-in_err-all-clause-none g c i h not = absurd (not ((c.is_directory.ensures i h).0 c.if-not-is_directory.false))
+
+pub returns-in-Ok-clause-none : goal.returns-in-Ok-clause-none
+returns-in-Ok-clause-none g c i h not = absurd (not ((c.is_directory.ensures i h).0 c.if-not-is_directory.false))
+
+pub returns-clause-none : goal.returns-clause-none
+returns-clause-none g c i h not = absurd (not ((c.is_directory.ensures i h).0 c.if-not-is_directory.false))

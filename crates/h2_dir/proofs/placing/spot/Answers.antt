@@ -6,7 +6,7 @@ use Rattle.h2_inode.specs.VisitLaws.{walks_visit, visits_inode}
 use Rattle.h2_dirkey.specs.Key.{IsPicked}
 use Rattle.h2_dirkey.specs.NameLaws.{no_fault}
 use Rattle.h2_dir.specs.Names.{Scanned, NoneNamed, IsPlaceOfName}
-use Rattle.h2_dir.specs.Agreeing.{found_between, missing_between}
+use Rattle.h2_dir.proofs.Agreeing.{found_between, missing_between}
 use Rattle.h2_dir.specs.declared.fault.DirFault.TheVariants as fault
 use Rattle.h2_dir.specs.Finding.{IsBadBlock}
 use Rattle.h2_dir.proofs.Known.{entries_named}
@@ -63,3 +63,15 @@ pub returns-in_err-candidates-clause-good : goal.returns-in_err-candidates-claus
 returns-in_err-candidates-clause-good g c may size entries h =
     let good : IsBadBlock (fault.Trouble c.in_err-candidates.field-0.0) → ⊥ = c.in_err-candidates.ensures.good h.leaves h.has.read (entries_named _ _ _ _ _ _ _ h) in
     search (good, rules)
+
+pub returns-then-not-is_directory-clause-none : goal.returns-then-not-is_directory-clause-none
+returns-then-not-is_directory-clause-none g c i h not m stands = stands
+
+pub returns-in_err-candidates-clause-none : goal.returns-in_err-candidates-clause-none
+returns-in_err-candidates-clause-none g c i h not = absurd (not ((c.is_directory.ensures i h).0 c.if-not-is_directory.false))
+
+pub returns-in_default-place-clause-none : goal.returns-in_default-place-clause-none
+returns-in_default-place-clause-none g c i h not = absurd (not ((c.is_directory.ensures i h).0 c.if-not-is_directory.false))
+
+pub returns-in-Ok-free_key-clause-none : goal.returns-in-Ok-free_key-clause-none
+returns-in-Ok-free_key-clause-none g c i h not = absurd (not ((c.is_directory.ensures i h).0 c.if-not-is_directory.false))

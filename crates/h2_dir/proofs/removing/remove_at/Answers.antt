@@ -17,7 +17,7 @@ use Rattle.h2_dir.proofs.Resized.{root_leaves, root_path, same_fields, regrown}
 use Rattle.h2_dir.proofs.Renewed.{keeps_tree, renews_tree}
 use Rattle.h2_dir.proofs.Others.{removed_renews, removed_exact}
 use Rattle.h2_dir.proofs.Entries.{tree_rising, entries_same, entries_less, entry_number}
-use Rattle.h2_dir.specs.RootLaws.{taken_roots, taken_place, taken_one}
+use Rattle.h2_dir.proofs.RootLaws.{taken_roots, taken_place, taken_one}
 use Rattle.h2_dir.proofs.removing.remove_at.Goals as goal
 
 pub inode-requires : goal.inode-requires

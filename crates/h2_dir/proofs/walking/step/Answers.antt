@@ -1,6 +1,7 @@
-use Rattle.std.proofs.Common.{◌∷◌, Some, Err, subst, sym, Option, inl, inr}
+use Rattle.std.proofs.Common.{◌≡◌, ◌∷◌, Some, Err, subst, sym, Option, inl, inr}
 use Rattle.h2_ref.specs.declared.reference.Ref.{Ref}
 use Rattle.h2_set.specs.Forest.{Reaches}
+use Rattle.h2_set.specs.Ranges.{find as leaf_with}
 use Rattle.h2_inode.specs.Nodes.{held_by, IsNamed, IsUnloaded, Seeks}
 use Rattle.h2_inode.specs.VisitLaws.{walks_visit, seeks_visit, unchanged_visits, visits_trans, visits_leaf}
 use Rattle.h2_dir.specs.declared.fault.DirFault.TheVariants as fault
@@ -14,6 +15,7 @@ use Rattle.h2_dir.proofs.Searched.{loads_same}
 use Rattle.h2_inode.specs.AlikeLaws.{walks_alike, unchanged_alike, seeks_alike}
 use Rattle.h2_dir.proofs.Loading.{path_loads, inode_loads, search_loads, failed_loads}
 use Rattle.h2_dir.proofs.Walked.{cause_earlier, inode_before, pfs_leaf, pfs_stays, step_found, step_fails, step_trouble}
+use Rattle.h2_dir.proofs.Agreed.{trouble_agrees, nothing_agrees, found_agrees_on, failed_agrees_on}
 use Rattle.h2_dir.proofs.walking.step.Goals as goal
 
 pub leaf_of-requires-clause-stands : goal.leaf_of-requires-clause-stands
@@ -272,3 +274,48 @@ returns-in-Ok-clause-onward g c may l names has way =
     let second = seeks_reread w v c.args.pfs.0 c.in_ok-dir.dir.0 c.in-Some.leaf walks.sound there.0 seeks (beside_holds g.N.Nodes.fields h k _ _ (g.N.Nodes.told c.leaf_of.new.n) (g.N.Nodes.told c.seek.new.self) c.in_ok-dir.ensures.beside) (g.met.N.Nodes.told_later _ _ c.in_ok-dir.ensures.later) c.in_ok-dir.ensures.told in
     let next = way_next u w first may c.args.pfs.0 l c.in-Some.leaf c.args.name.now names c.requires.pfs.has.stands has (there.0).path v second c.in_ok-dir.dir.0 seeks c.in-Ok.entry.number c.in-Ok.ensures.kind (c.in-Ok.ensures.agrees may) known in
     way_alike (returns-in-Ok-clause-alike g c) may c.args.pfs.0 l names c.in-Ok.entry.number c.requires.pfs.has.stands has next
+
+-- the answer by what is known
+
+pub returns-in_err-found-clause-agrees : goal.returns-in_err-found-clause-agrees
+returns-in_err-found-clause-agrees g c u may l names a stands has way = trouble_agrees u may c.args.pfs.0 c.args.number l c.args.name.now names c.in_err-found.field-0.0 c.from_residual.result c.from_residual.ensures.1
+
+pub returns-in_err-dir-clause-agrees : goal.returns-in_err-dir-clause-agrees
+returns-in_err-dir-clause-agrees g c u may l names a stands has way = trouble_agrees u may c.args.pfs.0 c.args.number l c.args.name.now names c.in_err-dir.field-0.0 c.from_residual-in_err-dir.result c.from_residual-in_err-dir.ensures.1
+
+pub returns-in_default-clause-agrees : goal.returns-in_default-clause-agrees
+returns-in_default-clause-agrees g c u may l names a stands has way = nothing_agrees u _ a may c.args.pfs.0 c.args.number l c.args.name.now names stands has way (λ m listed. subst (λ (o : Option Ref). o ≡ leaf_with c.args.number m) c.in_default.is (c.in_ok-found.ensures.found m listed))
+
+pub returns-in-Ok-clause-agrees : goal.returns-in-Ok-clause-agrees
+returns-in-Ok-clause-agrees g c u may l names a stands has way =
+    let f = g.N.Sets.forest c.args.n.now in
+    let h = g.N.Sets.forest c.leaf_of.new.n in
+    let k = g.N.Sets.forest c.seek.new.self in
+    let walks = c.in_ok-found.ensures.walks in
+    let root = pfs_stays g.N.Nodes.fields f h _ _ c.args.pfs.0 (walks_visit f h walks) c.in_ok-found.ensures.beside c.requires.pfs in
+    let path : Reaches h c.args.number c.args.pfs.0 (Some c.in-Some.leaf) = subst (λ (o : Option Ref). Reaches h c.args.number c.args.pfs.0 o) c.in-Some.is c.in_ok-found.ensures.path in
+    let there = pfs_leaf h _ c.args.pfs.0 c.args.number c.in-Some.leaf walks.sound root path in
+    let o : View = view_of g.N.Nodes.fields f (g.N.Sets.beside c.args.n.now) (g.N.Nodes.told c.args.n.now) in
+    let w : View = view_of g.N.Nodes.fields h (g.N.Sets.beside c.leaf_of.new.n) (g.N.Nodes.told c.leaf_of.new.n) in
+    let r = walks_reread o w c.requires.sound walks (beside_holds g.N.Nodes.fields f h _ _ (g.N.Nodes.told c.args.n.now) (g.N.Nodes.told c.leaf_of.new.n) c.in_ok-found.ensures.beside) (g.met.N.Nodes.told_later _ _ c.in_ok-found.ensures.later) in
+    let v : View = view_of g.N.Nodes.fields k (g.N.Sets.beside c.seek.new.self) (g.N.Nodes.told c.seek.new.self) in
+    let seeks = c.in_ok-dir.ensures.ok in
+    let s = seeks_reread w v c.args.pfs.0 c.in_ok-dir.dir.0 c.in-Some.leaf walks.sound there.0 seeks (beside_holds g.N.Nodes.fields h k _ _ (g.N.Nodes.told c.leaf_of.new.n) (g.N.Nodes.told c.seek.new.self) c.in_ok-dir.ensures.beside) (g.met.N.Nodes.told_later _ _ c.in_ok-dir.ensures.later) c.in_ok-dir.ensures.told in
+    found_agrees_on u o a may c.args.pfs.0 c.args.number l c.args.name.now names stands has way w v r s c.in-Some.leaf there.1 (there.0).path c.in_ok-dir.dir.0 seeks c.in-Ok.entry.number c.in-Ok.ensures.kind (c.in-Ok.ensures.agrees may)
+
+pub returns-in-Err-clause-agrees : goal.returns-in-Err-clause-agrees
+returns-in-Err-clause-agrees g c u may l names a stands has way =
+    let f = g.N.Sets.forest c.args.n.now in
+    let h = g.N.Sets.forest c.leaf_of.new.n in
+    let k = g.N.Sets.forest c.seek.new.self in
+    let walks = c.in_ok-found.ensures.walks in
+    let root = pfs_stays g.N.Nodes.fields f h _ _ c.args.pfs.0 (walks_visit f h walks) c.in_ok-found.ensures.beside c.requires.pfs in
+    let path : Reaches h c.args.number c.args.pfs.0 (Some c.in-Some.leaf) = subst (λ (o : Option Ref). Reaches h c.args.number c.args.pfs.0 o) c.in-Some.is c.in_ok-found.ensures.path in
+    let there = pfs_leaf h _ c.args.pfs.0 c.args.number c.in-Some.leaf walks.sound root path in
+    let o : View = view_of g.N.Nodes.fields f (g.N.Sets.beside c.args.n.now) (g.N.Nodes.told c.args.n.now) in
+    let w : View = view_of g.N.Nodes.fields h (g.N.Sets.beside c.leaf_of.new.n) (g.N.Nodes.told c.leaf_of.new.n) in
+    let r = walks_reread o w c.requires.sound walks (beside_holds g.N.Nodes.fields f h _ _ (g.N.Nodes.told c.args.n.now) (g.N.Nodes.told c.leaf_of.new.n) c.in_ok-found.ensures.beside) (g.met.N.Nodes.told_later _ _ c.in_ok-found.ensures.later) in
+    let v : View = view_of g.N.Nodes.fields k (g.N.Sets.beside c.seek.new.self) (g.N.Nodes.told c.seek.new.self) in
+    let seeks = c.in_ok-dir.ensures.ok in
+    let s = seeks_reread w v c.args.pfs.0 c.in_ok-dir.dir.0 c.in-Some.leaf walks.sound there.0 seeks (beside_holds g.N.Nodes.fields h k _ _ (g.N.Nodes.told c.leaf_of.new.n) (g.N.Nodes.told c.seek.new.self) c.in_ok-dir.ensures.beside) (g.met.N.Nodes.told_later _ _ c.in_ok-dir.ensures.later) c.in_ok-dir.ensures.told in
+    failed_agrees_on u o a may c.args.pfs.0 c.args.number l c.args.name.now names stands has way w v r s c.in-Some.leaf there.1 (there.0).path c.in_ok-dir.dir.0 seeks k (g.N.Sets.forest c.find.new.n) c.in-Err.fault c.in-Err.ensures.err (c.in-Err.ensures.agrees may)

@@ -1,10 +1,11 @@
 use Rattle.std.proofs.Common.{◌≡◌, ◌+◌, ℕ, List, ◌∷◌, [], Ok, Err, get_or, subst, sym}
 use Rattle.std.specs.Prelude.{drop}
 use Rattle.h2_inode.specs.VisitLaws.{visits_trans}
-use Rattle.h2_inode.specs.Loaded.{as_before, view_of}
+use Rattle.h2_inode.specs.Loaded.{View, as_before, view_of}
 use Rattle.h2_inode.specs.LoadedLaws.{alike_trans, alike_leaves}
 use Rattle.h2_inode.specs.Nodes.{held_by}
-use Rattle.h2_dir.specs.Knowing.{KnowsWay}
+use Rattle.h2_dir.specs.Knowing.{KnowsWay, LeadsBy, ended}
+use Rattle.h2_dir.proofs.Agreed.{AgreesOnTheWay, agrees_first, agrees_next, agrees_err}
 use Rattle.h2_dir.specs.Walking.{Leads, arrived}
 use Rattle.h2_dir.proofs.Loading.{no_loads, step_alone}
 use Rattle.h2_dir.proofs.Stepping.{IsOnTheWay, way_begins, way_goes_on}
@@ -17,6 +18,7 @@ loop-i-init g c = record {
   visits = visits_refl _ c.requires.sound;
   way = way_begins g.N.Nodes.fields (g.N.Sets.forest c.args.n.now) (g.N.Sets.beside c.args.n.now) c.args.pfs.0 1 c.args.names.now;
   known = λ may l has way. way;
+  agrees = λ may l has way. agrees_first _ may c.args.pfs.0 l 1 c.args.names.now way;
   alike = as_before;
   beside = beside_refl _ _;
   later = g.met.N.Sets.same_later _;
@@ -84,6 +86,9 @@ loop-i-preserved g c =
       visits = visits_trans _ _ _ inv.visits step.visits;
       way = way_goes_on fields (g.N.Sets.forest c.args.n.now) f h (g.N.Sets.beside c.loop-i.n) now c.args.pfs.0 1 c.loop-i.number c.in-Ok.next name c.args.names.now left inv.visits.sound stands step.visits step.beside step.ends step.loads way;
       known = λ may l has way. step.onward may l left (alike_leaves inv.alike c.args.pfs.0 c.requires.pfs.has.stands l has) (subst (λ (xs : List (List ℕ)). KnowsWay (view_of g.N.Nodes.fields (g.N.Sets.forest c.loop-i.n) (g.N.Sets.beside c.loop-i.n) (g.N.Nodes.told c.loop-i.n)) may c.args.pfs.0 l c.loop-i.number xs) at (inv.known may l has way));
+      agrees = λ may l has way.
+          let so_far = subst (λ (xs : List (List ℕ)). AgreesOnTheWay (view_of g.N.Nodes.fields (g.N.Sets.forest c.args.n.now) (g.N.Sets.beside c.args.n.now) (g.N.Nodes.told c.args.n.now)) may c.args.pfs.0 l 1 c.loop-i.number c.args.names.now xs) at (inv.agrees may l has way) in
+          agrees_next (view_of g.N.Nodes.fields (g.N.Sets.forest c.args.n.now) (g.N.Sets.beside c.args.n.now) (g.N.Nodes.told c.args.n.now)) may c.args.pfs.0 l 1 c.loop-i.number c.in-Ok.next name c.args.names.now left so_far (step.agrees (view_of g.N.Nodes.fields (g.N.Sets.forest c.args.n.now) (g.N.Sets.beside c.args.n.now) (g.N.Nodes.told c.args.n.now)) may l left inv.alike c.requires.pfs.has.stands has so_far.knows);
       alike = alike_trans inv.alike step.alike;
       beside = beside_visits _ _ _ _ _ _ inv.visits inv.beside step.beside;
       later = g.met.N.Sets.later_later _ _ _ inv.later step.later;
@@ -104,3 +109,20 @@ returns-clause-loads g c =
     let now = g.N.Sets.beside c.loop-i.n in
     let inv = c.loop-i.invariant in
     inv.way.loads f now (visits_refl f inv.visits.sound) (beside_refl f now) (no_loads f (held_by g.N.Nodes.fields now) c.args.pfs.0 c.loop-i.number (drop c.loop-i.i c.args.names.now))
+
+pub returns-in-Err-clause-agrees : goal.returns-in-Err-clause-agrees
+returns-in-Err-clause-agrees g c may l has way =
+    let inv = c.loop-i.invariant in
+    let was : View = view_of g.N.Nodes.fields (g.N.Sets.forest c.args.n.now) (g.N.Sets.beside c.args.n.now) (g.N.Nodes.told c.args.n.now) in
+    let name = c.as_slice.result.now in
+    let items = c.items-items.result.now in
+    let left = drop (c.loop-i.i + 1) c.args.names.now in
+    let at : drop c.loop-i.i c.args.names.now ≡ name ∷ left = subst (λ (xs : List (List ℕ)). drop c.loop-i.i xs ≡ name ∷ drop (c.loop-i.i + 1) xs) c.items-items.ensures (names_at items c.loop-i.i name c.loop-i-test.true (subst (λ (x : List ℕ). get_or items c.loop-i.i x ≡ x) (sym c.as_slice.ensures) (sym c.index-items-i.is))) in
+    let so_far = subst (λ (xs : List (List ℕ)). AgreesOnTheWay was may c.args.pfs.0 l 1 c.loop-i.number c.args.names.now xs) at (inv.agrees may l has way) in
+    agrees_err was may c.args.pfs.0 l 1 c.loop-i.number name c.args.names.now left c.in-Err.fault so_far (c.in-Err.ensures.agrees was may l left inv.alike c.requires.pfs.has.stands has so_far.knows)
+
+pub returns-clause-agrees : goal.returns-clause-agrees
+returns-clause-agrees g c may l has way =
+    let was : View = view_of g.N.Nodes.fields (g.N.Sets.forest c.args.n.now) (g.N.Sets.beside c.args.n.now) (g.N.Nodes.told c.args.n.now) in
+    let end : drop c.loop-i.i c.args.names.now ≡ [] = subst (λ (xs : List (List ℕ)). drop c.loop-i.i xs ≡ []) c.items-items.ensures (names_end c.items-items.result.now c.loop-i.i c.loop-i-test.false) in
+    (c.loop-i.invariant.agrees may l has way).leads (Ok c.loop-i.number) (subst (λ (xs : List (List ℕ)). LeadsBy was may c.args.pfs.0 l c.loop-i.number xs (Ok c.loop-i.number)) (sym end) ended)

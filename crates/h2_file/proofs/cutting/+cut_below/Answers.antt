@@ -63,10 +63,7 @@ pub returns-in_err-child-clause-touched : goal.returns-in_err-child-clause-touch
 returns-in_err-child-clause-touched g t c =
     let f = g.N.Sets.forest c.args.n.now in
     let count = c.count_below-count.result in
-    let pos : 0 < count = (let e = c.if-count-eq0.false in omega (arith, e)) in
     let read : slice_get (refs f c.args.at.0) (count - 1) ≡ Some c.at.result.now = rw c.get-set.ensures at c.at.ensures in
-    let low : c.at.result.now.key < c.args.size = c.count_below-count.ensures.below (count - 1) c.at.result.now c.at.ensures (omega (arith, pos)) in
-    let past : (j : ℕ) (q : Ref) → slice_get (refs f c.args.at.0) j ≡ Some q → count ≤ j → c.args.size ≤ q.key = rw c.get-set.ensures at c.count_below-count.ensures.past in
     let in_r : holds c.args.size c.at.result.now ≡ true = sym c.holds.ensures ∙ c.if-not-holds.false in
     let ind : is_indirect c.at.result.now ≡ true = sym c.is_indirect.ensures ∙ c.if-not-is_indirect.false in
     let child = c.in_err-child.ensures in
@@ -76,10 +73,7 @@ pub returns-in_err-child-clause-unloaded : goal.returns-in_err-child-clause-unlo
 returns-in_err-child-clause-unloaded g t c =
     let f = g.N.Sets.forest c.args.n.now in
     let count = c.count_below-count.result in
-    let pos : 0 < count = (let e = c.if-count-eq0.false in omega (arith, e)) in
     let read : slice_get (refs f c.args.at.0) (count - 1) ≡ Some c.at.result.now = rw c.get-set.ensures at c.at.ensures in
-    let low : c.at.result.now.key < c.args.size = c.count_below-count.ensures.below (count - 1) c.at.result.now c.at.ensures (omega (arith, pos)) in
-    let past : (j : ℕ) (q : Ref) → slice_get (refs f c.args.at.0) j ≡ Some q → count ≤ j → c.args.size ≤ q.key = rw c.get-set.ensures at c.count_below-count.ensures.past in
     let in_r : holds c.args.size c.at.result.now ≡ true = sym c.holds.ensures ∙ c.if-not-holds.false in
     let ind : is_indirect c.at.result.now ≡ true = sym c.is_indirect.ensures ∙ c.if-not-is_indirect.false in
     let child = c.in_err-child.ensures in
@@ -89,10 +83,7 @@ pub cut_below-requires : goal.cut_below-requires
 cut_below-requires g t c κs within =
     let f = g.N.Sets.forest c.args.n.now in
     let count = c.count_below-count.result in
-    let pos : 0 < count = (let e = c.if-count-eq0.false in omega (arith, e)) in
     let read : slice_get (refs f c.args.at.0) (count - 1) ≡ Some c.at.result.now = rw c.get-set.ensures at c.at.ensures in
-    let low : c.at.result.now.key < c.args.size = c.count_below-count.ensures.below (count - 1) c.at.result.now c.at.ensures (omega (arith, pos)) in
-    let past : (j : ℕ) (q : Ref) → slice_get (refs f c.args.at.0) j ≡ Some q → count ≤ j → c.args.size ≤ q.key = rw c.get-set.ensures at c.count_below-count.ensures.past in
     let in_r : holds c.args.size c.at.result.now ≡ true = sym c.holds.ensures ∙ c.if-not-holds.false in
     let ind : is_indirect c.at.result.now ≡ true = sym c.is_indirect.ensures ∙ c.if-not-is_indirect.false in
     let child = c.in_ok-child.ensures in
@@ -107,10 +98,7 @@ pub returns-in_err-cut_below-clause-touched : goal.returns-in_err-cut_below-clau
 returns-in_err-cut_below-clause-touched g t c =
     let f = g.N.Sets.forest c.args.n.now in
     let count = c.count_below-count.result in
-    let pos : 0 < count = (let e = c.if-count-eq0.false in omega (arith, e)) in
     let read : slice_get (refs f c.args.at.0) (count - 1) ≡ Some c.at.result.now = rw c.get-set.ensures at c.at.ensures in
-    let low : c.at.result.now.key < c.args.size = c.count_below-count.ensures.below (count - 1) c.at.result.now c.at.ensures (omega (arith, pos)) in
-    let past : (j : ℕ) (q : Ref) → slice_get (refs f c.args.at.0) j ≡ Some q → count ≤ j → c.args.size ≤ q.key = rw c.get-set.ensures at c.count_below-count.ensures.past in
     let in_r : holds c.args.size c.at.result.now ≡ true = sym c.holds.ensures ∙ c.if-not-holds.false in
     let ind : is_indirect c.at.result.now ≡ true = sym c.is_indirect.ensures ∙ c.if-not-is_indirect.false in
     let child = c.in_ok-child.ensures in
@@ -120,10 +108,7 @@ pub returns-in_err-cut_below-clause-unloaded : goal.returns-in_err-cut_below-cla
 returns-in_err-cut_below-clause-unloaded g t c =
     let f = g.N.Sets.forest c.args.n.now in
     let count = c.count_below-count.result in
-    let pos : 0 < count = (let e = c.if-count-eq0.false in omega (arith, e)) in
     let read : slice_get (refs f c.args.at.0) (count - 1) ≡ Some c.at.result.now = rw c.get-set.ensures at c.at.ensures in
-    let low : c.at.result.now.key < c.args.size = c.count_below-count.ensures.below (count - 1) c.at.result.now c.at.ensures (omega (arith, pos)) in
-    let past : (j : ℕ) (q : Ref) → slice_get (refs f c.args.at.0) j ≡ Some q → count ≤ j → c.args.size ≤ q.key = rw c.get-set.ensures at c.count_below-count.ensures.past in
     let in_r : holds c.args.size c.at.result.now ≡ true = sym c.holds.ensures ∙ c.if-not-holds.false in
     let ind : is_indirect c.at.result.now ≡ true = sym c.is_indirect.ensures ∙ c.if-not-is_indirect.false in
     let child = c.in_ok-child.ensures in
@@ -133,10 +118,7 @@ pub keep_front-requires-clause-stands : goal.keep_front-requires-clause-stands
 keep_front-requires-clause-stands g t c =
     let f = g.N.Sets.forest c.args.n.now in
     let count = c.count_below-count.result in
-    let pos : 0 < count = (let e = c.if-count-eq0.false in omega (arith, e)) in
     let read : slice_get (refs f c.args.at.0) (count - 1) ≡ Some c.at.result.now = rw c.get-set.ensures at c.at.ensures in
-    let low : c.at.result.now.key < c.args.size = c.count_below-count.ensures.below (count - 1) c.at.result.now c.at.ensures (omega (arith, pos)) in
-    let past : (j : ℕ) (q : Ref) → slice_get (refs f c.args.at.0) j ≡ Some q → count ≤ j → c.args.size ≤ q.key = rw c.get-set.ensures at c.count_below-count.ensures.past in
     let in_r : holds c.args.size c.at.result.now ≡ true = sym c.holds.ensures ∙ c.if-not-holds.false in
     let ind : is_indirect c.at.result.now ≡ true = sym c.is_indirect.ensures ∙ c.if-not-is_indirect.false in
     let child = c.in_ok-child.ensures in
@@ -147,10 +129,7 @@ pub keep_front-requires-clause-room : goal.keep_front-requires-clause-room
 keep_front-requires-clause-room g t c =
     let f = g.N.Sets.forest c.args.n.now in
     let count = c.count_below-count.result in
-    let pos : 0 < count = (let e = c.if-count-eq0.false in omega (arith, e)) in
     let read : slice_get (refs f c.args.at.0) (count - 1) ≡ Some c.at.result.now = rw c.get-set.ensures at c.at.ensures in
-    let low : c.at.result.now.key < c.args.size = c.count_below-count.ensures.below (count - 1) c.at.result.now c.at.ensures (omega (arith, pos)) in
-    let past : (j : ℕ) (q : Ref) → slice_get (refs f c.args.at.0) j ≡ Some q → count ≤ j → c.args.size ≤ q.key = rw c.get-set.ensures at c.count_below-count.ensures.past in
     let in_r : holds c.args.size c.at.result.now ≡ true = sym c.holds.ensures ∙ c.if-not-holds.false in
     let ind : is_indirect c.at.result.now ≡ true = sym c.is_indirect.ensures ∙ c.if-not-is_indirect.false in
     let child = c.in_ok-child.ensures in
@@ -161,10 +140,7 @@ pub keep_front-requires-clause-contents : goal.keep_front-requires-clause-conten
 keep_front-requires-clause-contents g t c =
     let f = g.N.Sets.forest c.args.n.now in
     let count = c.count_below-count.result in
-    let pos : 0 < count = (let e = c.if-count-eq0.false in omega (arith, e)) in
     let read : slice_get (refs f c.args.at.0) (count - 1) ≡ Some c.at.result.now = rw c.get-set.ensures at c.at.ensures in
-    let low : c.at.result.now.key < c.args.size = c.count_below-count.ensures.below (count - 1) c.at.result.now c.at.ensures (omega (arith, pos)) in
-    let past : (j : ℕ) (q : Ref) → slice_get (refs f c.args.at.0) j ≡ Some q → count ≤ j → c.args.size ≤ q.key = rw c.get-set.ensures at c.count_below-count.ensures.past in
     let in_r : holds c.args.size c.at.result.now ≡ true = sym c.holds.ensures ∙ c.if-not-holds.false in
     let ind : is_indirect c.at.result.now ≡ true = sym c.is_indirect.ensures ∙ c.if-not-is_indirect.false in
     let child = c.in_ok-child.ensures in
@@ -178,8 +154,6 @@ keep_front-requires-clause-some g t c =
     let count = c.count_below-count.result in
     let pos : 0 < count = (let e = c.if-count-eq0.false in omega (arith, e)) in
     let read : slice_get (refs f c.args.at.0) (count - 1) ≡ Some c.at.result.now = rw c.get-set.ensures at c.at.ensures in
-    let low : c.at.result.now.key < c.args.size = c.count_below-count.ensures.below (count - 1) c.at.result.now c.at.ensures (omega (arith, pos)) in
-    let past : (j : ℕ) (q : Ref) → slice_get (refs f c.args.at.0) j ≡ Some q → count ≤ j → c.args.size ≤ q.key = rw c.get-set.ensures at c.count_below-count.ensures.past in
     let in_r : holds c.args.size c.at.result.now ≡ true = sym c.holds.ensures ∙ c.if-not-holds.false in
     let ind : is_indirect c.at.result.now ≡ true = sym c.is_indirect.ensures ∙ c.if-not-is_indirect.false in
     let child = c.in_ok-child.ensures in
@@ -204,10 +178,7 @@ pub keep_front-requires-in-Nothing-clause-contents : goal.keep_front-requires-in
 keep_front-requires-in-Nothing-clause-contents g t c =
     let f = g.N.Sets.forest c.args.n.now in
     let count = c.count_below-count.result in
-    let pos : 0 < count = (let e = c.if-count-eq0.false in omega (arith, e)) in
     let read : slice_get (refs f c.args.at.0) (count - 1) ≡ Some c.at.result.now = rw c.get-set.ensures at c.at.ensures in
-    let low : c.at.result.now.key < c.args.size = c.count_below-count.ensures.below (count - 1) c.at.result.now c.at.ensures (omega (arith, pos)) in
-    let past : (j : ℕ) (q : Ref) → slice_get (refs f c.args.at.0) j ≡ Some q → count ≤ j → c.args.size ≤ q.key = rw c.get-set.ensures at c.count_below-count.ensures.past in
     let in_r : holds c.args.size c.at.result.now ≡ true = sym c.holds.ensures ∙ c.if-not-holds.false in
     let ind : is_indirect c.at.result.now ≡ true = sym c.is_indirect.ensures ∙ c.if-not-is_indirect.false in
     let child = c.in_ok-child.ensures in
@@ -219,10 +190,7 @@ pub shorten-requires-in-All-clause-contents : goal.shorten-requires-in-All-claus
 shorten-requires-in-All-clause-contents g t c =
     let f = g.N.Sets.forest c.args.n.now in
     let count = c.count_below-count.result in
-    let pos : 0 < count = (let e = c.if-count-eq0.false in omega (arith, e)) in
     let read : slice_get (refs f c.args.at.0) (count - 1) ≡ Some c.at.result.now = rw c.get-set.ensures at c.at.ensures in
-    let low : c.at.result.now.key < c.args.size = c.count_below-count.ensures.below (count - 1) c.at.result.now c.at.ensures (omega (arith, pos)) in
-    let past : (j : ℕ) (q : Ref) → slice_get (refs f c.args.at.0) j ≡ Some q → count ≤ j → c.args.size ≤ q.key = rw c.get-set.ensures at c.count_below-count.ensures.past in
     let in_r : holds c.args.size c.at.result.now ≡ true = sym c.holds.ensures ∙ c.if-not-holds.false in
     let ind : is_indirect c.at.result.now ≡ true = sym c.is_indirect.ensures ∙ c.if-not-is_indirect.false in
     let child = c.in_ok-child.ensures in
@@ -309,7 +277,6 @@ pub shorten-requires-in-All-clause-stands : goal.shorten-requires-in-All-clause-
 shorten-requires-in-All-clause-stands g t c =
     let f = g.N.Sets.forest c.args.n.now in
     let count = c.count_below-count.result in
-    let pos : 0 < count = (let e = c.if-count-eq0.false in omega (arith, e)) in
     let read : slice_get (refs f c.args.at.0) (count - 1) ≡ Some c.at.result.now = rw c.get-set.ensures at c.at.ensures in
     let in_r : holds c.args.size c.at.result.now ≡ true = sym c.holds.ensures ∙ c.if-not-holds.false in
     let ind : is_indirect c.at.result.now ≡ true = sym c.is_indirect.ensures ∙ c.if-not-is_indirect.false in
@@ -321,7 +288,6 @@ pub shorten-requires-in-All-clause-room : goal.shorten-requires-in-All-clause-ro
 shorten-requires-in-All-clause-room g t c =
     let f = g.N.Sets.forest c.args.n.now in
     let count = c.count_below-count.result in
-    let pos : 0 < count = (let e = c.if-count-eq0.false in omega (arith, e)) in
     let read : slice_get (refs f c.args.at.0) (count - 1) ≡ Some c.at.result.now = rw c.get-set.ensures at c.at.ensures in
     let in_r : holds c.args.size c.at.result.now ≡ true = sym c.holds.ensures ∙ c.if-not-holds.false in
     let ind : is_indirect c.at.result.now ≡ true = sym c.is_indirect.ensures ∙ c.if-not-is_indirect.false in
@@ -349,7 +315,6 @@ pub keep_front-requires-in-Nothing-clause-stands : goal.keep_front-requires-in-N
 keep_front-requires-in-Nothing-clause-stands g t c =
     let f = g.N.Sets.forest c.args.n.now in
     let count = c.count_below-count.result in
-    let pos : 0 < count = (let e = c.if-count-eq0.false in omega (arith, e)) in
     let read : slice_get (refs f c.args.at.0) (count - 1) ≡ Some c.at.result.now = rw c.get-set.ensures at c.at.ensures in
     let in_r : holds c.args.size c.at.result.now ≡ true = sym c.holds.ensures ∙ c.if-not-holds.false in
     let ind : is_indirect c.at.result.now ≡ true = sym c.is_indirect.ensures ∙ c.if-not-is_indirect.false in
@@ -361,7 +326,6 @@ pub keep_front-requires-in-Nothing-clause-room : goal.keep_front-requires-in-Not
 keep_front-requires-in-Nothing-clause-room g t c =
     let f = g.N.Sets.forest c.args.n.now in
     let count = c.count_below-count.result in
-    let pos : 0 < count = (let e = c.if-count-eq0.false in omega (arith, e)) in
     let read : slice_get (refs f c.args.at.0) (count - 1) ≡ Some c.at.result.now = rw c.get-set.ensures at c.at.ensures in
     let in_r : holds c.args.size c.at.result.now ≡ true = sym c.holds.ensures ∙ c.if-not-holds.false in
     let ind : is_indirect c.at.result.now ≡ true = sym c.is_indirect.ensures ∙ c.if-not-is_indirect.false in
@@ -389,7 +353,6 @@ pub returns-in_err-child-clause-good : goal.returns-in_err-child-clause-good
 returns-in_err-child-clause-good g t c =
     let f = g.N.Sets.forest c.args.n.now in
     let count = c.count_below-count.result in
-    let pos : 0 < count = (let e = c.if-count-eq0.false in omega (arith, e)) in
     let read : slice_get (refs f c.args.at.0) (count - 1) ≡ Some c.at.result.now = rw c.get-set.ensures at c.at.ensures in
     let ind : is_indirect c.at.result.now ≡ true = sym c.is_indirect.ensures ∙ c.if-not-is_indirect.false in
     carried_good _ _ c.from_residual.result c.in_err-child.field-0.0 c.from_residual.ensures.1 (good_load f c.args.at.0 (count - 1) c.at.result.now c.in_err-child.field-0.0 read ind c.in_err-child.ensures.unloaded c.in_err-child.ensures.good)
@@ -398,7 +361,6 @@ pub returns-in_err-cut_below-clause-good : goal.returns-in_err-cut_below-clause-
 returns-in_err-cut_below-clause-good g t c =
     let f = g.N.Sets.forest c.args.n.now in
     let count = c.count_below-count.result in
-    let pos : 0 < count = (let e = c.if-count-eq0.false in omega (arith, e)) in
     let read : slice_get (refs f c.args.at.0) (count - 1) ≡ Some c.at.result.now = rw c.get-set.ensures at c.at.ensures in
     let ind : is_indirect c.at.result.now ≡ true = sym c.is_indirect.ensures ∙ c.if-not-is_indirect.false in
     let child = c.in_ok-child.ensures in

@@ -1,3 +1,4 @@
+use Rattle.h2_inode.specs.NamesOneLaws.{rootless_one, walks_one}
 use Rattle.h2_file.proofs.Held.{cut_has}
 use Rattle.h2_file.proofs.Sized.{cuts_file, kept_file, kept_resized, others_beside}
 use Rattle.h2_file.proofs.Others.{cut_others}
@@ -23,3 +24,9 @@ returns-clause-later g c = g.met.N.Sets.later_later _ _ _ c.in_ok-cut_tree.ensur
 
 pub returns-clause-others : goal.returns-clause-others
 returns-clause-others g c = cut_others g.N.Nodes.fields _ _ c.args.inode.0 c.args.size c.args.last _ _ _ _ c.requires.sound (returns-clause-cuts g c) (returns-clause-beside g c)
+
+pub returns-in_err-cut_tree-clause-one : goal.returns-in_err-cut_tree-clause-one
+returns-in_err-cut_tree-clause-one g c names = walks_one _ _ names c.in_err-cut_tree.ensures.walks
+
+pub returns-clause-one : goal.returns-clause-one
+returns-clause-one g c names = let cuts = returns-clause-cuts g c in rootless_one _ _ names cuts.sound cuts.roots cuts.still

@@ -3,6 +3,7 @@ use Rattle.h2_inode.specs.Inode.{keys_from}
 use Rattle.h2_inode.specs.Block.{refs_of_body}
 use Rattle.h2_inode.specs.Nodes.{held_by}
 use Rattle.h2_inode.specs.NodeLaws.{no_leaves}
+use Rattle.h2_inode.specs.NamesOneLaws.{rootless_one, walks_one}
 use Rattle.h2_file.proofs.Sized.{file_contents, kept_file, kept_resized}
 use Rattle.h2_file.proofs.Chained.{run_few}
 use Rattle.h2_file.proofs.Linked.{file_kept, inode_kept, links_file, linked_inode, linked_beside, opened_stands, opened_from, put_from}
@@ -96,3 +97,9 @@ returns-clause-others g c = linked_others g.N.Nodes.fields _ _ c.args.inode.0 c.
 pub returns-clause-lifted : goal.returns-clause-lifted
 returns-clause-lifted g c = λ blocks i body bytes new has is embeds covers puts.
     link_lifted _ _ (held_by g.N.Nodes.fields (g.N.Sets.beside c.args.n.now)) _ (g.N.Nodes.told c.args.n.now) _ blocks _ (length bytes) c.args.size _ bytes new c.requires.blocks (returns-clause-links g c) puts c.requires.sound has.stands has.root (no_leaves _ _ _ i has (ap refs_of_body is)) covers refl
+
+pub returns-in_err-prepare-clause-one : goal.returns-in_err-prepare-clause-one
+returns-in_err-prepare-clause-one g c names = walks_one _ _ names c.in_err-prepare.ensures.walks
+
+pub returns-clause-one : goal.returns-clause-one
+returns-clause-one g c names = let links = returns-clause-links g c in rootless_one _ _ names links.sound links.roots (λ m stood now. links.still m stood)

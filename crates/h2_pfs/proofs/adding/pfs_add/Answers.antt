@@ -18,6 +18,8 @@ use Rattle.h2_pfs.proofs.Gone.{held_beside}
 use Rattle.h2_pfs.proofs.Planted.{free_path, visits_takes}
 use Rattle.h2_pfs.proofs.Spaced.{list_stays, fault_before}
 use Rattle.h2_pfs.proofs.Added.{added}
+use Rattle.h2_pfs.proofs.Single.{founded_one}
+use Rattle.h2_inode.specs.NamesOneLaws.{walks_one}
 use Rattle.h2_pfs.proofs.adding.pfs_add.Goals as goal
 
 pub returns-in_err-make_space-clause-fault : goal.returns-in_err-make_space-clause-fault
@@ -168,3 +170,27 @@ returns-in-Err-clause-beside g c =
     let visits = visits_trans _ _ _ (walks_visit _ _ look.walks) made.visits in
     let first = beside_on _ _ _ _ _ _ (λ m st. (look.walks.stays m st).place.stands) look.beside made.beside in
     beside_on _ _ _ _ _ _ (λ m st. (visits.stays m st).place.stands) first c.in-Err.ensures.beside
+
+pub returns-in_err-lookup-clause-one : goal.returns-in_err-lookup-clause-one
+returns-in_err-lookup-clause-one g c names = walks_one _ _ names c.in_err-lookup.ensures.walks
+
+pub returns-in_err-make_space-clause-one : goal.returns-in_err-make_space-clause-one
+returns-in_err-make_space-clause-one g c names =
+    let look = c.in_ok-lookup.ensures in
+    c.in_err-make_space.ensures.visits.names_one look.walks.sound (walks_one _ _ names look.walks)
+
+pub returns-in-Err-clause-one : goal.returns-in-Err-clause-one
+returns-in-Err-clause-one g c names =
+    let look = c.in_ok-lookup.ensures in
+    let made = c.in_ok-make_space.ensures in
+    c.in-Err.ensures.visits.names_one made.visits.sound (made.visits.names_one look.walks.sound (walks_one _ _ names look.walks))
+
+pub returns-in-Ok-clause-one : goal.returns-in-Ok-clause-one
+returns-in-Ok-clause-one g c names =
+    let f = g.N.Sets.forest c.args.n.now in
+    let h = g.N.Sets.forest c.lookup.new.n in
+    let k = g.N.Sets.forest c.make_space.new.n in
+    let look = c.in_ok-lookup.ensures in
+    let made = c.in_ok-make_space.ensures in
+    let super = super_stays f k c.args.root.0 c.requires.super_root (visits_trans f h k (walks_visit f h look.walks) made.visits) in
+    founded_one k (g.N.Sets.forest c.found.new.n) (held_by g.N.Nodes.fields (g.N.Sets.beside c.found.new.n)) c.args.root.0 c.args.leaf c.args.inode super.stands super.root c.in-Ok.ensures.founds (made.visits.names_one look.walks.sound (walks_one f h names look.walks))

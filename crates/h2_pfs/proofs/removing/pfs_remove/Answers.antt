@@ -11,6 +11,7 @@ use Rattle.h2_pfs.proofs.Answering.{carried_err, beside_on}
 use Rattle.h2_pfs.proofs.Kept.{kept_id, found_as}
 use Rattle.h2_pfs.proofs.Found.{found_met, found_path, found_free}
 use Rattle.h2_pfs.proofs.Gone.{Gone, gone, dropped, removes_pfs}
+use Rattle.h2_pfs.proofs.Single.{removed_one}
 use Rattle.h2_pfs.proofs.removing.pfs_remove.Given.{Over}
 use Rattle.h2_pfs.proofs.removing.pfs_remove.Goals.{After-drop-pfss-2}
 use Rattle.h2_pfs.proofs.removing.pfs_remove.Goals as goal
@@ -140,3 +141,24 @@ returns-clause-listed g c next known has =
 
 pub returns-clause-beside : goal.returns-clause-beside
 returns-clause-beside g c = beside_on _ _ _ _ _ _ (λ m st. (c.in_ok-pfss.ensures.visits.stays m st).place.stands) c.in_ok-pfss.ensures.beside c.in_ok-remove.ensures.beside
+
+pub returns-in_err-pfss-clause-one : goal.returns-in_err-pfss-clause-one
+returns-in_err-pfss-clause-one g c names = c.in_err-pfss.ensures.visits.names_one c.requires.sound names
+
+pub returns-in_default-clause-one : goal.returns-in_default-clause-one
+returns-in_default-clause-one g c names = c.in_ok-pfss.ensures.visits.names_one c.requires.sound names
+
+pub returns-then-handles-gt0-clause-one : goal.returns-then-handles-gt0-clause-one
+returns-then-handles-gt0-clause-one g c names = c.in_ok-pfss.ensures.visits.names_one c.requires.sound names
+
+pub returns-in_err-remove-clause-one : goal.returns-in_err-remove-clause-one
+returns-in_err-remove-clause-one g c =
+    let met = c.in_ok-pfss.ensures.met in
+    let id_is = kept_id c.args.name.now _ _ met.0 _ (sym c.in-Some.is ∙ c.id_in.ensures) c.deref.ensures.value met.2 in
+    let top = c.args.root.0 in
+    let holds = held_by g.N.Nodes.fields (g.N.Sets.beside c.scan.new.n) in
+    let it = found_met (g.N.Sets.forest c.scan.new.n) holds top c.in-Some.id c.args.name.now met.1.leaves met.0 met.1.each id_is in
+    absurd (c.in_err-remove.ensures.unloaded _ (found_path (g.N.Sets.forest c.scan.new.n) holds top c.in-Some.id c.args.name.now it))
+
+pub returns-clause-one : goal.returns-clause-one
+returns-clause-one g c names = let gone = out g c in removed_one _ _ c.args.root.0 gone.leaf gone.removes (c.in_ok-pfss.ensures.visits.names_one c.requires.sound names)

@@ -1,5 +1,5 @@
 -- Bytes that leave the inode of a file for its blocks.
-use Rattle.std.proofs.Common.{◌≡◌, ℕ, ◌+◌, ◌^◌, ◌<◌, ◌≤◌, true, false, arith, refl, sym, ◌∙◌, ap, List, [], ◌∷◌, length, Some, inl, inr, slice_get, slice_index, suc, zero}
+use Rattle.std.proofs.Common.{◌≡◌, ℕ, ◌^◌, ◌≤◌, true, false, arith, refl, sym, ◌∙◌, ap, List, [], ◌∷◌, length, Some, inl, inr, slice_get, slice_index, suc, zero}
 use Rattle.std.proofs.lemmas.Bool.{cases_lt}
 use Rattle.h2_ref.specs.declared.reference.Ref.{Ref}
 use Rattle.h2_set.specs.Ranges.{holds}
