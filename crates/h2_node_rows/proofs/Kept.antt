@@ -5,9 +5,9 @@ use Rattle.h2_ref.specs.declared.reference.Ref.{Ref}
 use Rattle.h2_set.specs.Ranges.{NoneHolds}
 use Rattle.h2_set.specs.RefSet.{RefSet}
 use Rattle.h2_set.specs.StayLaws.{InPlace-trans}
-use Rattle.h2_set.specs.Forest.{Forest, IsSound, Same, Reaches, nowhere, here, below, ReadiesOnly, Unchanged}
+use Rattle.h2_set.specs.Forest.{Forest, IsSound, Same, Reaches, nowhere, here, below, Unchanged}
 use Rattle.h2_inode.specs.declared.inode.Inode.{Inode}
-use Rattle.h2_inode.specs.Nodes.{Fields, IsUnloaded, Brings, Replaces, set_of}
+use Rattle.h2_inode.specs.Nodes.{Fields, Brings, Replaces, set_of}
 use Rattle.h2_inode.specs.PathLaws.{refit_place, refit_path}
 use Rattle.h2_memory_sets.specs.Roots.{AddsSuperRoot, HoldsRoot}
 use Rattle.h2_tree.specs.Changes.{Inserts}
@@ -64,10 +64,6 @@ leafed f g c leaf old is l ins path =
       unowned = λ t k. place.belongs t k ∙ is.unowned t k;
       free = λ m. fixed.held m ∙ is.free m;
     }
-
--- no root is named by a leaf to which nothing belongs
-pub none_named : (g : Forest) (c key : ℕ) → ((m : ℕ) → g.stands m ≡ true → g.belongs m c key ≡ true → ⊥) → IsUnloaded g c key
-none_named g c key none = λ d n. none d n.stands ((n.belongs c key).1 (inl (refl, refl)))
 
 -- where the root of a directory without leaves gets the set of another
 pub replaced : (f g : Forest) (holds : ℕ → Option Fields) (at root : ℕ) (leaf : Ref) (i : Inode) → IsVolume f root leaf → IsWorked f holds at → IsEmptyDirectory i → Replaces f g at (set_of i.body) → IsVolume g root leaf

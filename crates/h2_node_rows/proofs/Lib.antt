@@ -1,5 +1,2 @@
-pub mod DirectoriesTopped
-pub mod FilesBlocks
-pub mod FilesTopped
 pub mod Kept
-pub mod Topped
+pub mod PfssTopped

@@ -1,5 +1,4 @@
-pub mod DirectoryUnderTest
-pub mod FileUnderTest
 pub mod LeafUnderTest
 pub mod PfsUnderTest
+pub mod SuperRootLaws
 pub mod VolumeUnderTest

@@ -5,7 +5,7 @@ ghost use Rattle.h2_node_rows.specs.LeafUnderTest.{IsNumberedLeaf};
 ghost use Rattle.h2_node_rows.specs.PfsUnderTest.{IsNewPfs};
 ghost use Rattle.h2_node_rows.specs.VolumeUnderTest.{IsTop};
 
-use super::super_roots::{numbered_leaf, super_root};
+use crate::{numbered_leaf, super_root};
 use h2_inode::{Body, Inode, InodeKind, PfsName};
 use h2_memory_sets::MemorySets;
 use h2_num::{Names, NoMemory};

@@ -3,7 +3,7 @@ ghost use Rattle.h2_node_rows.specs.VolumeUnderTest.{IsTop};
 
 use super::pfss::Pfss;
 use super::pfss_plain::{PlainPfs, PlainPfss};
-use super::super_roots::{BLOCK_PLACE, INODE_PLACE};
+use crate::{BLOCK_PLACE, INODE_PLACE};
 use h2_pfs::PfsFault;
 use h2_ref::{Trouble, Why};
 use std::process::Abort;

@@ -1,13 +1,13 @@
-ghost use Rattle.std.specs.Prelude.{◌≡◌, ◌≤◌, [], IfOk, IfSome};
+ghost use Rattle.std.specs.Prelude.{◌≡◌, ◌≤◌, IfOk, IfSome};
 ghost use Rattle.h2_ref.specs.declared.reference.Ref.{Ref};
 ghost use Rattle.h2_inode.specs.declared.inode.Inode.{Inode};
 ghost use Rattle.h2_inode.specs.Nodes.{HasInode, IsUnloaded};
 ghost use Rattle.h2_memory_sets.specs.Seen.{forest_of};
 ghost use Rattle.h2_node_rows.specs.VolumeUnderTest.{IsTop, IsLeaf, IsVolume, IsEmptyDirectory, IsWorked, holds_of};
 
+use crate::super_root;
 use h2_inode::{Body, Inode, InodeKind, Nodes, PfsName};
 use h2_memory_sets::MemorySets;
-use h2_num::NoMemory;
 use h2_ref::{Check, Kind, Ref, Trouble};
 use h2_set::{NodeId, Set, Sets};
 use h2_tree::{insert, tree_law};
@@ -16,9 +16,6 @@ use std::test::Fail;
 
 /// The epoch of what is made.
 const EPOCH: u64 = 5;
-
-/// How many blocks can be taken: more than all tests take.
-const ROOM: u64 = 1000;
 
 /// The number of the inode.
 const NUMBER: u64 = 1;
@@ -61,7 +58,7 @@ impl Volume {
         ensures volume { IfOk result (λ v. IsVolume (forest_of v.nodes) v.root.0 v.leaf) }
         ensures unloaded { IfOk result (λ v. let r : Ref = v.leaf in IsUnloaded (forest_of v.nodes) v.root.0 r.key) }
     {
-        let (nodes, root) = empty(alloc)?;
+        let (nodes, root) = super_root(alloc)?;
         let Some(leaf) = inode_leaf() else {
             return Err(Fail::new("no leaf of the tree"));
         };
@@ -137,16 +134,6 @@ impl Volume {
     }
 }
 
-/// A super-root without a leaf, and nodes to spare.
-pub(super) fn empty(alloc: Global) -> Result<(MemorySets, NodeId), NoMemory>
-    ensures { IfOk result (λ p. let c = p.1 in IsTop (forest_of p.0) c.0) }
-{
-    let mut nodes = MemorySets::new(alloc, EPOCH, ROOM);
-    let root = nodes.add_super_root()?;
-    nodes.ready(alloc, 4)?;
-    Ok((nodes, root))
-}
-
 // Adds the leaf.
 fn with_leaf(alloc: Global, mut nodes: MemorySets, root: NodeId, leaf: Ref) -> Result<Volume, Fail>
     requires empty { IsTop (forest_of nodes) root.0 }
@@ -164,8 +151,8 @@ fn with_leaf(alloc: Global, mut nodes: MemorySets, root: NodeId, leaf: Ref) -> R
     Ok(Volume { nodes, root, leaf })
 }
 
-/// The leaf of inode 1.
-pub(super) fn inode_leaf() -> Option<Ref>
+// The leaf of inode 1.
+fn inode_leaf() -> Option<Ref>
     ensures { IfSome result IsLeaf }
 {
     let leaf = Ref {

@@ -1,7 +1,8 @@
 use Rattle.std.proofs.Common.{subst}
 use Rattle.h2_tree.specs.Changes.{Inserts}
 use Rattle.h2_memory_sets.specs.Seen.{forest_of}
-use Rattle.h2_node_rows.proofs.Kept.{leafed, none_named}
+use Rattle.h2_node_rows.specs.SuperRootLaws.{none_named}
+use Rattle.h2_node_rows.proofs.Kept.{leafed}
 use Rattle.h2_node_rows.proofs.tests.under_test.with_leaf.Goals as goal
 
 pub returns-clause-volume : goal.returns-clause-volume

@@ -1,4 +1,4 @@
-use Rattle.h2_node_rows.proofs.Topped.{visited}
+use Rattle.h2_node_rows.specs.SuperRootLaws.{visited}
 use Rattle.h2_node_rows.proofs.tests.pfss.Pfss.find.Goals as goal
 
 pub returns : goal.returns

@@ -1,4 +1,4 @@
-use Rattle.h2_node_rows.proofs.Topped.{added_or_not}
+use Rattle.h2_node_rows.proofs.PfssTopped.{added_or_not}
 use Rattle.h2_node_rows.proofs.tests.pfss.Pfss.found.Goals as goal
 
 pub returns : goal.returns

@@ -1,5 +1,5 @@
 use Rattle.h2_inode.specs.VisitLaws.{walks_visit}
-use Rattle.h2_node_rows.proofs.Topped.{visited}
+use Rattle.h2_node_rows.specs.SuperRootLaws.{visited}
 use Rattle.h2_node_rows.proofs.tests.pfss.Pfss.is_free.Goals as goal
 
 pub returns-in_err-lookup-clause-top : goal.returns-in_err-lookup-clause-top

@@ -1,5 +1,5 @@
 use Rattle.std.proofs.Common.{◌≡◌, true, false, sym, ◌∙◌}
-use Rattle.h2_node_rows.proofs.Topped.{removed_or_not}
+use Rattle.h2_node_rows.proofs.PfssTopped.{removed_or_not}
 use Rattle.h2_node_rows.proofs.tests.pfss.Pfss.remove.Goals as goal
 
 pub returns : goal.returns

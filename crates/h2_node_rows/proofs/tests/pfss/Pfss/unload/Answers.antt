@@ -1,4 +1,4 @@
-use Rattle.h2_node_rows.proofs.FilesTopped.{unloaded, unloaded_from}
+use Rattle.h2_node_rows.specs.SuperRootLaws.{unloaded, unloaded_from}
 use Rattle.h2_node_rows.proofs.tests.pfss.Pfss.unload.Goals as goal
 
 pub returns : goal.returns

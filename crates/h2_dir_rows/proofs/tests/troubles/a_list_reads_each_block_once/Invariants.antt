@@ -1,0 +1,6 @@
+use Rattle.h2_memory_sets.specs.Seen.{forest_of}
+use Rattle.h2_node_rows.specs.VolumeUnderTest.{IsTop}
+use Rattle.h2_dir_rows.proofs.tests.troubles.a_list_reads_each_block_once.Given as goal
+
+abbrev pub invariant-loop-place : goal.invariant-loop-place
+invariant-loop-place g l = IsTop (forest_of l.dir.nodes) l.dir.root.0

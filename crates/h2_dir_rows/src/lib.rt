@@ -1,0 +1,7 @@
+//! Directories at work, as tests of `h2_dir` over sets in memory. They show what no contract says: that ample memory is
+//! enough, that what was unloaded is found again, and which load fails how. What a directory holds is compared with the
+//! plain list of its entries after each call.
+#![tactic(auto)]
+
+#[cfg(test)]
+mod tests;

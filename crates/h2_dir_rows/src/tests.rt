@@ -1,0 +1,9 @@
+mod changing;
+mod collisions;
+mod directory;
+mod making;
+mod names;
+mod opening;
+mod rows;
+mod table;
+mod troubles;

@@ -1,0 +1,6 @@
+mod blocks;
+mod both;
+mod files;
+mod orders;
+mod plain;
+mod rows;

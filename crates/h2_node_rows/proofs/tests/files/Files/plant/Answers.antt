@@ -1,5 +1,0 @@
-use Rattle.h2_node_rows.proofs.FilesTopped.{brought}
-use Rattle.h2_node_rows.proofs.tests.files.Files.plant.Goals as goal
-
-pub returns : goal.returns
-returns c = let plants = c.plant.ensures.plants in brought _ _ _ _ c.requires.top plants.brings

@@ -1,4 +1,0 @@
-use Rattle.h2_node_rows.proofs.tests.files_blocks.are_blocks.Goals as goal
-
-pub returns : goal.returns
-returns c = λ ok. record { each = c.are_each_blocks.ensures c.if-not-are_each_blocks.false; run = c.is_run.ensures ok }
