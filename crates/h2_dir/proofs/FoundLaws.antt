@@ -1,12 +1,12 @@
 -- What was found and what is missing agree with the entries of the directory.
-use Rattle.std.specs.Prelude.{◌≡◌, ℕ, zero, suc, Bool, true, false, List, [], ◌∷◌, ◌++◌, Option, Some, None, slice_get, refl}
+use Rattle.std.specs.Prelude.{◌≡◌, ℕ, zero, suc, Bool, true, false, List, Option, Some, None, slice_get, refl}
 use Rattle.std.proofs.Common.{ap, sym, ◌∙◌, subst}
 use Rattle.std.proofs.lemmas.Option.{none-some, same_Some}
 use Rattle.std.specs.FinMap.{get}
 use Rattle.h2_ref.specs.declared.reference.Dirent.{Dirent}
 use Rattle.h2_ref.specs.declared.reference.Ref.{Ref}
 use Rattle.h2_set.specs.Ranges.{is_indirect}
-use Rattle.h2_set.specs.Forest.{Forest, refs, loaded, told, HasLeaves, done, one, near, far, LeavesOf, Reaches, nowhere, here, below}
+use Rattle.h2_set.specs.Forest.{Forest, loaded, told, HasLeaves, done, one, near, far, LeavesOf, Reaches, nowhere, here, below}
 use Rattle.h2_tree.specs.ListLaws.{In, has_left, has_right}
 use Rattle.h2_tree.specs.TreeLaws.{leaves_reached}
 use Rattle.h2_dirkey.specs.Key.{least_key}

@@ -1,5 +1,5 @@
 -- Names that are known: no block of theirs is bad.
-use Rattle.std.specs.Prelude.{◌≡◌, ◌<◌, ◌≤◌, ℕ, Bool, true, List, length, filter, slice_get, Contains, IsErrAnd, IfErr, Option, Some, Result, Ok, Err}
+use Rattle.std.specs.Prelude.{◌≡◌, ◌<◌, ◌≤◌, ℕ, Bool, true, List, length, filter, Contains, IsErrAnd, IfErr, Option, Some, Result, Ok, Err}
 use Rattle.std.proofs.Common.{sym, ◌∙◌, subst, inl, inr, get_or}
 use Rattle.std.proofs.lemmas.Option.{same_Some, slice_get-get_or}
 use Rattle.h2_ref.specs.declared.faults.Trouble.{Trouble}

@@ -1,5 +1,5 @@
 -- Which nodes a walk loads.
-use Rattle.std.proofs.Common.{◌≡◌, ◌⊎◌, ◌<◌, ◌≤◌, ◌+◌, ◌^◌, ℕ, true, false, sym, ◌∙◌, ap, subst, inl, inr, List, [], ◌∷◌, Option, Ok, Err, Result}
+use Rattle.std.proofs.Common.{◌≡◌, ◌⊎◌, ◌<◌, ◌≤◌, ◌+◌, ◌^◌, ℕ, true, false, sym, ◌∙◌, subst, inl, inr, List, ◌∷◌, Option, Ok}
 use Rattle.std.proofs.lemmas.Bool.{cases_Bool}
 use Rattle.h2_set.specs.Forest.{Forest, IsSound, InPlace, KeepsBeside}
 use Rattle.h2_tree.specs.Changes.{LoadsTouched, LoadsIn}
@@ -10,7 +10,7 @@ use Rattle.h2_inode.specs.declared.kind.InodeKind.TheVariants.{Directory}
 use Rattle.h2_inode.specs.Nodes.{Fields, held_by, Seeks, Visits}
 use Rattle.h2_dir.specs.declared.fault.DirFault.{DirFault}
 use Rattle.h2_dir.specs.declared.fault.DirFault.TheVariants as fault
-use Rattle.h2_dir.specs.Finding.{last_key, IsFound, FindFails}
+use Rattle.h2_dir.specs.Finding.{last_key, FindFails}
 use Rattle.h2_dir.specs.Walking.{IsMember, HasKeyOf, StepNode, on_path, its_inode, in_search, LoadsStep, WalkNode, first_step, later_step, LoadsWalk, StepEnds}
 use Rattle.h2_dir.proofs.Walked.{member_stays, found_stays}
 

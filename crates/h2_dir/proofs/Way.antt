@@ -1,5 +1,5 @@
 -- What is known of a PFS stays so over loads, and the load of an inode brings what was known of it.
-use Rattle.std.specs.Prelude.{◌≡◌, ℕ, Bool, true, false, List, [], ◌∷◌, Contains, Option, Some, IsErrAnd, IfErr, Result, Ok, Err, refl}
+use Rattle.std.specs.Prelude.{◌≡◌, ℕ, Bool, true, false, List, [], ◌∷◌, Contains, Some, IsErrAnd, IfErr, Result, Ok, Err, refl}
 use Rattle.std.specs.FinMap.{get}
 use Rattle.std.proofs.Common.{sym, ◌∙◌, subst, inl, inr}
 use Rattle.h2_ref.specs.declared.faults.Trouble.{Trouble}
@@ -7,11 +7,11 @@ use Rattle.h2_ref.specs.declared.reference.Ref.{Ref}
 use Rattle.h2_set.specs.Forest.{Forest, LeavesOf, Reaches, IsBad}
 use Rattle.h2_inode.specs.declared.inode.Inode.{Inode}
 use Rattle.h2_inode.specs.declared.kind.InodeKind.TheVariants.{Directory}
-use Rattle.h2_inode.specs.Nodes.{Told, HasInode, IsNamed, IsUnloaded, Seeks}
+use Rattle.h2_inode.specs.Nodes.{Told, HasInode, IsUnloaded, Seeks}
 use Rattle.h2_inode.specs.Directory.{Entries, IsDirectory}
 use Rattle.h2_inode.specs.CarryLaws.{directory_carried}
-use Rattle.h2_inode.specs.Loaded.{Tree, at_root, of_leaves, IsLoaded, IsTold, NamesInode, View, reading, no_content, IsSameTree, Rereads, StandsAlike, as_before, by_load, over_loads}
-use Rattle.h2_inode.specs.LoadedLaws.{rereads_follow, alike_stands, alike_leaves}
+use Rattle.h2_inode.specs.Loaded.{Tree, at_root, of_leaves, NamesInode, View, reading, no_content, IsSameTree, Rereads, StandsAlike, as_before, by_load, over_loads}
+use Rattle.h2_inode.specs.LoadedLaws.{rereads_follow}
 use Rattle.h2_dir.specs.declared.fault.DirFault.{DirFault}
 use Rattle.h2_dir.specs.declared.fault.DirFault.TheVariants as fault
 use Rattle.h2_dir.specs.Finding.{FindFails, IsBadBlock}

@@ -1,5 +1,4 @@
 use Rattle.std.proofs.Common.{◌≡◌, ◌+◌, None, Some, sym, subst, ap, ◌∙◌, arith, false, refl}
-use Rattle.std.specs.Prelude.{Option}
 use Rattle.h2_ref.specs.declared.reference.Ref.{Ref}
 use Rattle.h2_set.specs.Ranges.{put, holds, find}
 use Rattle.h2_set.specs.Forest.{Reaches, LeavesOf}

@@ -6,7 +6,7 @@ use Rattle.h2_inode.specs.Nodes.{held_by, IsNamed, IsUnloaded, Seeks}
 use Rattle.h2_inode.specs.VisitLaws.{walks_visit, seeks_visit, unchanged_visits, visits_trans, visits_leaf}
 use Rattle.h2_dir.specs.declared.fault.DirFault.TheVariants as fault
 use Rattle.h2_dir.specs.Walking.{IsMember, StepEnds, LoadsStep, by_inode}
-use Rattle.h2_inode.specs.Loaded.{View, StandsAlike, view_of}
+use Rattle.h2_inode.specs.Loaded.{View, view_of}
 use Rattle.h2_inode.specs.LoadedLaws.{alike_trans, walks_reread, seeks_reread, beside_holds}
 use Rattle.h2_dir.specs.Knowing.{KnowsWay}
 use Rattle.h2_dir.proofs.Way.{way_alike, way_block, way_found, way_next, good_trouble}
