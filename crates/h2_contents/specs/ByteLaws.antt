@@ -85,7 +85,7 @@ byte_put bytes off new i = elim (cases_lt i off) [
 ]
 
 pub byte_written : (bytes : List ℕ) (off : ℕ) (new : List ℕ) (i : ℕ) → get_or (written_at bytes off new) i 0 ≡ laid off new i (get_or bytes i 0)
-byte_written bytes off [] i = outside_test off i 0 0 (get_or bytes i 0) (elim (cases_lt i off) [ | inl lt ↦ inl lt | inr ge ↦ inr (omega arith) ])
+byte_written bytes off [] i = outside_test off i 0 0 (get_or bytes i 0) (elim (cases_lt i off) [ inl lt ↦ inl lt | inr ge ↦ inr (omega arith) ])
 byte_written bytes off (byte ∷ new) i = byte_put bytes off (byte ∷ new) i
 
 -- a window that has each byte of the file from a place on is what is read there

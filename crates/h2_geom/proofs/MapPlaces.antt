@@ -62,7 +62,7 @@ pub headers_distinct : HeadersApart
 headers_distinct s t ne = by_order (cases_lt s t)
   where
     above : t ≤ s → t < s
-    above le = elim (cases_lt t s) [ | inl lt ↦ lt | inr ge ↦ absurd (ne (omega (arith, le, ge))) ]
+    above le = elim (cases_lt t s) [ inl lt ↦ lt | inr ge ↦ absurd (ne (omega (arith, le, ge))) ]
 
     by_order : (s < t) ⊎ (t ≤ s) → IsApart (header_place s) header_bytes (header_place t) header_bytes
     by_order (inl lt) = inl (omega arith)
