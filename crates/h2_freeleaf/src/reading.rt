@@ -211,7 +211,7 @@ fn read_eight<D: Disk>(
 }
 
 /// The freemap of an image under a header, whose fields are those of a header: the map of its zones, with no cursor
-/// and no pin, and the codes to which the header's map leads. It reads each block once, and writes nothing.
+/// and no pin, and the codes to which the header's map leads. It writes nothing.
 ///
 /// # Errors
 /// `Fault` names the first bad block in the order of keys, where a node comes before what is under it: its check, or

@@ -20,7 +20,7 @@ impl PlainLedger {
     ghost use Rattle.h2_plain_ledger.specs.Steps.{HasRoom, IsTakenNext, IsTakenFirst, IsTakenWhole, IsShareable, with_adopted};
 
     /// Takes a block of a shared size at its cursor, and pins it. It is refused exactly where there is no
-    /// cursor, or its chunk has no room for the block.
+    /// cursor, or its chunk has no room for the block or isn't one of the volume's.
     pub fn take_next(&mut self, size: SharedSize) -> Result<Option<Block>, NoMemory>
         ensures moves { IfOk result (λ answer. IfSome answer (λ b. Makes has (moves.take_next size b) (ledger_of self.old) (ledger_of self.new))) }
         ensures lists { IfOk result (λ answer. IfSome answer (λ b. IsTakenNext size b (lists_of self.old) (lists_of self.new))) }

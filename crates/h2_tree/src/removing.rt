@@ -90,8 +90,8 @@ fn take<N: Sets>(alloc: Global, n: &mut N, at: NodeId, key: u64) -> Result<Taken
 }
 
 /// Takes out the leaf with this key, which is answered; None exactly where there is none, and then nothing but loads
-/// took place, and the loaded path of the key leads to no leaf of this key. No node off that path is loaded. What the
-/// leaf names isn't held, and the room is at least 62; it is lowered by the number of nodes that
+/// took place, and the loaded path of the key leads to no leaf of this key. No node off that path is loaded. Nothing
+/// that belongs to what the leaf names is held, and the room is at least 62; it is lowered by the number of nodes that
 /// are copied. Of the tree nothing goes but indirect blocks that would be left empty: the reference to the uppermost of
 /// them is cut. Paths to other keys stay loaded. Trouble only where a node on the key's path isn't loaded, and never a
 /// bad block where the tree's leaves are known; nothing but loads took place then.
