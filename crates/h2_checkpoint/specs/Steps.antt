@@ -1,5 +1,5 @@
 -- What the calls of a flush do to where a volume stands.
-use Rattle.std.specs.Prelude.{◌≡◌, ◌⊎◌, ◌<◌, ◌≤◌, ◌+◌, ℕ, List, [], ◌∷◌, map, drop, Result, Ok, Err}
+use Rattle.std.specs.Prelude.{◌≡◌, ◌⊎◌, ◌<◌, ◌≤◌, ◌+◌, ℕ, List, [], ◌∷◌, length, map, drop, Result, Ok, Err}
 use Rattle.h2_num.specs.Places.{Places, InRange}
 use Rattle.h2_num.specs.Causes.{one_more}
 use Rattle.h2_disk.specs.Trace.{Trace, IsDurable}
@@ -36,27 +36,29 @@ pub record IsPlanOf (v : Format) (f : Frozen v) (pieces : List Piece) (place : �
   pub place_is : place ≡ slot_place (slot_of_checkpoint v f.checkpoint)
   pub header_is : f.bytes ≡ header
 
--- the header went out in this time and is done, and so it is noted
-abbrev pub IsOutAndDone : {F : Type 0} → ℕ → ℕ → ℕ → List (Mark F) → List (Mark F) → Type 0
-IsOutAndDone number moment moment_new marks marks_new = (t : ℕ) × (moment ≤ t) × (t ≤ moment_new) × (marks_new ≡ Header_done number moment_new ∷ Header_out number t ∷ marks)
+-- what a whole flush of so many pieces notes that begins at a moment: its header went out when its write began, after all pieces and a sync, and was done after one more sync
+abbrev pub marks_of_flush : {F : Type 0} → ℕ → ℕ → ℕ → List (Mark F) → List (Mark F)
+marks_of_flush number pieces moment marks = Header_done number (moment + pieces + 5) ∷ Header_out number (moment + pieces + 3) ∷ marks
 
--- nothing is noted, or that the header went out in this time
-abbrev pub MayBeOut : {F : Type 0} → ℕ → ℕ → ℕ → List (Mark F) → List (Mark F) → Type 0
-MayBeOut number moment moment_new marks marks_new = (marks_new ≡ marks) ⊎ ((t : ℕ) × (moment ≤ t) × (t ≤ moment_new) × (marks_new ≡ Header_out number t ∷ marks))
+-- a flush of so many pieces that a fault ended at a moment has noted nothing, where that came before the header's write, or else that the header went out when its write began
+abbrev pub MayBeOut : {F : Type 0} → ℕ → ℕ → ℕ → ℕ → List (Mark F) → List (Mark F) → Type 0
+MayBeOut number pieces moment moment_new marks marks_new =
+    ((moment_new ≤ moment + pieces + 1) × (marks_new ≡ marks))
+    ⊎ ((moment + pieces + 2 ≤ moment_new) × (moment_new ≤ moment + pieces + 4) × (marks_new ≡ Header_out number (one_more (moment + pieces + 2)) ∷ marks))
 
 -- from a frozen flush to its completed checkpoint
 abbrev pub Finishes : (v : Format) → List Piece → ℕ → List ℕ → DiskState → DiskState → Type 0
 Finishes v pieces place header old new =
     IsLawful v → (start : ℕ) (opening newest : Newest v) (before : Trace) (f : Frozen v) (g : Progress) (marks : List (Mark v.Forest)) → IsPlanOf v f pieces place header
     → StandsAt v start opening before old newest (UnderWay f g (Writing f.queue)) marks
-    → (marks_new : List (Mark v.Forest)) × IsOutAndDone (v.number f.checkpoint.header) old.moment new.moment marks marks_new × StandsAt v start opening before new (Completed f.checkpoint) Idle marks_new
+    → StandsAt v start opening before new (Completed f.checkpoint) Idle (marks_of_flush (v.number f.checkpoint.header) (length pieces) old.moment marks)
 
 -- or a fault sets it back to the start of its queue
 abbrev pub IsSetBack : (v : Format) → List Piece → ℕ → List ℕ → DiskState → DiskState → Type 0
 IsSetBack v pieces place header old new =
     IsLawful v → (start : ℕ) (opening newest : Newest v) (before : Trace) (f : Frozen v) (g : Progress) (marks : List (Mark v.Forest)) → IsPlanOf v f pieces place header
     → StandsAt v start opening before old newest (UnderWay f g (Writing f.queue)) marks
-    → (h : Progress) × (marks_new : List (Mark v.Forest)) × MayBeOut (v.number f.checkpoint.header) old.moment new.moment marks marks_new × StandsAt v start opening before new newest (UnderWay f h (Writing f.queue)) marks_new
+    → (h : Progress) × (marks_new : List (Mark v.Forest)) × MayBeOut (v.number f.checkpoint.header) (length pieces) old.moment new.moment marks marks_new × StandsAt v start opening before new newest (UnderWay f h (Writing f.queue)) marks_new
 
 -- all pieces are written
 abbrev pub WritesPieces : (v : Format) → List Piece → DiskState → DiskState → Type 0

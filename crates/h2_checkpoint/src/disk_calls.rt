@@ -25,6 +25,7 @@ pub(crate) fn write_pieces<D: Disk, V: VolumeFormat>(
         → (k : ℕ) → (InEntries (queue_of pieces.now) k → ⊥) → D.image disk.new k ≡ D.image disk.old k) }
     ensures time { OnOk result (D.moment disk.new ≡ D.moment disk.old + length pieces.now) }
     ensures time_failed { OnErr result (D.moment disk.old ≤ D.moment disk.new) }
+    ensures time_most { OnErr result (D.moment disk.new ≤ D.moment disk.old + length pieces.now) }
     ensures later { D.faults disk.old ≤ D.faults disk.new }
     ensures cause { IfErr result (λ fault. HasCause (D.faults disk.old) (D.faults disk.new) fault) }
 {
