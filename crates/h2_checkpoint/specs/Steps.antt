@@ -1,6 +1,6 @@
 -- What the calls of a flush do to where a volume stands.
-use Rattle.std.specs.Prelude.{◌≡◌, ◌⊎◌, ◌<◌, ◌≤◌, ◌+◌, ℕ, List, [], ◌∷◌, length, map, drop, Result, Ok, Err}
-use Rattle.h2_num.specs.Places.{Places, InRange}
+use Rattle.std.specs.Prelude.{◌≡◌, ◌⊎◌, ◌<◌, ◌≤◌, ◌+◌, ℕ, zero, suc, List, [], ◌∷◌, length, map, drop, Result, Ok, Err}
+use Rattle.h2_num.specs.Places.{Places, InRange, Same, SameOutside}
 use Rattle.h2_num.specs.Causes.{one_more}
 use Rattle.h2_disk.specs.Trace.{Trace, IsDurable}
 use Rattle.h2_disk.specs.declared.disk.DiskFault.{DiskFault}
@@ -29,6 +29,26 @@ image_with pieces place header image = laid place header (overlay_all (queue_of 
 -- the two are the same, but for what the pieces and the header cover
 abbrev pub SameElsewhere : List Piece → ℕ → ℕ → Places → Places → Type 0
 SameElsewhere pieces place n old new = (k : ℕ) → (InEntries (queue_of pieces) k → ⊥) → (InRange place n k → ⊥) → new k ≡ old k
+
+-- the image with the piece of an index written over it; behind the last one there is none
+abbrev pub with_piece : List Piece → ℕ → Places → Places
+with_piece [] k image = image
+with_piece (piece ∷ pieces) zero image = laid piece.at piece.bytes image
+with_piece (piece ∷ pieces) (suc k) image = with_piece pieces k image
+
+-- the two are the same, but for what the piece of an index covers
+abbrev pub SameBesidePiece : List Piece → ℕ → Places → Places → Type 0
+SameBesidePiece [] k old new = Same old new
+SameBesidePiece (piece ∷ pieces) zero old new = SameOutside piece.at (length piece.bytes) old new
+SameBesidePiece (piece ∷ pieces) (suc k) old new = SameBesidePiece pieces k old new
+
+-- What the call that comes next does to the image: a write lays the piece's bytes, or the header's, over it, and after a fault their range may hold anything; a sync changes nothing.
+abbrev pub StepsImage : List Piece → ℕ → List ℕ → Next → Result Stepped DiskFault → Places → Places → Type 0
+StepsImage pieces place header (Pieces k) (Ok stepped) old new = Same (with_piece pieces k old) new
+StepsImage pieces place header (Pieces k) (Err fault) old new = SameBesidePiece pieces k old new
+StepsImage pieces place header Header (Ok stepped) old new = Same (laid place header old) new
+StepsImage pieces place header Header (Err fault) old new = SameOutside place (length header) old new
+StepsImage pieces place header Finish result old new = Same old new
 
 -- the pieces and the header's bytes are those of the frozen flush
 pub record IsPlanOf (v : Format) (f : Frozen v) (pieces : List Piece) (place : ℕ) (header : List ℕ) : Type 0 where
@@ -162,7 +182,8 @@ Ticks (Ok Out) old new = new ≡ old + 1
 Ticks (Ok Done) old new = new ≡ old + 2
 Ticks (Err fault) old new = new ≡ one_more old
 
--- after the last step the image is durable
+-- after a sync the image is durable
 abbrev pub EndsDurable : Result Stepped DiskFault → DiskState → Type 0
+EndsDurable (Ok Synced) disk = IsDurable disk.trace disk.image
 EndsDurable (Ok Done) disk = IsDurable disk.trace disk.image
 EndsDurable _ disk = Unit {0}

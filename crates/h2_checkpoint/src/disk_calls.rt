@@ -53,6 +53,8 @@ fn settle<D: Disk>(disk: &mut D) -> Result<(), DiskFault>
 
 /// Makes the pieces that were written durable.
 pub(crate) fn sync_blocks<D: Disk, V: VolumeFormat>(disk: &mut D) -> Result<(), DiskFault>
+    ensures syncs { OnOk result (IsTrue D.tells → Syncs (D.moment disk.new)
+        (D.image disk.old) (D.image disk.new) (D.trace disk.old) (D.trace disk.new)) }
     ensures secures { OnOk result (IsTrue D.tells → SecuresBlocks V.format
         (disk_state D.image D.moment D.trace disk.old) (disk_state D.image D.moment D.trace disk.new)) }
     ensures set_back { OnErr result (IsTrue D.tells → FailsToSync V.format
