@@ -37,8 +37,8 @@ pub returns-in-Err-write_header-clause-set_back : goal.returns-in-Err-write_head
 returns-in-Err-write_header-clause-set_back g c =
     let fits : g.D.Disk.moment c.sync_blocks.new.disk < 2 ^ 64 = g.met.D.Disk.moment_fits c.sync_blocks.new.disk in
     λ tells. header_set_back g.V.VolumeFormat.format c.args.pieces.now c.args.place c.args.header.now (disk_state g.D.Disk.image g.D.Disk.moment g.D.Disk.trace c.args.disk.now) (disk_state g.D.Disk.image g.D.Disk.moment g.D.Disk.trace c.write_pieces.new.disk) (disk_state g.D.Disk.image g.D.Disk.moment g.D.Disk.trace c.sync_blocks.new.disk) (disk_state g.D.Disk.image g.D.Disk.moment g.D.Disk.trace c.write_header.new.disk) (c.in_default.ensures.writes tells) (c.in_default-sync_blocks.ensures.secures tells) (c.in-Err-write_header.ensures.set_back tells)
-        (omega (arith, c.in_default.ensures.time, c.in_default-sync_blocks.ensures.time, c.in-Err-write_header.ensures.time_failed))
-        (omega (arith, c.in_default.ensures.time, c.in_default-sync_blocks.ensures.time, c.in-Err-write_header.ensures.time_failed))
+    (omega (arith, c.in_default.ensures.time, c.in_default-sync_blocks.ensures.time, c.in-Err-write_header.ensures.time_failed))
+    (omega (arith, c.in_default.ensures.time, c.in_default-sync_blocks.ensures.time, c.in-Err-write_header.ensures.time_failed))
 
 pub returns-in-Err-write_header-clause-elsewhere : goal.returns-in-Err-write_header-clause-elsewhere
 returns-in-Err-write_header-clause-elsewhere g c =
@@ -61,9 +61,9 @@ pub returns-in-Err-sync_header-clause-set_back : goal.returns-in-Err-sync_header
 returns-in-Err-sync_header-clause-set_back g c =
     let fits : g.D.Disk.moment c.write_header.new.disk < 2 ^ 64 = g.met.D.Disk.moment_fits c.write_header.new.disk in
     λ tells. last_set_back g.V.VolumeFormat.format c.args.pieces.now c.args.place c.args.header.now (disk_state g.D.Disk.image g.D.Disk.moment g.D.Disk.trace c.args.disk.now) (disk_state g.D.Disk.image g.D.Disk.moment g.D.Disk.trace c.write_pieces.new.disk) (disk_state g.D.Disk.image g.D.Disk.moment g.D.Disk.trace c.sync_blocks.new.disk) (disk_state g.D.Disk.image g.D.Disk.moment g.D.Disk.trace c.write_header.new.disk) (disk_state g.D.Disk.image g.D.Disk.moment g.D.Disk.trace c.sync_header.new.disk) (c.in_default.ensures.writes tells) (c.in_default-sync_blocks.ensures.secures tells) (c.in_default-write_header.ensures.sends tells) (c.in-Err-sync_header.ensures.set_back tells)
-        (omega (arith, c.in_default.ensures.time, c.in_default-sync_blocks.ensures.time, c.in_default-write_header.ensures.time))
-        (omega (arith, c.in_default.ensures.time, c.in_default-sync_blocks.ensures.time, c.in_default-write_header.ensures.time, c.in-Err-sync_header.ensures.time_failed))
-        (omega (arith, c.in_default.ensures.time, c.in_default-sync_blocks.ensures.time, c.in_default-write_header.ensures.time, c.in-Err-sync_header.ensures.time_failed))
+    (omega (arith, c.in_default.ensures.time, c.in_default-sync_blocks.ensures.time, c.in_default-write_header.ensures.time))
+    (omega (arith, c.in_default.ensures.time, c.in_default-sync_blocks.ensures.time, c.in_default-write_header.ensures.time, c.in-Err-sync_header.ensures.time_failed))
+    (omega (arith, c.in_default.ensures.time, c.in_default-sync_blocks.ensures.time, c.in_default-write_header.ensures.time, c.in-Err-sync_header.ensures.time_failed))
 
 pub returns-in-Err-sync_header-clause-elsewhere : goal.returns-in-Err-sync_header-clause-elsewhere
 returns-in-Err-sync_header-clause-elsewhere g c =
@@ -85,8 +85,8 @@ returns-in-Err-sync_header-clause-cause g c =
 pub returns-clause-finishes : goal.returns-clause-finishes
 returns-clause-finishes g c =
     λ tells. finishes g.V.VolumeFormat.format c.args.pieces.now c.args.place c.args.header.now (disk_state g.D.Disk.image g.D.Disk.moment g.D.Disk.trace c.args.disk.now) (disk_state g.D.Disk.image g.D.Disk.moment g.D.Disk.trace c.write_pieces.new.disk) (disk_state g.D.Disk.image g.D.Disk.moment g.D.Disk.trace c.sync_blocks.new.disk) (disk_state g.D.Disk.image g.D.Disk.moment g.D.Disk.trace c.write_header.new.disk) (disk_state g.D.Disk.image g.D.Disk.moment g.D.Disk.trace c.sync_header.new.disk) (c.in_default.ensures.writes tells) (c.in_default-sync_blocks.ensures.secures tells) (c.in_default-write_header.ensures.sends tells) (c.in_default-sync_header.ensures.completes tells)
-        (omega (arith, c.in_default.ensures.time, c.in_default-sync_blocks.ensures.time, c.in_default-write_header.ensures.time))
-        (omega (arith, c.in_default.ensures.time, c.in_default-sync_blocks.ensures.time, c.in_default-write_header.ensures.time, c.in_default-sync_header.ensures.time))
+    (omega (arith, c.in_default.ensures.time, c.in_default-sync_blocks.ensures.time, c.in_default-write_header.ensures.time))
+    (omega (arith, c.in_default.ensures.time, c.in_default-sync_blocks.ensures.time, c.in_default-write_header.ensures.time, c.in_default-sync_header.ensures.time))
 
 pub returns-clause-image : goal.returns-clause-image
 returns-clause-image g c =
