@@ -5,8 +5,10 @@
 //! which is all that this program calls.
 #![tactic(auto)]
 
-ghost use Rattle.std.specs.Prelude.{◌≡◌, [], IfOk, map, slice_index_or};
+ghost use Rattle.std.specs.Prelude.{◌≡◌, [], IfOk, MatchResult, map, slice_index_or};
 ghost use Rattle.std.specs.String.{string_bytes};
+ghost use Rattle.std.specs.Process.{exit_status};
+ghost use Rattle.h2_cmd.specs.Status.{code_of};
 
 #[cfg(test)]
 mod tests;
@@ -49,9 +51,17 @@ fn run(rt: &HostRuntime) -> Result<u8, AllocError> {
     Ok(status)
 }
 
-fn main(rt: HostRuntime) -> ExitCode {
-    match run(&rt) {
+// The exit code of a run: the status that it answered, or that of want of memory.
+fn exit_code(ran: Result<u8, AllocError>) -> ExitCode
+    ensures { MatchResult ran (λ status. exit_status result ≡ status)
+        (λ _. exit_status result ≡ code_of Status.NoMemory) }
+{
+    match ran {
         Ok(status) => ExitCode::from(status),
         Err(_) => ExitCode::from(Status::NoMemory.code()),
     }
+}
+
+fn main(rt: HostRuntime) -> ExitCode {
+    exit_code(run(&rt))
 }

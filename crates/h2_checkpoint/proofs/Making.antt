@@ -12,7 +12,7 @@ use Rattle.h2_checkpoint.specs.Checkpoint.{Blank, Completed, Fresh, Frozen, IsGu
 use Rattle.h2_checkpoint.specs.Marks.{Froze, IsFrozenForest, Mark}
 use Rattle.h2_checkpoint.specs.Runs.{Flush, Idle, IsOpeningForest, Mounts, UnderWay}
 use Rattle.h2_checkpoint.specs.Stands.{DiskState, StandsAt}
-use Rattle.h2_checkpoint.specs.Steps.{Finishes, IsOutAndDone, IsSetBack, MayBeOut, SameElsewhere, image_with, queue_of}
+use Rattle.h2_checkpoint.specs.Steps.{Finishes, IsSetBack, MayBeOut, SameElsewhere, image_with, marks_of_flush, queue_of}
 use Rattle.h2_checkpoint.specs.Making.{CutsMake, IsFirstPlan, IsMade, IsNoneOrMade}
 use Rattle.h2_checkpoint.specs.declared.piece.Piece.{Piece}
 use Rattle.h2_checkpoint.proofs.Parts.{in_slot, slots_apart}
@@ -36,12 +36,9 @@ module _ (v : Format) (laws : IsLawful v) where
   froze_one image f n forest (inl h) = h
   froze_one image f n forest (inr h) = absurd h
 
-  out_and_done : (image : Places) (f : Frozen v) (m n : ℕ) (marks : List (Mark v.Forest)) → IsOutAndDone (v.number f.checkpoint.header) m n (Froze (v.number f.checkpoint.header) f.checkpoint.forest ∷ []) marks → OnlyFroze image f marks
-  out_and_done image f m n marks (t, le, ge, is) k forest h = froze_one image f k forest (subst (λ (z : List (Mark v.Forest)). IsFrozenForest (IsOpeningForest v (Blank image)) z k forest) is h)
-
-  may_be_out : (image : Places) (f : Frozen v) (m n : ℕ) (marks : List (Mark v.Forest)) → MayBeOut (v.number f.checkpoint.header) m n (Froze (v.number f.checkpoint.header) f.checkpoint.forest ∷ []) marks → OnlyFroze image f marks
-  may_be_out image f m n marks (inl is) k forest h = froze_one image f k forest (subst (λ (z : List (Mark v.Forest)). IsFrozenForest (IsOpeningForest v (Blank image)) z k forest) is h)
-  may_be_out image f m n marks (inr (t, le, ge, is)) k forest h = froze_one image f k forest (subst (λ (z : List (Mark v.Forest)). IsFrozenForest (IsOpeningForest v (Blank image)) z k forest) is h)
+  may_be_out : (image : Places) (f : Frozen v) (pieces m n : ℕ) (marks : List (Mark v.Forest)) → MayBeOut (v.number f.checkpoint.header) pieces m n (Froze (v.number f.checkpoint.header) f.checkpoint.forest ∷ []) marks → OnlyFroze image f marks
+  may_be_out image f pieces m n marks (inl (le, is)) k forest h = froze_one image f k forest (subst (λ (z : List (Mark v.Forest)). IsFrozenForest (IsOpeningForest v (Blank image)) z k forest) is h)
+  may_be_out image f pieces m n marks (inr (ge, le, is)) k forest h = froze_one image f k forest (subst (λ (z : List (Mark v.Forest)). IsFrozenForest (IsOpeningForest v (Blank image)) z k forest) is h)
 
   -- where a volume stands that is about to be made
   stands_blank : (x : DiskState) (f : Frozen v) → HasNoHeader v x.image → IsPlanned v (Blank x.image) f → IsQueuedOrThere v x.image f
@@ -65,12 +62,12 @@ module _ (v : Format) (laws : IsLawful v) where
   pub finished_safely : (pieces : List Piece) (place : ℕ) (header : List ℕ) (x y : DiskState) → latest x.trace ≤ x.moment → Finishes v pieces place header x y → (f : Frozen v) → IsFirstPlan v f pieces place header x.image → CutsMake v f x y
   finished_safely pieces place header x y by done f p =
       let r = done laws x.moment (Blank x.image) (Blank x.image) x.trace f Fresh (Froze (v.number f.checkpoint.header) f.checkpoint.forest ∷ []) p.pieces_are (stands_blank x f p.none p.plan p.others) in
-      cuts_make x y f (Completed f.checkpoint) Idle r.0 by (out_and_done x.image f x.moment y.moment r.0 r.1) r.2
+      cuts_make x y f (Completed f.checkpoint) Idle (marks_of_flush (v.number f.checkpoint.header) (length pieces) x.moment (Froze (v.number f.checkpoint.header) f.checkpoint.forest ∷ [])) by (froze_one x.image f) r
 
   pub set_back_safely : (pieces : List Piece) (place : ℕ) (header : List ℕ) (x y : DiskState) → latest x.trace ≤ x.moment → IsSetBack v pieces place header x y → (f : Frozen v) → IsFirstPlan v f pieces place header x.image → CutsMake v f x y
   set_back_safely pieces place header x y by back f p =
       let r = back laws x.moment (Blank x.image) (Blank x.image) x.trace f Fresh (Froze (v.number f.checkpoint.header) f.checkpoint.forest ∷ []) p.pieces_are (stands_blank x f p.none p.plan p.others) in
-      cuts_make x y f (Blank x.image) (UnderWay f r.0 (Writing f.queue)) r.1 by (may_be_out x.image f x.moment y.moment r.1 r.2) r.3
+      cuts_make x y f (Blank x.image) (UnderWay f r.0 (Writing f.queue)) r.1 by (may_be_out x.image f (length pieces) x.moment y.moment r.1 r.2) r.3
 
   -- a slot that isn't the header's stays as it was
   slot_stays : (pieces : List Piece) (place : ℕ) (header : List ℕ) (old new : Places) (f : Frozen v) (s : ℕ) → IsFirstPlan v f pieces place header old → SameElsewhere pieces place (length header) old new
@@ -91,7 +88,7 @@ module _ (v : Format) (laws : IsLawful v) where
   pub is_made : (pieces : List Piece) (place : ℕ) (header : List ℕ) (x y : DiskState) → Finishes v pieces place header x y → Same (image_with pieces place header x.image) y.image → (f : Frozen v) → IsFirstPlan v f pieces place header x.image → IsMade v f y.image
   is_made pieces place header x y done same f p =
       let r = done laws x.moment (Blank x.image) (Blank x.image) x.trace f Fresh (Froze (v.number f.checkpoint.header) f.checkpoint.forest ∷ []) p.pieces_are (stands_blank x f p.none p.plan p.others) in
-      made r.2.since r.2.survives.present.kept.guards
+      made r.since r.survives.present.kept.guards
     where
       only : (s : ℕ) (h : v.Header) → IsSlot s → v.HeaderAt s (slot_bytes y.image s) h → s ≡ slot_of_checkpoint v f.checkpoint
       only s h lt at = elim (cases_eq s (slot_of_checkpoint v f.checkpoint)) [

@@ -1,11 +1,12 @@
 -- Where a volume stands on its disk, and what a power cut leaves of it.
-use Rattle.std.specs.Prelude.{◌≡◌, ◌≤◌, ℕ, List}
+use Rattle.std.specs.Prelude.{◌≡◌, ◌≤◌, ℕ, List, [], ◌∷◌, length}
 use Rattle.h2_num.specs.Places.{Places}
-use Rattle.h2_disk.specs.Trace.{Trace, Opened, Call, after, latest, up_to, LeftAt, KeepsDurable, IsDurable}
+use Rattle.h2_disk.specs.Trace.{Trace, Opened, Call, after, latest, up_to, LeftAt, KeepsDurable, IsDurable, Tried}
+use Rattle.h2_disk.specs.Disk.{Keeps}
 use Rattle.h2_checkpoint.specs.Format.{Format, SameReached, IsLawful}
-use Rattle.h2_checkpoint.specs.Checkpoint.{Newest, base_of, HasOldHeaders}
-use Rattle.h2_checkpoint.specs.Marks.{Mark}
-use Rattle.h2_checkpoint.specs.Runs.{Flush, State, Mounts, Survives}
+use Rattle.h2_checkpoint.specs.Checkpoint.{Fresh, Writing, Newest, Frozen, IsPlanned, IsQueuedOrThere, base_of, HasOldHeaders}
+use Rattle.h2_checkpoint.specs.Marks.{Mark, Froze}
+use Rattle.h2_checkpoint.specs.Runs.{Flush, Idle, UnderWay, IsOff, IsOpening, State, Mounts, Survives}
 
 -- what a disk tells of itself at one time
 pub record DiskState : Type 0 where
@@ -27,6 +28,29 @@ module _ (v : Format) where
     pub since : List Call
     pub trace_is : disk.trace ≡ after since before
     pub survives : Survives v start opening (state_since opening since disk.image disk.moment newest flush marks)
+
+  -- a volume that is opened on a disk stands there, and no flush is under way
+  abbrev pub StandsOpened : Type 0
+  StandsOpened = IsLawful v → (opening : Newest v) (x : DiskState) → IsOpening v opening x.image → StandsAt x.moment opening x.trace x opening Idle []
+
+  -- it does so after a call that changes nothing: a read, well or not, or a sync that fails
+  abbrev pub StandsAfterRead : Type 0
+  StandsAfterRead = IsLawful v → (start : ℕ) (opening : Newest v) (before : Trace) (old new : DiskState) (newest : Newest v) (flush : Flush v) (marks : List (Mark v.Forest))
+      → old.moment ≤ new.moment → Keeps old.image new.image old.trace new.trace
+      → StandsAt start opening before old newest flush marks → StandsAt start opening before new newest flush marks
+
+  -- and after a write, well or not, off the slots, the newest completed checkpoint and what a flush under way has frozen or queued
+  abbrev pub StandsAfterWrite : Type 0
+  StandsAfterWrite = IsLawful v → (start : ℕ) (opening : Newest v) (before : Trace) (old new : DiskState) (newest : Newest v) (flush : Flush v) (marks : List (Mark v.Forest)) (at : ℕ) (bytes : List ℕ)
+      → old.moment ≤ new.moment → IsOff v newest flush at (length bytes) → Tried new.moment at bytes old.trace old.image new.trace new.image
+      → StandsAt start opening before old newest flush marks → StandsAt start opening before new newest flush marks
+
+  -- and where no flush is under way, a planned checkpoint may be frozen, which is noted, and its flush begins at the start of its queue
+  abbrev pub StandsFrozen : Type 0
+  StandsFrozen = IsLawful v → (start : ℕ) (opening : Newest v) (before : Trace) (x : DiskState) (newest : Newest v) (f : Frozen v) (marks : List (Mark v.Forest))
+      → IsPlanned v newest f → IsQueuedOrThere v x.image f
+      → StandsAt start opening before x newest Idle marks
+      → StandsAt start opening before x newest (UnderWay f Fresh (Writing f.queue)) (Froze (v.number f.checkpoint.header) f.checkpoint.forest ∷ marks)
 
   -- A cut at a moment may leave the image of a disk with this trace, where the volume was opened on an image and the disk made calls since: headers are torn into no others, and durable bytes that are written again stay.
   pub record MayBeCut (opened : Places) (since : List Call) (trace : Trace) (m : ℕ) (image : Places) : Type 0 where

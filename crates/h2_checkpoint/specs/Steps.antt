@@ -1,6 +1,6 @@
 -- What the calls of a flush do to where a volume stands.
-use Rattle.std.specs.Prelude.{◌≡◌, ◌⊎◌, ◌<◌, ◌≤◌, ◌+◌, ℕ, List, [], ◌∷◌, map, drop, Result, Ok, Err}
-use Rattle.h2_num.specs.Places.{Places, InRange}
+use Rattle.std.specs.Prelude.{◌≡◌, ◌⊎◌, ◌<◌, ◌≤◌, ◌+◌, ℕ, zero, suc, List, [], ◌∷◌, length, map, drop, Result, Ok, Err}
+use Rattle.h2_num.specs.Places.{Places, InRange, Same, SameOutside}
 use Rattle.h2_num.specs.Causes.{one_more}
 use Rattle.h2_disk.specs.Trace.{Trace, IsDurable}
 use Rattle.h2_disk.specs.declared.disk.DiskFault.{DiskFault}
@@ -30,33 +30,55 @@ image_with pieces place header image = laid place header (overlay_all (queue_of 
 abbrev pub SameElsewhere : List Piece → ℕ → ℕ → Places → Places → Type 0
 SameElsewhere pieces place n old new = (k : ℕ) → (InEntries (queue_of pieces) k → ⊥) → (InRange place n k → ⊥) → new k ≡ old k
 
+-- the image with the piece of an index written over it; behind the last one there is none
+abbrev pub with_piece : List Piece → ℕ → Places → Places
+with_piece [] k image = image
+with_piece (piece ∷ pieces) zero image = laid piece.at piece.bytes image
+with_piece (piece ∷ pieces) (suc k) image = with_piece pieces k image
+
+-- the two are the same, but for what the piece of an index covers
+abbrev pub SameBesidePiece : List Piece → ℕ → Places → Places → Type 0
+SameBesidePiece [] k old new = Same old new
+SameBesidePiece (piece ∷ pieces) zero old new = SameOutside piece.at (length piece.bytes) old new
+SameBesidePiece (piece ∷ pieces) (suc k) old new = SameBesidePiece pieces k old new
+
+-- What the call that comes next does to the image: a write lays the piece's bytes, or the header's, over it, and after a fault their range may hold anything; a sync changes nothing.
+abbrev pub StepsImage : List Piece → ℕ → List ℕ → Next → Result Stepped DiskFault → Places → Places → Type 0
+StepsImage pieces place header (Pieces k) (Ok stepped) old new = Same (with_piece pieces k old) new
+StepsImage pieces place header (Pieces k) (Err fault) old new = SameBesidePiece pieces k old new
+StepsImage pieces place header Header (Ok stepped) old new = Same (laid place header old) new
+StepsImage pieces place header Header (Err fault) old new = SameOutside place (length header) old new
+StepsImage pieces place header Finish result old new = Same old new
+
 -- the pieces and the header's bytes are those of the frozen flush
 pub record IsPlanOf (v : Format) (f : Frozen v) (pieces : List Piece) (place : ℕ) (header : List ℕ) : Type 0 where
   pub queue : f.queue ≡ queue_of pieces
   pub place_is : place ≡ header_place (slot_of_checkpoint v f.checkpoint)
   pub header_is : f.bytes ≡ header
 
--- the header went out in this time and is done, and so it is noted
-abbrev pub IsOutAndDone : {F : Type 0} → ℕ → ℕ → ℕ → List (Mark F) → List (Mark F) → Type 0
-IsOutAndDone number moment moment_new marks marks_new = (t : ℕ) × (moment ≤ t) × (t ≤ moment_new) × (marks_new ≡ Header_done number moment_new ∷ Header_out number t ∷ marks)
+-- what a whole flush of so many pieces notes that begins at a moment: its header went out when its write began, after all pieces and a sync, and was done after one more sync
+abbrev pub marks_of_flush : {F : Type 0} → ℕ → ℕ → ℕ → List (Mark F) → List (Mark F)
+marks_of_flush number pieces moment marks = Header_done number (moment + pieces + 5) ∷ Header_out number (moment + pieces + 3) ∷ marks
 
--- nothing is noted, or that the header went out in this time
-abbrev pub MayBeOut : {F : Type 0} → ℕ → ℕ → ℕ → List (Mark F) → List (Mark F) → Type 0
-MayBeOut number moment moment_new marks marks_new = (marks_new ≡ marks) ⊎ ((t : ℕ) × (moment ≤ t) × (t ≤ moment_new) × (marks_new ≡ Header_out number t ∷ marks))
+-- a flush of so many pieces that a fault ended at a moment has noted nothing, where that came before the header's write, or else that the header went out when its write began
+abbrev pub MayBeOut : {F : Type 0} → ℕ → ℕ → ℕ → ℕ → List (Mark F) → List (Mark F) → Type 0
+MayBeOut number pieces moment moment_new marks marks_new =
+    ((moment_new ≤ moment + pieces + 1) × (marks_new ≡ marks))
+    ⊎ ((moment + pieces + 2 ≤ moment_new) × (moment_new ≤ moment + pieces + 4) × (marks_new ≡ Header_out number (one_more (moment + pieces + 2)) ∷ marks))
 
 -- from a frozen flush to its completed checkpoint
 abbrev pub Finishes : (v : Format) → List Piece → ℕ → List ℕ → DiskState → DiskState → Type 0
 Finishes v pieces place header old new =
     IsLawful v → (start : ℕ) (opening newest : Newest v) (before : Trace) (f : Frozen v) (g : Progress) (marks : List (Mark v.Forest)) → IsPlanOf v f pieces place header
     → StandsAt v start opening before old newest (UnderWay f g (Writing f.queue)) marks
-    → (marks_new : List (Mark v.Forest)) × IsOutAndDone (v.number f.checkpoint.header) old.moment new.moment marks marks_new × StandsAt v start opening before new (Completed f.checkpoint) Idle marks_new
+    → StandsAt v start opening before new (Completed f.checkpoint) Idle (marks_of_flush (v.number f.checkpoint.header) (length pieces) old.moment marks)
 
 -- or a fault sets it back to the start of its queue
 abbrev pub IsSetBack : (v : Format) → List Piece → ℕ → List ℕ → DiskState → DiskState → Type 0
 IsSetBack v pieces place header old new =
     IsLawful v → (start : ℕ) (opening newest : Newest v) (before : Trace) (f : Frozen v) (g : Progress) (marks : List (Mark v.Forest)) → IsPlanOf v f pieces place header
     → StandsAt v start opening before old newest (UnderWay f g (Writing f.queue)) marks
-    → (h : Progress) × (marks_new : List (Mark v.Forest)) × MayBeOut (v.number f.checkpoint.header) old.moment new.moment marks marks_new × StandsAt v start opening before new newest (UnderWay f h (Writing f.queue)) marks_new
+    → (h : Progress) × (marks_new : List (Mark v.Forest)) × MayBeOut (v.number f.checkpoint.header) (length pieces) old.moment new.moment marks marks_new × StandsAt v start opening before new newest (UnderWay f h (Writing f.queue)) marks_new
 
 -- all pieces are written
 abbrev pub WritesPieces : (v : Format) → List Piece → DiskState → DiskState → Type 0
@@ -160,7 +182,8 @@ Ticks (Ok Out) old new = new ≡ old + 1
 Ticks (Ok Done) old new = new ≡ old + 2
 Ticks (Err fault) old new = new ≡ one_more old
 
--- after the last step the image is durable
+-- after a sync the image is durable
 abbrev pub EndsDurable : Result Stepped DiskFault → DiskState → Type 0
+EndsDurable (Ok Synced) disk = IsDurable disk.trace disk.image
 EndsDurable (Ok Done) disk = IsDurable disk.trace disk.image
 EndsDurable _ disk = Unit {0}

@@ -25,6 +25,7 @@ pub(crate) fn write_pieces<D: Disk, V: VolumeFormat>(
         → (k : ℕ) → (InEntries (queue_of pieces.now) k → ⊥) → D.image disk.new k ≡ D.image disk.old k) }
     ensures time { OnOk result (D.moment disk.new ≡ D.moment disk.old + length pieces.now) }
     ensures time_failed { OnErr result (D.moment disk.old ≤ D.moment disk.new) }
+    ensures time_most { OnErr result (D.moment disk.new ≤ D.moment disk.old + length pieces.now) }
     ensures later { D.faults disk.old ≤ D.faults disk.new }
     ensures cause { IfErr result (λ fault. HasCause (D.faults disk.old) (D.faults disk.new) fault) }
 {
@@ -52,6 +53,8 @@ fn settle<D: Disk>(disk: &mut D) -> Result<(), DiskFault>
 
 /// Makes the pieces that were written durable.
 pub(crate) fn sync_blocks<D: Disk, V: VolumeFormat>(disk: &mut D) -> Result<(), DiskFault>
+    ensures syncs { OnOk result (IsTrue D.tells → Syncs (D.moment disk.new)
+        (D.image disk.old) (D.image disk.new) (D.trace disk.old) (D.trace disk.new)) }
     ensures secures { OnOk result (IsTrue D.tells → SecuresBlocks V.format
         (disk_state D.image D.moment D.trace disk.old) (disk_state D.image D.moment D.trace disk.new)) }
     ensures set_back { OnErr result (IsTrue D.tells → FailsToSync V.format

@@ -1,7 +1,7 @@
 ghost use Rattle.std.specs.Prelude.{◌≡◌, ◌≤◌, ◌+◌, ◌^◌, length, IsTrue, IfErr, All};
 ghost use Rattle.h2_disk.specs.Disk.{HasCause};
 ghost use Rattle.h2_checkpoint.specs.Stands.{disk_state};
-ghost use Rattle.h2_checkpoint.specs.Steps.{StepsFlush, Advances, Ticks, EndsDurable, SameElsewhere};
+ghost use Rattle.h2_checkpoint.specs.Steps.{StepsFlush, StepsImage, Advances, Ticks, EndsDurable, SameElsewhere};
 
 use crate::disk_calls::{sync_blocks, sync_header, write_header};
 use crate::format::VolumeFormat;
@@ -37,6 +37,8 @@ impl Flushing {
         ensures steps { IsTrue D.tells
             → StepsFlush V.format self.old.pieces.items self.old.place self.old.header self.old.next self.new.next
             (disk_state D.image D.moment D.trace disk.old) (disk_state D.image D.moment D.trace disk.new) result }
+        ensures image { IsTrue D.tells → StepsImage self.old.pieces.items self.old.place self.old.header self.old.next result
+            (D.image disk.old) (D.image disk.new) }
         ensures elsewhere { IsTrue D.tells → SameElsewhere self.old.pieces.items self.old.place
             (length self.old.header) (D.image disk.old) (D.image disk.new) }
         ensures durable { IsTrue D.tells → EndsDurable result (disk_state D.image D.moment D.trace disk.new) }

@@ -5,7 +5,8 @@
 //! flush writes its pieces, makes them durable, writes the header to the slot of its number, and makes
 //! it durable. All of it is over any format of volumes (`specs/Format`) and any disk that tells its
 //! image and its trace. Callers may rely on `StandsAt` (`specs/Stands`): where a volume stands on its
-//! disk, and that a cut at each moment since the opening leaves what may be landed on.
+//! disk, and that a cut at each moment since the opening leaves what may be landed on. `stands_law` says how it
+//! goes on beside the calls of flushes.
 #![tactic(auto)]
 
 mod disk_calls;
@@ -17,7 +18,7 @@ mod piece;
 mod whole_flush;
 
 pub use flushing::Flushing;
-pub use format::{VolumeFormat, crash_law, cut_law};
+pub use format::{VolumeFormat, crash_law, cut_law, stands_law};
 pub use new_volume::make;
 pub use next::{Next, Stepped};
 pub use piece::Piece;

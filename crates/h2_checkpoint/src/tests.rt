@@ -64,6 +64,7 @@ fn made(alloc: Global) -> Result<MemDisk, Fail> {
 fn a_cut_leaves_no_header_or_all(rt: HostRuntime) -> Result<(), Fail> {
     crash_law::<Toy>();
     cut_law::<Toy>();
+    stands_law::<Toy>();
     let mut disk = made(rt.alloc())?;
     assert_eq!(rt; disk.moment(), 6);
     assert_eq!(rt; seen(&mut disk)?, (1, 7));

@@ -34,6 +34,7 @@ pub fn drive<D: Disk, V: VolumeFormat>(
         → SameElsewhere pieces.now place (length header.now) (D.image disk.old) (D.image disk.new)) }
     ensures time { OnOk result (D.moment disk.new ≡ D.moment disk.old + length pieces.now + 5) }
     ensures time_failed { OnErr result (D.moment disk.old ≤ D.moment disk.new) }
+    ensures time_most { OnErr result (D.moment disk.new ≤ D.moment disk.old + length pieces.now + 4) }
     ensures later { D.faults disk.old ≤ D.faults disk.new }
     ensures cause { IfErr result (λ fault. HasCause (D.faults disk.old) (D.faults disk.new) fault) }
 {

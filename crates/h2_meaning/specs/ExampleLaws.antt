@@ -37,7 +37,7 @@ use Rattle.h2_meaning.specs.Example.{inode_leaf, pfs_inode, listed_root, root_in
 
 -- The table with an empty root directory
 
-abbrev no_entries : Entries
+abbrev pub no_entries : Entries
 no_entries = empty
 
 no_items : {X : Type 0} (xs : List X) → length xs ≡ 0 → xs ≡ []
@@ -96,7 +96,7 @@ has_no_entry dir number name h =
 root_here : get bare_table 1 ≡ Some (Directory no_entries)
 root_here = get-insert nat_cmp_total empty 1 (Directory no_entries) 1
 
-bare_tree : IsFileTree 2 bare_table
+pub bare_tree : IsFileTree 2 bare_table
 bare_tree = record {
   root = subst (λ o. IsSome (entries_of o)) (sym root_here) refl;
   root_unnamed = unnamed 1;
@@ -125,7 +125,7 @@ root_named = record {
 is_letter : (b : ℕ) → 65 ≤ b → b ≤ 90 → IsPfsNameByte b
 is_letter b low high = inr (inl (low, high))
 
-letters : All IsPfsNameByte listed_root.name
+pub letters : All IsPfsNameByte listed_root.name
 letters =
     all_cons IsPfsNameByte 82 (79 ∷ 79 ∷ 84 ∷ []) (is_letter 82 (omega arith) (omega arith))
     (all_cons IsPfsNameByte 79 (79 ∷ 84 ∷ []) (is_letter 79 (omega arith) (omega arith))

@@ -12,7 +12,7 @@ use Rattle.h2_forest.specs.Forest.{PlainForest}
 use Rattle.h2_inode.specs.Single.{IsSingle}
 use Rattle.h2_meaning.specs.SingleLaws.{forest_one}
 use Rattle.h2_meaning.specs.Forest.{IsForest}
-use Rattle.h2_meaning.specs.Image.{block, LeavesIn, nothing_left, a_leaf, a_block, in_image}
+use Rattle.h2_meaning.specs.Image.{block, LeavesIn, nothing_left, a_leaf, a_block, in_image, named, Stands}
 
 inode_block_one : (r : Ref) (b : Places) (i j : Inode) → IsInodeBlock r b i → IsInodeBlock r b j → j ≡ i
 inode_block_one r b i j p q = inode_one i j b p.inode q.inode p.bytes q.bytes
@@ -42,6 +42,10 @@ image_single x = record {
   content = λ t r a b p q k lt. q.1 k lt ∙ sym (p.1 k lt);
 }
 
--- at most one forest stands in an image under the references of a header
+-- at most one forest stands in an image under some references
 pub image_forest_one : (x : Places) (root : List Ref) (next : ℕ) (f g : PlainForest) → IsForest (in_image x) root next f → IsForest (in_image x) root next g → g ≡ f
 image_forest_one x root next f g p q = forest_one (in_image x) (image_single x) root next f g p q
+
+-- at most one forest stands in an image under the references of a header
+pub image_stands_one : (x : Places) (root : List Ref) (next : ℕ) (f g : PlainForest) → Stands x root next f → Stands x root next g → g ≡ f
+image_stands_one x root next f g p q = image_forest_one x (named root) next f g p q

@@ -14,3 +14,4 @@ pub mod RisingLaws
 pub mod LocalLaws
 pub mod Example
 pub mod ExampleLaws
+pub mod NewImageLaws

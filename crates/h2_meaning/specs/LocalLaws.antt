@@ -25,7 +25,7 @@ use Rattle.h2_meaning.specs.Forest.{IsForest}
 use Rattle.h2_inode.specs.ListLaws.{all_head, all_tail, all_cons, all_none, all_append}
 use Rattle.h2_inode.specs.FollowLaws.{same_inode}
 use Rattle.h2_meaning.specs.CarryLaws.{forest_carried}
-use Rattle.h2_meaning.specs.Image.{block, LeavesIn, nothing_left, a_leaf, a_block, in_image, by_root, by_block, SameReached, IsKnown, between}
+use Rattle.h2_meaning.specs.Image.{block, LeavesIn, nothing_left, a_leaf, a_block, in_image, by_root, by_block, SameReached, IsKnown, between, named, Stands}
 
 -- Blocks by their bytes alone
 
@@ -141,3 +141,7 @@ pub image_local : (x y : Places) (root : List Ref) (next : ℕ) (f : PlainForest
 image_local x y root next f valid agree h =
     forest_carried (between x root y) (image_follows x root y agree) root root next f
     (refl, λ k d lt. record { valid = valid k d lt; reached = by_root (slice_index_or root k d) (Contains-get_or root k d lt) }) h
+
+-- The same under the references of a header, by those of them that name something.
+pub image_stands_local : (x y : Places) (root : List Ref) (next : ℕ) (f : PlainForest) → All IsValid (named root) → SameReached x (named root) y → Stands x root next f → Stands y root next f
+image_stands_local x y root next f valid agree h = image_local x y (named root) next f valid agree h

@@ -5,7 +5,7 @@ ghost use Rattle.h2_ref.specs.Ref.{IsValid};
 ghost use Rattle.h2_set.specs.Ranges.{Rising};
 ghost use Rattle.h2_forest.specs.Forest.{PlainForest};
 ghost use Rattle.h2_meaning.specs.Forest.{IsForest};
-ghost use Rattle.h2_meaning.specs.Image.{in_image, LeavesIn, SameReached};
+ghost use Rattle.h2_meaning.specs.Image.{in_image, LeavesIn, SameReached, named, Stands};
 ghost use Rattle.h2_inode.specs.Single.{IsSingle};
 ghost use Rattle.h2_inode.specs.Following.{Follows};
 ghost use Rattle.h2_meaning.specs.Laws.{OneContents, OneDirectory, OneTable, OnePfsList, OneForest, LeavesAreEntries, EntriesAreLeaves, LeavesAreNodes, NodesAreLeaves, NumbersAscend, ListedIdsAscend, IdsAscend, CarriesContents, CarriesDirectories, CarriesTables, CarriesPfsLists, CarriesForests};
@@ -49,15 +49,19 @@ pub fn carry_law<C: Change>()
     ensures forests { Follows C.passage → CarriesForests C.passage }
 {}
 
-/// A law: the bytes of an image give one answer at most, so at most one forest stands in an image under the
-/// references of a header. It depends on the blocks alone that these lead to. Where they are in order, the leaves
-/// are.
+/// A law: the bytes of an image give one answer at most, so at most one forest stands in an image under some
+/// references, and under the four of a header, of which some may be Empty. It depends on the blocks alone that these
+/// lead to. Where they are in order, the leaves are.
 pub fn image_law()
     ensures single { (image : Places) → IsSingle (in_image image) }
     ensures one_forest { (image : Places) (root : List Ref) (next : ℕ) (f g : PlainForest)
         → IsForest (in_image image) root next f → IsForest (in_image image) root next g → g ≡ f }
     ensures local { (image other : Places) (root : List Ref) (next : ℕ) (f : PlainForest) → All IsValid root
         → SameReached image root other → IsForest (in_image image) root next f → IsForest (in_image other) root next f }
+    ensures one_stands { (image : Places) (root : List Ref) (next : ℕ) (f g : PlainForest)
+        → Stands image root next f → Stands image root next g → g ≡ f }
+    ensures stands_local { (image other : Places) (root : List Ref) (next : ℕ) (f : PlainForest) → All IsValid (named root)
+        → SameReached image (named root) other → Stands image root next f → Stands other root next f }
     ensures order { (image : Places) (t leaves : List Ref) (low high : ℕ) → LeavesIn image t leaves
         → Rising low high t → Rising low high leaves }
 {}

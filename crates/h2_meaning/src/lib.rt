@@ -18,7 +18,7 @@ mod loaded;
 mod reading;
 
 pub use change::Change;
-pub use example::{new_volume_law, one_block_law, one_entry_law};
+pub use example::{new_image_law, new_volume_law, one_block_law, one_entry_law};
 pub use laws::{carry_law, image_law, leaf_law, one_meaning_law, order_law};
 pub use loaded::{loaded_law, one_loaded_law};
 pub use reading::Reading;

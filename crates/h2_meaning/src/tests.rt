@@ -24,6 +24,7 @@ fn laws_hold_of_a_new_volume() {
     leaf_law::<NewVolume>();
     carry_law::<NewVolume>();
     new_volume_law();
+    new_image_law();
     one_block_law();
     one_entry_law();
     image_law();

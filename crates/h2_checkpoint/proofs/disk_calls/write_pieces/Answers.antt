@@ -59,3 +59,6 @@ returns-clause-writes g c = λ tells laws start opening newest before f p marks 
 
 pub returns-clause-image : goal.returns-clause-image
 returns-clause-image g c = λ tells. last_overlay c.args.pieces.now c.loop-piece.piece-index (g.D.Disk.image c.args.disk.now) (g.D.Disk.image c.loop-piece.disk) (omega arith) (c.loop-piece.invariant.image tells)
+
+pub returns-in-Err-clause-time_most : goal.returns-in-Err-clause-time_most
+returns-in-Err-clause-time_most g c = omega (arith, c.in-Err.ensures.time, c.loop-piece.invariant.time)

@@ -6,7 +6,7 @@ use Rattle.h2_checkpoint.proofs.whole_flush.drive.Goals as goal
 
 pub returns-in-Err-clause-set_back : goal.returns-in-Err-clause-set_back
 returns-in-Err-clause-set_back g c =
-    λ tells. pieces_set_back g.V.VolumeFormat.format c.args.pieces.now c.args.place c.args.header.now (disk_state g.D.Disk.image g.D.Disk.moment g.D.Disk.trace c.args.disk.now) (disk_state g.D.Disk.image g.D.Disk.moment g.D.Disk.trace c.write_pieces.new.disk) (c.in-Err.ensures.set_back tells)
+    λ tells. pieces_set_back g.V.VolumeFormat.format c.args.pieces.now c.args.place c.args.header.now (disk_state g.D.Disk.image g.D.Disk.moment g.D.Disk.trace c.args.disk.now) (disk_state g.D.Disk.image g.D.Disk.moment g.D.Disk.trace c.write_pieces.new.disk) (c.in-Err.ensures.set_back tells) c.in-Err.ensures.time_most
 
 pub returns-in-Err-clause-elsewhere : goal.returns-in-Err-clause-elsewhere
 returns-in-Err-clause-elsewhere g c =
@@ -14,7 +14,7 @@ returns-in-Err-clause-elsewhere g c =
 
 pub returns-in-Err-sync_blocks-clause-set_back : goal.returns-in-Err-sync_blocks-clause-set_back
 returns-in-Err-sync_blocks-clause-set_back g c =
-    λ tells. blocks_set_back g.V.VolumeFormat.format c.args.pieces.now c.args.place c.args.header.now (disk_state g.D.Disk.image g.D.Disk.moment g.D.Disk.trace c.args.disk.now) (disk_state g.D.Disk.image g.D.Disk.moment g.D.Disk.trace c.write_pieces.new.disk) (disk_state g.D.Disk.image g.D.Disk.moment g.D.Disk.trace c.sync_blocks.new.disk) (c.in_default.ensures.writes tells) (c.in-Err-sync_blocks.ensures.set_back tells)
+    λ tells. blocks_set_back g.V.VolumeFormat.format c.args.pieces.now c.args.place c.args.header.now (disk_state g.D.Disk.image g.D.Disk.moment g.D.Disk.trace c.args.disk.now) (disk_state g.D.Disk.image g.D.Disk.moment g.D.Disk.trace c.write_pieces.new.disk) (disk_state g.D.Disk.image g.D.Disk.moment g.D.Disk.trace c.sync_blocks.new.disk) (c.in_default.ensures.writes tells) (c.in-Err-sync_blocks.ensures.set_back tells) (omega (arith, c.in_default.ensures.time, c.in-Err-sync_blocks.ensures.time_failed))
 
 pub returns-in-Err-sync_blocks-clause-elsewhere : goal.returns-in-Err-sync_blocks-clause-elsewhere
 returns-in-Err-sync_blocks-clause-elsewhere g c =
@@ -36,7 +36,9 @@ returns-in-Err-sync_blocks-clause-cause g c =
 pub returns-in-Err-write_header-clause-set_back : goal.returns-in-Err-write_header-clause-set_back
 returns-in-Err-write_header-clause-set_back g c =
     let fits : g.D.Disk.moment c.sync_blocks.new.disk < 2 ^ 64 = g.met.D.Disk.moment_fits c.sync_blocks.new.disk in
-    λ tells. header_set_back g.V.VolumeFormat.format c.args.pieces.now c.args.place c.args.header.now (disk_state g.D.Disk.image g.D.Disk.moment g.D.Disk.trace c.args.disk.now) (disk_state g.D.Disk.image g.D.Disk.moment g.D.Disk.trace c.write_pieces.new.disk) (disk_state g.D.Disk.image g.D.Disk.moment g.D.Disk.trace c.sync_blocks.new.disk) (disk_state g.D.Disk.image g.D.Disk.moment g.D.Disk.trace c.write_header.new.disk) (c.in_default.ensures.writes tells) (c.in_default-sync_blocks.ensures.secures tells) (c.in-Err-write_header.ensures.set_back tells) (omega (arith, c.in_default.ensures.time, c.in_default-sync_blocks.ensures.time, c.in-Err-write_header.ensures.time_failed))
+    λ tells. header_set_back g.V.VolumeFormat.format c.args.pieces.now c.args.place c.args.header.now (disk_state g.D.Disk.image g.D.Disk.moment g.D.Disk.trace c.args.disk.now) (disk_state g.D.Disk.image g.D.Disk.moment g.D.Disk.trace c.write_pieces.new.disk) (disk_state g.D.Disk.image g.D.Disk.moment g.D.Disk.trace c.sync_blocks.new.disk) (disk_state g.D.Disk.image g.D.Disk.moment g.D.Disk.trace c.write_header.new.disk) (c.in_default.ensures.writes tells) (c.in_default-sync_blocks.ensures.secures tells) (c.in-Err-write_header.ensures.set_back tells)
+    (omega (arith, c.in_default.ensures.time, c.in_default-sync_blocks.ensures.time, c.in-Err-write_header.ensures.time_failed))
+    (omega (arith, c.in_default.ensures.time, c.in_default-sync_blocks.ensures.time, c.in-Err-write_header.ensures.time_failed))
 
 pub returns-in-Err-write_header-clause-elsewhere : goal.returns-in-Err-write_header-clause-elsewhere
 returns-in-Err-write_header-clause-elsewhere g c =
@@ -58,7 +60,10 @@ returns-in-Err-write_header-clause-cause g c =
 pub returns-in-Err-sync_header-clause-set_back : goal.returns-in-Err-sync_header-clause-set_back
 returns-in-Err-sync_header-clause-set_back g c =
     let fits : g.D.Disk.moment c.write_header.new.disk < 2 ^ 64 = g.met.D.Disk.moment_fits c.write_header.new.disk in
-    λ tells. last_set_back g.V.VolumeFormat.format c.args.pieces.now c.args.place c.args.header.now (disk_state g.D.Disk.image g.D.Disk.moment g.D.Disk.trace c.args.disk.now) (disk_state g.D.Disk.image g.D.Disk.moment g.D.Disk.trace c.write_pieces.new.disk) (disk_state g.D.Disk.image g.D.Disk.moment g.D.Disk.trace c.sync_blocks.new.disk) (disk_state g.D.Disk.image g.D.Disk.moment g.D.Disk.trace c.write_header.new.disk) (disk_state g.D.Disk.image g.D.Disk.moment g.D.Disk.trace c.sync_header.new.disk) (c.in_default.ensures.writes tells) (c.in_default-sync_blocks.ensures.secures tells) (c.in_default-write_header.ensures.sends tells) (c.in-Err-sync_header.ensures.set_back tells) (omega (arith, c.in_default.ensures.time, c.in_default-sync_blocks.ensures.time, c.in_default-write_header.ensures.time)) (omega (arith, c.in-Err-sync_header.ensures.time_failed))
+    λ tells. last_set_back g.V.VolumeFormat.format c.args.pieces.now c.args.place c.args.header.now (disk_state g.D.Disk.image g.D.Disk.moment g.D.Disk.trace c.args.disk.now) (disk_state g.D.Disk.image g.D.Disk.moment g.D.Disk.trace c.write_pieces.new.disk) (disk_state g.D.Disk.image g.D.Disk.moment g.D.Disk.trace c.sync_blocks.new.disk) (disk_state g.D.Disk.image g.D.Disk.moment g.D.Disk.trace c.write_header.new.disk) (disk_state g.D.Disk.image g.D.Disk.moment g.D.Disk.trace c.sync_header.new.disk) (c.in_default.ensures.writes tells) (c.in_default-sync_blocks.ensures.secures tells) (c.in_default-write_header.ensures.sends tells) (c.in-Err-sync_header.ensures.set_back tells)
+    (omega (arith, c.in_default.ensures.time, c.in_default-sync_blocks.ensures.time, c.in_default-write_header.ensures.time))
+    (omega (arith, c.in_default.ensures.time, c.in_default-sync_blocks.ensures.time, c.in_default-write_header.ensures.time, c.in-Err-sync_header.ensures.time_failed))
+    (omega (arith, c.in_default.ensures.time, c.in_default-sync_blocks.ensures.time, c.in_default-write_header.ensures.time, c.in-Err-sync_header.ensures.time_failed))
 
 pub returns-in-Err-sync_header-clause-elsewhere : goal.returns-in-Err-sync_header-clause-elsewhere
 returns-in-Err-sync_header-clause-elsewhere g c =
@@ -79,7 +84,9 @@ returns-in-Err-sync_header-clause-cause g c =
 
 pub returns-clause-finishes : goal.returns-clause-finishes
 returns-clause-finishes g c =
-    λ tells. finishes g.V.VolumeFormat.format c.args.pieces.now c.args.place c.args.header.now (disk_state g.D.Disk.image g.D.Disk.moment g.D.Disk.trace c.args.disk.now) (disk_state g.D.Disk.image g.D.Disk.moment g.D.Disk.trace c.write_pieces.new.disk) (disk_state g.D.Disk.image g.D.Disk.moment g.D.Disk.trace c.sync_blocks.new.disk) (disk_state g.D.Disk.image g.D.Disk.moment g.D.Disk.trace c.write_header.new.disk) (disk_state g.D.Disk.image g.D.Disk.moment g.D.Disk.trace c.sync_header.new.disk) (c.in_default.ensures.writes tells) (c.in_default-sync_blocks.ensures.secures tells) (c.in_default-write_header.ensures.sends tells) (c.in_default-sync_header.ensures.completes tells) (omega (arith, c.in_default.ensures.time, c.in_default-sync_blocks.ensures.time, c.in_default-write_header.ensures.time)) (omega (arith, c.in_default-sync_header.ensures.time))
+    λ tells. finishes g.V.VolumeFormat.format c.args.pieces.now c.args.place c.args.header.now (disk_state g.D.Disk.image g.D.Disk.moment g.D.Disk.trace c.args.disk.now) (disk_state g.D.Disk.image g.D.Disk.moment g.D.Disk.trace c.write_pieces.new.disk) (disk_state g.D.Disk.image g.D.Disk.moment g.D.Disk.trace c.sync_blocks.new.disk) (disk_state g.D.Disk.image g.D.Disk.moment g.D.Disk.trace c.write_header.new.disk) (disk_state g.D.Disk.image g.D.Disk.moment g.D.Disk.trace c.sync_header.new.disk) (c.in_default.ensures.writes tells) (c.in_default-sync_blocks.ensures.secures tells) (c.in_default-write_header.ensures.sends tells) (c.in_default-sync_header.ensures.completes tells)
+    (omega (arith, c.in_default.ensures.time, c.in_default-sync_blocks.ensures.time, c.in_default-write_header.ensures.time))
+    (omega (arith, c.in_default.ensures.time, c.in_default-sync_blocks.ensures.time, c.in_default-write_header.ensures.time, c.in_default-sync_header.ensures.time))
 
 pub returns-clause-image : goal.returns-clause-image
 returns-clause-image g c =
@@ -96,3 +103,18 @@ returns-clause-time g c =
 pub returns-clause-later : goal.returns-clause-later
 returns-clause-later g c =
     omega (arith, c.in_default.ensures.later, c.in_default-sync_blocks.ensures.later, c.in_default-write_header.ensures.later, c.in_default-sync_header.ensures.later)
+
+pub returns-in-Err-clause-time_most : goal.returns-in-Err-clause-time_most
+returns-in-Err-clause-time_most g c = omega (arith, c.in-Err.ensures.time_most)
+
+pub returns-in-Err-sync_blocks-clause-time_most : goal.returns-in-Err-sync_blocks-clause-time_most
+returns-in-Err-sync_blocks-clause-time_most g c =
+    omega (arith, c.in_default.ensures.time, c.in-Err-sync_blocks.ensures.time_failed)
+
+pub returns-in-Err-write_header-clause-time_most : goal.returns-in-Err-write_header-clause-time_most
+returns-in-Err-write_header-clause-time_most g c =
+    omega (arith, c.in_default.ensures.time, c.in_default-sync_blocks.ensures.time, c.in-Err-write_header.ensures.time_failed)
+
+pub returns-in-Err-sync_header-clause-time_most : goal.returns-in-Err-sync_header-clause-time_most
+returns-in-Err-sync_header-clause-time_most g c =
+    omega (arith, c.in_default.ensures.time, c.in_default-sync_blocks.ensures.time, c.in_default-write_header.ensures.time, c.in-Err-sync_header.ensures.time_failed)
