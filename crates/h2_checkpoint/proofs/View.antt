@@ -4,7 +4,8 @@ use Rattle.h2_num.specs.Places.{InRange, Places}
 use Rattle.h2_disk.specs.Trace.{Trace}
 use Rattle.h2_checkpoint.specs.Format.{Format, IsLawful, Reach, SameReached}
 use Rattle.h2_checkpoint.specs.Queue.{Apart, overlay_all}
-use Rattle.h2_checkpoint.specs.Checkpoint.{Checkpoint, Frozen, IsFlushing, Newest, OwnsByte, Progress, Stage}
+use Rattle.h2_checkpoint.specs.Checkpoint.{Checkpoint, Completed, Frozen, IsFlushing, IsGuardedCheckpoint, Newest, OwnsByte, Progress, Stage}
+use Rattle.h2_checkpoint.specs.Runs.{Flush, Idle, IsKept, UnderWay}
 use Rattle.h2_checkpoint.specs.Stands.{Locally}
 use Rattle.h2_checkpoint.specs.OverlayLaws.{overlay_stands}
 use Rattle.h2_checkpoint.proofs.Landing.{reaches_too}
@@ -17,6 +18,14 @@ module _ (v : Format) (laws : IsLawful v) where
       split : Apart at n (v.place b) (v.size b) → ⊥
       split (inl le) = let a : k < at + n = r.1 in let c : v.place b ≤ k = q.0 in absurd (omega arith)
       split (inr le) = let a : at ≤ k = r.0 in let c : k < v.place b + v.size b = q.1 in absurd (omega arith)
+
+  -- the newest completed checkpoint is read as it was frozen
+  newest_guarded : (t : Trace) (i : Places) (c : Checkpoint v) → IsGuardedCheckpoint v t i c → SameReached v c.view (v.roots c.header) i
+  newest_guarded t i c guards k o = guards.seen k (inl o) ∙ guards.blocks k o
+
+  pub newest_now : (t : Trace) (i : Places) (c : Checkpoint v) (flush : Flush v) → IsKept v t i (Completed c) flush → SameReached v c.view (v.roots c.header) i
+  newest_now t i c Idle kept = newest_guarded t i c kept.guards
+  newest_now t i c (UnderWay f g s) kept = newest_guarded t i c kept.guards
 
   -- while a flush is under way, the frozen checkpoint is read through its queue as it was frozen
   pub view_now : (t : Trace) (i : Places) (d : Newest v) (f : Frozen v) (g : Progress) (s : Stage) → IsFlushing v t i d f g s → SameReached v f.checkpoint.view (v.roots f.checkpoint.header) (overlay_all f.queue i)

@@ -1,6 +1,7 @@
 -- A volume that is being made where there is none.
-use Rattle.std.specs.Prelude.{◌≡◌, ◌⊎◌, ◌≤◌, ℕ, List}
+use Rattle.std.specs.Prelude.{◌≡◌, ◌⊎◌, ◌<◌, ◌≤◌, ℕ, ◌+◌, List, length}
 use Rattle.h2_num.specs.Places.{Places}
+use Rattle.h2_num.specs.Causes.{one_more}
 use Rattle.h2_disk.specs.Trace.{Opened, Call, after, IsDurable}
 use Rattle.h2_checkpoint.specs.Slots.{IsSlot, slot_bytes}
 use Rattle.h2_checkpoint.specs.Format.{Format, IsLawful, IsNewest, HasNoHeader}
@@ -22,7 +23,11 @@ module _ (v : Format) where
     pub pieces_are : IsPlanOf v f pieces place header
     pub others : IsQueuedOrThere v image f
 
-  -- at each moment from the old state to the new one a cut leaves no header, or the planned volume
+  -- the moment at which the header's write begins: after all pieces and a sync
+  abbrev pub header_moment : Frozen v → DiskState → ℕ
+  header_moment f old = one_more (old.moment + length f.queue + 2)
+
+  -- at each moment from the old state to the new one a cut leaves no header, or the planned volume, and before the header's write no header
   pub record CutsMake (f : Frozen v) (old new : DiskState) : Type 0 where
     pub since : List Call
     pub trace_is : new.trace ≡ after since old.trace
@@ -30,6 +35,8 @@ module _ (v : Format) where
     pub by_calls : (m : ℕ) (image : Places) → old.moment ≤ m → m ≤ new.moment → MayBeLeft v (after since (Opened old.image)) m image → IsNoneOrMade f image
     -- by the disk's own trace, where the image was durable
     pub by_trace : IsDurable old.trace old.image → (m : ℕ) (image : Places) → old.moment ≤ m → m ≤ new.moment → MayBeCut v old.image since new.trace m image → IsNoneOrMade f image
+    pub none_by_calls : (m : ℕ) (image : Places) → old.moment ≤ m → m ≤ new.moment → m < header_moment f old → MayBeLeft v (after since (Opened old.image)) m image → HasNoHeader v image
+    pub none_by_trace : IsDurable old.trace old.image → (m : ℕ) (image : Places) → old.moment ≤ m → m ≤ new.moment → m < header_moment f old → MayBeCut v old.image since new.trace m image → HasNoHeader v image
 
   -- a volume is made of a first plan, and a cut at no moment leaves a part of it under a header
   abbrev pub MakesSafely : List Piece → ℕ → List ℕ → DiskState → DiskState → Type 0

@@ -4,7 +4,8 @@ use Rattle.h2_num.specs.Places.{Places}
 use Rattle.h2_disk.specs.Trace.{Trace, Opened, Call, after, latest, up_to, LeftAt, KeepsDurable, IsDurable, Tried}
 use Rattle.h2_disk.specs.Disk.{Keeps}
 use Rattle.h2_checkpoint.specs.Format.{Format, SameReached, IsLawful}
-use Rattle.h2_checkpoint.specs.Checkpoint.{Fresh, Writing, Newest, Frozen, IsPlanned, IsQueuedOrThere, base_of, HasOldHeaders}
+use Rattle.h2_checkpoint.specs.Queue.{overlay_all}
+use Rattle.h2_checkpoint.specs.Checkpoint.{Progress, Fresh, Stage, Writing, Checkpoint, Newest, Completed, Frozen, IsPlanned, IsQueuedOrThere, base_of, HasOldHeaders}
 use Rattle.h2_checkpoint.specs.Marks.{Mark, Froze}
 use Rattle.h2_checkpoint.specs.Runs.{Flush, Idle, UnderWay, IsOff, IsOpening, State, Mounts, Survives}
 
@@ -51,6 +52,16 @@ module _ (v : Format) where
       → IsPlanned v newest f → IsQueuedOrThere v x.image f
       → StandsAt start opening before x newest Idle marks
       → StandsAt start opening before x newest (UnderWay f Fresh (Writing f.queue)) (Froze (v.number f.checkpoint.header) f.checkpoint.forest ∷ marks)
+
+  -- where a volume stands, a read of a block of its newest completed checkpoint gives what was frozen
+  abbrev pub StandsNewest : Type 0
+  StandsNewest = IsLawful v → (start : ℕ) (opening : Newest v) (before : Trace) (x : DiskState) (checkpoint : Checkpoint v) (flush : Flush v) (marks : List (Mark v.Forest))
+      → StandsAt start opening before x (Completed checkpoint) flush marks → SameReached v checkpoint.view (v.roots checkpoint.header) x.image
+
+  -- and a read of a block of the checkpoint that a flush under way has frozen does so, once its queue is laid over the image
+  abbrev pub StandsQueued : Type 0
+  StandsQueued = IsLawful v → (start : ℕ) (opening : Newest v) (before : Trace) (x : DiskState) (newest : Newest v) (f : Frozen v) (g : Progress) (stage : Stage) (marks : List (Mark v.Forest))
+      → StandsAt start opening before x newest (UnderWay f g stage) marks → SameReached v f.checkpoint.view (v.roots f.checkpoint.header) (overlay_all f.queue x.image)
 
   -- A cut at a moment may leave the image of a disk with this trace, where the volume was opened on an image and the disk made calls since: headers are torn into no others, and durable bytes that are written again stay.
   pub record MayBeCut (opened : Places) (since : List Call) (trace : Trace) (m : ℕ) (image : Places) : Type 0 where

@@ -6,7 +6,7 @@ use Rattle.std.proofs.lemmas.Bool.{cases_lt}
 use Rattle.std.proofs.lemmas.List.{get_or-set_same, get_or-set_other}
 use mathlib.Core.Path.{fun_ext}
 use Rattle.h2_num.specs.Places.{Places, Same, SameBelow}
-use Rattle.h2_disk.specs.Trace.{Trace, MayLeave, IsDurable, latest, up_to}
+use Rattle.h2_disk.specs.Trace.{Trace, MayLeave, LeftAt, IsDurable, latest, up_to}
 use Rattle.h2_disk.specs.TraceLaws.{up_to-all}
 use Rattle.h2_disk.specs.Disk.{Keeps}
 use Rattle.h2_header.specs.declared.header.Header.{Header}
@@ -104,11 +104,15 @@ pub cuts_nothing : (zones : ℕ) (old new : DiskState) → new.trace ≡ old.tra
 cuts_nothing zones old new is past durable none = record {
   since = [];
   trace_is = is;
-  each = λ m image ge le cut.
-      let before : latest old.trace ≤ m = omega arith in
-      let left : MayLeave old.trace image = subst (λ (t : Trace). MayLeave t image) (up_to-all old.trace m before) (subst (λ (t : Trace). MayLeave (up_to m t) image) is cut.left) in
-      inl (no_header_same old.image image (λ k. left k (durable.nothing_written k) ∙ sym (durable.same k)) none);
+  each = λ m image ge le cut. inl (none_left m image ge cut.left);
+  early = λ m image ge le lt cut. none_left m image ge cut.left;
 }
+  where
+    none_left : (m : ℕ) (image : Places) → old.moment ≤ m → LeftAt new.trace m image → HasNoHeader image
+    none_left m image ge cut =
+        let before : latest old.trace ≤ m = omega arith in
+        let left : MayLeave old.trace image = subst (λ (t : Trace). MayLeave t image) (up_to-all old.trace m before) (subst (λ (t : Trace). MayLeave (up_to m t) image) is cut) in
+        no_header_same old.image image (λ k. left k (durable.nothing_written k) ∙ sym (durable.same k)) none
 
 -- a disk that was only read
 pub state_kept : (i0 i1 : Places) (m0 m1 : ℕ) (t0 t1 : Trace) → Keeps i0 i1 t0 t1 → m1 ≡ m0

@@ -3,12 +3,14 @@ use Rattle.std.proofs.Common.{◌≡◌, ◌⊎◌, ◌<◌, ◌≤◌, ◌^◌,
 use Rattle.std.specs.Prelude.{All, map, slice_index_or}
 use Rattle.std.proofs.lemmas.List.{length-map}
 use Rattle.h2_num.specs.Places.{Places, places, InRange}
+use Rattle.h2_num.specs.Causes.{one_more}
 use Rattle.h2_disk.specs.Trace.{IsDurable}
 use Rattle.h2_header.specs.declared.header.Header.{Header}
 use Rattle.h2_header.specs.Map.{top_level}
 use Rattle.h2_header.specs.Header.{HeadBytes}
 use Rattle.h2_freeleaf.specs.Plan.{places_of, map_places}
 use Rattle.h2_checkpoint.specs.declared.piece.Piece.{Piece}
+use Rattle.h2_checkpoint.specs.Queue.{entry_of}
 use Rattle.h2_checkpoint.specs.Stands.{DiskState}
 use Rattle.h2_checkpoint.specs.Steps as steps
 use Rattle.h2_checkpoint.specs.Making.{IsNoneOrMade, MakesSafely, Makes}
@@ -17,7 +19,7 @@ use Rattle.h2_image.specs.VolumeFormat.{volume, HasNoHeader, IsFormatted}
 use Rattle.h2_image.specs.VolumeLaws.{volume_lawful}
 use Rattle.h2_image.specs.NewVolumeLaws.{top_most}
 use Rattle.h2_cmd.specs.Planning.{piece_of, pieces_of, IsPlanned}
-use Rattle.h2_cmd.specs.Formatting.{SameElsewhere, MakesVolume, CutsFormat}
+use Rattle.h2_cmd.specs.Formatting.{SameElsewhere, MakesVolume, CutsFormat, header_moment}
 use Rattle.h2_cmd.proofs.MapPlaces.{InPlaces, copy_count}
 use Rattle.h2_cmd.proofs.FirstPlan.{AreSmall, small, in_map, queue_in_blocks, frozen_over, first_plan}
 
@@ -71,6 +73,13 @@ module _ (zones : ℕ) (pieces : List Piece) (h : Header) (p : IsPlanned zones p
   none_or_formatted image base bytes (inl none) = inl none
   none_or_formatted image base bytes (inr (header, newest, number, stands)) = inr (record { header = header; newest = newest; stands = stands })
 
+  -- the header's write comes after all pieces and a sync
+  before_header : (moment m : ℕ) → m < header_moment zones moment → m < one_more (moment + length (steps.queue_of pieces) + 2)
+  before_header moment m lt =
+      let queue : length (steps.queue_of pieces) ≡ length pieces = length-map pieces entry_of in
+      let count : length pieces ≡ map_block_count zones + 2 = piece_count in
+      omega arith
+
   pub cuts_volume : (old new : DiskState) (bytes : List ℕ) → length bytes ≡ 65536 → HeadBytes h (places bytes) → MakesSafely volume pieces 0 bytes old new → IsDurable old.trace old.image → HasNoHeader old.image → CutsFormat zones old new
   cuts_volume old new bytes long spelled safely durable none =
       let c = safely volume_lawful (frozen_over zones pieces h p old.image bytes) (first_plan zones pieces h p old.image bytes none long spelled) in
@@ -78,6 +87,7 @@ module _ (zones : ℕ) (pieces : List Piece) (h : Header) (p : IsPlanned zones p
         since = c.since;
         trace_is = c.trace_is;
         each = λ m image ge le cut. none_or_formatted image old.image bytes (c.by_trace durable m image ge le cut);
+        early = λ m image ge le lt cut. c.none_by_trace durable m image ge le (before_header old.moment m lt) cut;
       }
 
   pub elsewhere : (old new : Places) (n : ℕ) → n ≡ 65536 → steps.SameElsewhere pieces 0 n old new → SameElsewhere zones old new

@@ -1,6 +1,7 @@
 -- What formatting does to a disk.
 use Rattle.std.specs.Prelude.{◌≡◌, ◌⊎◌, ◌<◌, ◌≤◌, ℕ, ◌+◌, List, Option, Some, None, MatchOption, slice_index_or}
 use Rattle.h2_num.specs.Places.{Places, Same}
+use Rattle.h2_num.specs.Causes.{one_more}
 use Rattle.h2_disk.specs.Trace.{Call, after, IsDurable}
 use Rattle.h2_header.specs.declared.header.Header.{Header}
 use Rattle.h2_header.specs.Header.{IsHeaderAt, NoHeaderAt}
@@ -67,9 +68,15 @@ abbrev pub TakesMoments : ℕ → ℕ → ℕ → Formatting → Type 0
 TakesMoments zones old new Made = new ≡ old + moments_of zones
 TakesMoments zones old new (Already number) = new ≡ old
 
--- At each moment from the old state to the new one a power cut leaves no header, or a new volume of so many zones, where
--- headers are torn into no others and durable bytes that are written again stay.
+-- the moment at which the header's write begins: after a write for each block of the freemap and for the two inodes, and a
+-- sync of two moments
+abbrev pub header_moment : ℕ → ℕ → ℕ
+header_moment zones moment = one_more (moment + map_block_count zones + 4)
+
+-- At each moment from the old state to the new one a power cut leaves no header, or a new volume of so many zones, and before
+-- the header's write no header, where headers are torn into no others and durable bytes that are written again stay.
 pub record CutsFormat (zones : ℕ) (old new : DiskState) : Type 0 where
   pub since : List Call
   pub trace_is : new.trace ≡ after since old.trace
   pub each : (m : ℕ) (image : Places) → old.moment ≤ m → m ≤ new.moment → MayBeCut volume old.image since new.trace m image → HasNoHeader image ⊎ IsFormatted zones image
+  pub early : (m : ℕ) (image : Places) → old.moment ≤ m → m ≤ new.moment → m < header_moment zones old.moment → MayBeCut volume old.image since new.trace m image → HasNoHeader image
