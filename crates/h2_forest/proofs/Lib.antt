@@ -1,5 +1,9 @@
 mod Replays
 mod LegalParts
 mod Indices
+mod Kept
+mod PfsLists
 mod KeptIds
+mod KeptNames
+mod KeptNumbers
 mod Trimming

@@ -16,7 +16,7 @@ tied Less e = absurd (cc)
 tied Equal e = refl
 tied Greater e = absurd (cc)
 
-equal_keys : (x y : ℕ) → eq_by_cmp nat_cmp x y ≡ true → x ≡ y
+pub equal_keys : (x y : ℕ) → eq_by_cmp nat_cmp x y ≡ true → x ≡ y
 equal_keys x y e = nat_cmp-IsAntisymmetric x y (tied (nat_cmp x y) e)
 
 none_later : (q : ℕ) (es : List (ℕ × Node)) → AllByRecursion (λ y. nat_cmp q y ≡ Less) (map (λ x. x.0) es) → find nat_cmp q es ≡ None

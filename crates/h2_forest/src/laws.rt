@@ -1,8 +1,9 @@
 ghost use Rattle.std.specs.Prelude.{◌≡◌, ℕ, List, [], length};
 ghost use Rattle.h2_command.specs.declared.command.Command.{Command};
 ghost use Rattle.h2_command.specs.declared.history.Item.{Item};
+ghost use Rattle.h2_command.specs.Lawful.{Lawful};
 ghost use Rattle.h2_forest.specs.Forest.{PlainForest, answer, fresh, clean};
-ghost use Rattle.h2_forest.specs.Ids.{IdsAscend};
+ghost use Rattle.h2_forest.specs.Ids.{IdsAscend, NamesDiffer, NamesAreGood, NumbersBelow};
 ghost use Rattle.h2_forest.specs.Whole.{Script, Whole, called, asked_from};
 ghost use Rattle.h2_forest.specs.WholeExample.{two_phases, five_places, five_entries, four_entries};
 
@@ -11,6 +12,21 @@ ghost use Rattle.h2_forest.specs.WholeExample.{two_phases, five_places, five_ent
 pub fn ids_law()
     ensures fresh { IdsAscend fresh }
     ensures kept { (f : PlainForest) (client : ℕ) (command : Command) → IdsAscend f → IdsAscend (answer f client command).1 }
+{}
+
+/// Laws: in a fresh forest the names of PFSs differ, and each command keeps that; a command that a script can hold
+/// keeps them good.
+pub fn names_law()
+    ensures fresh { NamesDiffer fresh }
+    ensures kept { (f : PlainForest) (client : ℕ) (command : Command) → NamesDiffer f → NamesDiffer (answer f client command).1 }
+    ensures fresh_good { NamesAreGood fresh }
+    ensures kept_good { (f : PlainForest) (client : ℕ) (command : Command) → Lawful command → NamesAreGood f → NamesAreGood (answer f client command).1 }
+{}
+
+/// Laws: in a fresh forest each inode has a number below the next one of its PFS, and each command keeps that.
+pub fn numbers_law()
+    ensures fresh { NumbersBelow fresh }
+    ensures kept { (f : PlainForest) (client : ℕ) (command : Command) → NumbersBelow f → NumbersBelow (answer f client command).1 }
 {}
 
 /// Laws: a history whose entries are the script's commands in their places is whole for it, and one that is whole

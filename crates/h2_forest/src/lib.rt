@@ -5,8 +5,8 @@
 //! their order: there are no blocks, no flushes and no steps in it. `Forest::apply` is that, exactly.
 //! `specs/History` says what the history of a run may look like, part by part; `replay` and `judge` decide
 //! it. `specs/Landing` says where a power cut lands and what was frozen there, which `may_land` and
-//! `frozen_forest` tell, and `specs/Whole` when a history is whole for a script. `specs/Ids` says how PFSs stand,
-//! which every command keeps (`ids_law`).
+//! `frozen_forest` tell, and `specs/Whole` when a history is whole for a script. `specs/Ids` says what every command
+//! keeps of the ids and names of PFSs and of the numbers of their inodes (`ids_law`, `names_law`, `numbers_law`).
 #![tactic(auto)]
 
 mod directory;
@@ -33,7 +33,7 @@ pub use h2_num::{Bytes, Name, Names};
 pub use handles::Handles;
 pub use judging::{is_legal, judge};
 pub use landing::{frozen_forest, may_land};
-pub use laws::{ids_law, whole_example_law, whole_law};
+pub use laws::{ids_law, names_law, numbers_law, whole_example_law, whole_law};
 pub use legality::{LastPass, Legality, Opening};
 pub use pfs::Pfs;
 pub use replay_result::Replay;

@@ -5,4 +5,4 @@ pub returns-clause-fresh : goal.returns-clause-fresh
 returns-clause-fresh c = fresh_ids
 
 pub returns-clause-kept : goal.returns-clause-kept
-returns-clause-kept c = λ f client command ids. answer_ids f ids client command
+returns-clause-kept c = λ f client command ids. answer_ids f client command ids
