@@ -25,6 +25,10 @@ use Rattle.h2_image.specs.VolumeFormat.{in_node, volume}
 pub small_size : (r : Ref) → r.radix ≡ 10 → size_of r ≡ 1024
 small_size r e = ap (λ (x : ℕ). if x == 0 then 0 else 2 ^ x) e
 
+-- a block of radix 12 has 4096 bytes
+pub set_size : (r : Ref) → r.radix ≡ 12 → size_of r ≡ 4096
+set_size r e = ap (λ (x : ℕ). if x == 0 then 0 else 2 ^ x) e
+
 -- the blocks of the map have radix 10
 pub map_radix : (level : ℕ) (r : Ref) → r.kind ≡ map_kind level → IsValid r → r.radix ≡ 10
 map_radix zero r kind valid = let P : Kind → Type 0 = λ k. FitsRow (row_of k (method_number r.check)) r → r.radix ≡ 10 in subst P (sym kind) (λ f. f.radix) valid

@@ -17,7 +17,7 @@ use Rattle.h2_freeleaf.specs.InImage.{LeadsTo}
 use Rattle.h2_checkpoint.specs.Slots.{IsSlot, InSlot}
 use Rattle.h2_checkpoint.specs.Format.{Reach, by_root, by_child, ReachesByte}
 use Rattle.h2_image.specs.NewVolume.{directory_place, pfs_place, inode_ref, new_root, directory_block, pfs_block, LeadToNewCodes, IsNewVolume}
-use Rattle.h2_image.specs.VolumeFormat.{IsInodeChild, IsNodeChild, IsChild, in_inode, in_node, volume}
+use Rattle.h2_image.specs.VolumeFormat.{IsInodeChild, IsNodeChild, IsChild, in_inode, in_set, in_node, volume}
 use Rattle.h2_image.specs.MapLaws.{small_size, map_radix}
 use Rattle.h2_image.specs.VolumeLaws.{directory_valid, root_is}
 
@@ -132,14 +132,23 @@ map_no_inode : (level : ℕ) (r : Ref) → r.kind ≡ map_kind level → r.kind 
 map_no_inode zero r kind inode = absurd (cc)
 map_no_inode (suc level) r kind inode = absurd (cc)
 
+-- and no indirect block's
+map_no_set : (level : ℕ) (r : Ref) → r.kind ≡ map_kind level → r.kind ≡ Indirect → ⊥
+map_no_set zero r kind set = absurd (cc)
+map_no_set (suc level) r kind set = absurd (cc)
+
 child_part : (image : Places) (h : Header) (zones : ℕ) (r s : Ref) (v : IsNewVolume image h zones) → IsPart image zones v.map.segments r → IsChild r (from_place image r.place) s → IsPart image zones v.map.segments s
 child_part image h zones r s v (is_pfs is) (in_inode c) = is_directory (pfs_child image h zones r s v is c)
+child_part image h zones r s v (is_pfs is) (in_set c) = let kind : r.kind ≡ Inode = ap (λ (x : Ref). x.kind) is in let set = c.kind in absurd (cc)
 child_part image h zones r s v (is_pfs is) (in_node c) = let kind : r.kind ≡ Inode = ap (λ (x : Ref). x.kind) is in let node = c.kind in absurd (cc)
 child_part image h zones r s v (is_directory is) (in_inode c) = absurd (directory_child image h zones r s v is c)
+child_part image h zones r s v (is_directory is) (in_set c) = let kind : r.kind ≡ Inode = ap (λ (x : Ref). x.kind) is in let set = c.kind in absurd (cc)
 child_part image h zones r s v (is_directory is) (in_node c) = let kind : r.kind ≡ Inode = ap (λ (x : Ref). x.kind) is in let node = c.kind in absurd (cc)
 child_part image h zones r s v (is_map m) (in_inode c) = absurd (map_no_inode m.level r m.names.kind c.kind)
+child_part image h zones r s v (is_map m) (in_set c) = absurd (map_no_set m.level r m.names.kind c.kind)
 child_part image h zones r s v (is_map m) (in_node c) = is_map (node_child image zones v.map.segments m.level m.zone r s m.in_levels m.names.kind m.leads c)
 child_part image h zones r s v (is_empty is) (in_inode c) = let kind : r.kind ≡ Empty = ap (λ (x : Ref). x.kind) is in let inode = c.kind in absurd (cc)
+child_part image h zones r s v (is_empty is) (in_set c) = let kind : r.kind ≡ Empty = ap (λ (x : Ref). x.kind) is in let set = c.kind in absurd (cc)
 child_part image h zones r s v (is_empty is) (in_node c) = let kind : r.kind ≡ Empty = ap (λ (x : Ref). x.kind) is in let node = c.kind in absurd (cc)
 
 -- all that a new volume reaches is a part of it

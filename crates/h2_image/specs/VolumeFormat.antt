@@ -3,7 +3,7 @@ use Rattle.std.specs.Prelude.{◌≡◌, ◌<◌, ℕ, ◌+◌, ◌*◌, ◌++�
 use Rattle.h2_num.specs.Places.{Places, from_place}
 use Rattle.h2_check.specs.Crc.{crc32c_of}
 use Rattle.h2_check.specs.Xxh.{xxh64_of}
-use Rattle.h2_ref.specs.declared.reference.Kind.TheVariants.{Empty, Inode, MapNode}
+use Rattle.h2_ref.specs.declared.reference.Kind.TheVariants.{Empty, Inode, Indirect, MapNode}
 use Rattle.h2_ref.specs.declared.reference.Check.TheVariants.{Crc, Xx}
 use Rattle.h2_ref.specs.declared.reference.Ref.{Ref}
 use Rattle.h2_ref.specs.Ref.{RefBytes, IsValid, size_of}
@@ -24,6 +24,17 @@ pub record IsInodeChild (r : Ref) (b : Places) (s : Ref) : Type 0 where
   pub used : s.kind ≡ Empty → ⊥
   pub spelled : RefBytes s (from_place b (512 + 128 * index))
 
+-- an indirect block passes the check of its reference, and one of its 32 references is this one
+pub record IsSetChild (r : Ref) (b : Places) (s : Ref) : Type 0 where
+  pub kind : r.kind ≡ Indirect
+  pub radix : r.radix ≡ 12
+  pub check : r.check ≡ Xx (xxh64_of b 4096)
+  pub index : ℕ
+  pub below : index < 32
+  pub valid : IsValid s
+  pub used : s.kind ≡ Empty → ⊥
+  pub spelled : RefBytes s (from_place b (128 * index))
+
 -- a node of the freemap passes the check of its reference, and one of its eight references is this one
 pub record IsNodeChild (r : Ref) (b : Places) (s : Ref) : Type 0 where
   pub kind : r.kind ≡ MapNode
@@ -38,6 +49,7 @@ pub record IsNodeChild (r : Ref) (b : Places) (s : Ref) : Type 0 where
 -- the block of a reference is whole, and holds this reference
 pub data IsChild (r : Ref) (b : Places) (s : Ref) : Type 0 where
   in_inode : IsInodeChild r b s → IsChild r b s
+  in_set : IsSetChild r b s → IsChild r b s
   in_node : IsNodeChild r b s → IsChild r b s
 
 -- What an image stands for is, as far as there are commands, a new volume, known by its number of zones.

@@ -16,8 +16,8 @@ use Rattle.h2_header.specs.HeaderLaws.{IsHeaderAt-same, one_number}
 use Rattle.h2_checkpoint.specs.Format.{Reach, by_root, by_child, SameReached, IsLawful}
 use Rattle.h2_image.specs.NewBlocks.{InodeHead, RootDirectoryBytes, RootPfsBytes}
 use Rattle.h2_image.specs.NewVolume.{directory_place, pfs_place, inode_ref, new_root, new_header, directory_block, pfs_block, IsNewVolume}
-use Rattle.h2_image.specs.VolumeFormat.{IsInodeChild, IsNodeChild, IsChild, in_inode, in_node, volume}
-use Rattle.h2_image.specs.MapLaws.{small_size, codes_same}
+use Rattle.h2_image.specs.VolumeFormat.{IsInodeChild, IsSetChild, IsNodeChild, IsChild, in_inode, in_set, in_node, volume}
+use Rattle.h2_image.specs.MapLaws.{small_size, set_size, codes_same}
 
 inode_child_same : (r s : Ref) (a b : Places) → SameBelow (size_of r) a b → IsInodeChild r a s → IsInodeChild r b s
 inode_child_same r s a b same c =
@@ -33,6 +33,21 @@ inode_child_same r s a b same c =
       valid = c.valid;
       used = c.used;
       spelled = let lt : c.index < 4 = c.below in RefBytes-same s (from_place a (512 + 128 * c.index)) (from_place b (512 + 128 * c.index)) (λ k k_lt. below (512 + 128 * c.index + k) (omega arith)) c.spelled;
+    }
+
+set_child_same : (r s : Ref) (a b : Places) → SameBelow (size_of r) a b → IsSetChild r a s → IsSetChild r b s
+set_child_same r s a b same c =
+    let size : size_of r ≡ 4096 = set_size r c.radix in
+    let below : SameBelow 4096 a b = λ k lt. same k (omega arith) in
+    record {
+      kind = c.kind;
+      radix = c.radix;
+      check = c.check ∙ ap Xx (sym (xxh64_of-same a b 4096 below));
+      index = c.index;
+      below = c.below;
+      valid = c.valid;
+      used = c.used;
+      spelled = let lt : c.index < 32 = c.below in RefBytes-same s (from_place a (128 * c.index)) (from_place b (128 * c.index)) (λ k k_lt. below (128 * c.index + k) (omega arith)) c.spelled;
     }
 
 node_child_same : (r s : Ref) (a b : Places) → SameBelow (size_of r) a b → IsNodeChild r a s → IsNodeChild r b s
@@ -52,6 +67,7 @@ node_child_same r s a b same c =
 
 child_same : (r s : Ref) (a b : Places) → SameBelow (size_of r) a b → IsChild r a s → IsChild r b s
 child_same r s a b same (in_inode c) = in_inode (inode_child_same r s a b same c)
+child_same r s a b same (in_set c) = in_set (set_child_same r s a b same c)
 child_same r s a b same (in_node c) = in_node (node_child_same r s a b same c)
 
 -- Blocks by their bytes alone
