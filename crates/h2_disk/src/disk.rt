@@ -15,12 +15,15 @@ pub enum DiskFault {
 /// A disk of the byte places below 2^34. A place never written reads 0.
 ///
 /// What a disk tells of itself is its image and its trace. A type that tells neither, as a disk over a
-/// real file, is bound by the clauses on moments and causes alone.
+/// real file, is bound by the clauses on moments, causes and memory alone.
 pub trait Disk {
     ghost use Rattle.h2_disk.specs.Disk.{HasCause, Keeps, Writes, FailsToWrite, Syncs};
 
     /// Whether disks of this type tell their image and their trace.
     ghost tells: { Bool };
+
+    /// Whether disks of this type take no memory, and so never answer that it was wanting.
+    ghost takes_no_memory: { Bool };
 
     /// What a read gives at each place.
     ghost image: { Self → Places };
@@ -42,7 +45,8 @@ pub trait Disk {
         ensures keeps { IsTrue tells → Keeps (image self.old) (image self.new) (trace self.old) (trace self.new) }
         ensures time { moment self.new ≡ moment self.old }
         ensures later { faults self.old ≤ faults self.new }
-        ensures cause { IfErr result (λ fault. HasCause (faults self.old) (faults self.new) fault) };
+        ensures cause { IfErr result (λ fault. HasCause (faults self.old) (faults self.new) fault) }
+        ensures memory { IfErr result (λ fault. IsTrue takes_no_memory → fault ≡ DiskFault.Failed) };
 
     /// Puts the bytes at the place. After a fault the range may hold any bytes, and all else stays.
     fn write(&mut self, at: u64, bytes: &[u8]) -> Result<(), DiskFault>
@@ -52,7 +56,8 @@ pub trait Disk {
         ensures time { moment self.new ≡ one_more (moment self.old) }
         ensures end { 2 ^ 64 - 2 ≤ moment self.old → IsErr result }
         ensures later { faults self.old ≤ faults self.new }
-        ensures cause { IfErr result (λ fault. HasCause (faults self.old) (faults self.new) fault) };
+        ensures cause { IfErr result (λ fault. HasCause (faults self.old) (faults self.new) fault) }
+        ensures memory { IfErr result (λ fault. IsTrue takes_no_memory → fault ≡ DiskFault.Failed) };
 
     /// Makes the image durable: what a power cut leaves until the next write begins. After a fault no
     /// promise is gained.
@@ -63,7 +68,8 @@ pub trait Disk {
         ensures time_failed { OnErr result (moment self.new ≡ one_more (moment self.old)) }
         ensures end { 2 ^ 64 - 2 ≤ moment self.old → IsErr result }
         ensures later { faults self.old ≤ faults self.new }
-        ensures cause { IfErr result (λ fault. HasCause (faults self.old) (faults self.new) fault) };
+        ensures cause { IfErr result (λ fault. HasCause (faults self.old) (faults self.new) fault) }
+        ensures memory { IfErr result (λ fault. IsTrue takes_no_memory → fault ≡ DiskFault.Failed) };
 
     /// The moment: it rises by one when a write or a sync begins, and by one more when a sync succeeds.
     fn moment(&self) -> u64

@@ -1,4 +1,4 @@
-ghost use Rattle.std.specs.Prelude.{◌≡◌, ◌↔◌, ◌+◌, ◌-◌, ◌^◌, ◌≤◌, IsTrue, IfOk, OnOk, OnErr, IfErr, length, true, Contains};
+ghost use Rattle.std.specs.Prelude.{◌≡◌, ◌↔◌, ◌+◌, ◌-◌, ◌^◌, ◌≤◌, IsTrue, IfOk, OnOk, OnErr, IfErr, length, true, false, Contains};
 ghost use Rattle.h2_num.specs.Places.{places, from_place, SameBelow, Lays};
 ghost use Rattle.h2_num.specs.Causes.{one_more};
 ghost use Rattle.h2_disk.specs.Trace.{Opened};
@@ -106,6 +106,8 @@ impl MemDisk {
 
 impl Disk for MemDisk {
     ghost tells = { true };
+
+    ghost takes_no_memory = { false };
 
     ghost image = { mem_image };
 

@@ -1,4 +1,4 @@
-ghost use Rattle.std.specs.Prelude.{◌≡◌, ◌+◌, ◌-◌, ◌^◌, ◌≤◌, IsOk, IfOk, IsErr, OnOk, OnErr, IsTrue, IfErr, length, true};
+ghost use Rattle.std.specs.Prelude.{◌≡◌, ◌+◌, ◌-◌, ◌^◌, ◌≤◌, IsOk, IfOk, IsErr, OnOk, OnErr, IsTrue, IfErr, length, true, false};
 ghost use Rattle.h2_num.specs.Places.{places, from_place, SameBelow};
 ghost use Rattle.h2_num.specs.Causes.{one_more};
 ghost use Rattle.h2_disk.specs.Trace.{Opened};
@@ -34,6 +34,8 @@ impl SureDisk {
 
 impl Disk for SureDisk {
     ghost tells = { true };
+
+    ghost takes_no_memory = { false };
 
     ghost image = { sure_image };
 

@@ -1,4 +1,4 @@
-ghost use Rattle.std.specs.Prelude.{◌≡◌, ◌↔◌, ◌+◌, ◌++◌, [], ◌≤◌, ◌<◌, length, true, IsTrue, Some, IfOk, IfErr, OnErr};
+ghost use Rattle.std.specs.Prelude.{◌≡◌, ◌↔◌, ◌+◌, ◌++◌, [], ◌≤◌, ◌<◌, length, true, false, IsTrue, Some, IfOk, IfErr, OnErr};
 
 use crate::sink::{PutFault, Sink};
 use std::alloc::Global;
@@ -41,6 +41,8 @@ impl Sink for MemSink {
     ghost use Rattle.h2_io.specs.MemSink.{bytes_of, until_fault, faults_of, after_one};
 
     ghost tells = { true };
+
+    ghost takes_no_memory = { false };
 
     ghost held = { bytes_of };
 

@@ -16,6 +16,9 @@ pub trait Sink {
     /// Whether sinks of this type tell what they hold.
     ghost tells: { Bool };
 
+    /// Whether sinks of this type take no memory, and so never answer that it was wanting.
+    ghost takes_no_memory: { Bool };
+
     /// What the sink holds.
     ghost held: { Self → List ℕ };
 
@@ -29,5 +32,6 @@ pub trait Sink {
         ensures count { IfOk result (λ n. (0 < n) × (n ≤ length bytes.now)) }
         ensures held { IsTrue tells → held self.new ≡ held self.old ++ taken result bytes.now }
         ensures later { faults self.old ≤ faults self.new }
-        ensures cause { IfErr result (λ fault. HasCause (faults self.old) (faults self.new) fault) };
+        ensures cause { IfErr result (λ fault. HasCause (faults self.old) (faults self.new) fault) }
+        ensures memory { IfErr result (λ fault. IsTrue takes_no_memory → fault ≡ PutFault.Failed) };
 }

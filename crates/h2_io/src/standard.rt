@@ -1,4 +1,4 @@
-ghost use Rattle.std.specs.Prelude.{◌≡◌, ◌≤◌, ◌<◌, ◌++◌, false, IsTrue, length, take, IfOk, IfErr, IfSome, MatchOption};
+ghost use Rattle.std.specs.Prelude.{◌≡◌, ◌≤◌, ◌<◌, ◌++◌, true, false, IsTrue, length, take, IfOk, IfErr, IfSome, MatchOption};
 ghost use Rattle.std.specs.Io.KnownBytes.{Keeps, Appends, WriteAppends};
 
 use crate::sink::{PutFault, Sink};
@@ -50,6 +50,8 @@ impl<W: Write + Drop> Sink for StdSink<W> {
     ghost use Rattle.h2_io.specs.StdSink.{writer_of, faults_of, told_by};
 
     ghost tells = { false };
+
+    ghost takes_no_memory = { true };
 
     ghost held = { told_by };
 

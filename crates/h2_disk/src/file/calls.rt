@@ -1,4 +1,4 @@
-ghost use Rattle.std.specs.Prelude.{◌≡◌, ◌+◌, ◌-◌, ◌^◌, ◌≤◌, ◌<◌, ◌↔◌, IsTrue, OnOk, OnErr, IfErr, IsErr, length, false, refl};
+ghost use Rattle.std.specs.Prelude.{◌≡◌, ◌+◌, ◌-◌, ◌^◌, ◌≤◌, ◌<◌, ◌↔◌, IsTrue, OnOk, OnErr, IfErr, IsErr, length, true, false, refl};
 ghost use Rattle.h2_num.specs.Causes.{one_more};
 ghost use Rattle.h2_disk.specs.Trace.{Opened};
 ghost use Rattle.h2_disk.specs.TraceLaws.{latest-opened};
@@ -100,6 +100,8 @@ impl<R: Files + Drop> FileDisk<R> {
 
 impl<R: Files + Drop> Disk for FileDisk<R> {
     ghost tells = { false };
+
+    ghost takes_no_memory = { true };
 
     ghost image = { λ disk k. 0 };
 

@@ -15,6 +15,8 @@ struct SlowSink {
 impl Sink for SlowSink {
     ghost tells = { false };
 
+    ghost takes_no_memory = { false };
+
     ghost held = { λ sink. [] };
 
     ghost faults = { λ sink. faults_of sink.inner };
