@@ -24,11 +24,6 @@ pub cause_since : (a b c : ℕ) (fault : DiskFault) → a ≤ b → HasCause b c
 cause_since a b c Failed le rose = let r : one_more b ≤ c = rose in omega arith
 cause_since a b c NoMemory le rose = tt
 
--- a cause up to an earlier call is one up to a later call
-pub cause_until : (a b c : ℕ) (fault : DiskFault) → b ≤ c → HasCause a b fault → HasCause a c fault
-cause_until a b c Failed le rose = let r : one_more a ≤ b = rose in omega arith
-cause_until a b c NoMemory le rose = tt
-
 pub piece_among : (pieces : List Piece) (k : ℕ) (piece : Piece) → k < length pieces → piece ≡ slice_index_or pieces k piece → IsAmong (queue_of pieces) (entry_of piece)
 piece_among [] k piece lt is = absurd (omega arith)
 piece_among (p ∷ pieces) zero piece lt is = inl (ap entry_of is)

@@ -186,9 +186,6 @@ module _ (v : Format) (laws : IsLawful v) where
       in_queue : InEntries f.queue k → i k ≡ f.checkpoint.view k
       in_queue (e, m, r) = same_held e.at e.bytes i f.checkpoint.view (standing e (x.written e m)) (x.plan.queue e m) k r
 
-  synced_sent : (g : Progress) → g ≡ Sent → progress_after_sync g ≡ Sent
-  synced_sent g e = ap progress_after_sync e
-
   pub blocks_synced : (t : ℕ) (p : Trace) (i j : Places) (d : Newest v) (f : Frozen v) (g : Progress) → IsFlushing v p i d f g (Writing []) → Same i j
       → IsFlushing v (Synced t j p) j d f (progress_after_sync g) Blocks_synced
   blocks_synced t p i j d f g x same = record {

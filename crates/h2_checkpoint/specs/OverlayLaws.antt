@@ -1,7 +1,5 @@
 -- Laws of an image with entries laid over it.
-use Rattle.std.proofs.Common.{◌≡◌, ◌⊎◌, ℕ, ◌+◌, ◌-◌, List, [], ◌∷◌, length, refl, sym, ◌∙◌, subst, inl, inr, arith}
-use Rattle.std.specs.Prelude.{nat_lt, true, false}
-use Rattle.std.proofs.lemmas.Bool.{le-ltb, lt-ltb}
+use Rattle.std.proofs.Common.{◌≡◌, ◌⊎◌, ℕ, List, [], ◌∷◌, length, refl, sym, ◌∙◌, subst, inl, inr}
 use Rattle.h2_num.specs.Places.{Holds, InRange, Places, Same, SameOutside}
 use Rattle.h2_num.specs.PlaceLaws.{holds_too, in_range, outside, same_held}
 use Rattle.h2_disk.specs.Laid.{laid, laid_inside, laid_elsewhere}

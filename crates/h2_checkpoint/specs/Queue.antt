@@ -1,5 +1,5 @@
 -- The bytes that a flush writes before its header, and an image with them.
-use Rattle.std.specs.Prelude.{◌≡◌, ◌⊎◌, ◌≤◌, ℕ, ◌+◌, List, [], ◌∷◌, length}
+use Rattle.std.specs.Prelude.{◌≡◌, ◌⊎◌, ℕ, List, [], ◌∷◌, length}
 use Rattle.h2_num.specs.Places.{Places, InRange}
 use Rattle.h2_disk.specs.Laid.{laid}
 use Rattle.h2_checkpoint.specs.declared.piece.Piece.{Piece}
@@ -26,10 +26,6 @@ InEntries entries k = (e : Entry) × IsAmong entries e × InRange e.at (length e
 abbrev pub AreApart : List Entry → Type 0
 AreApart [] = Unit {0}
 AreApart (e ∷ entries) = ((k : ℕ) → InRange e.at (length e.bytes) k → InEntries entries k → ⊥) × AreApart entries
-
--- no byte belongs to both ranges
-abbrev pub Apart : ℕ → ℕ → ℕ → ℕ → Type 0
-Apart at n other m = (at + n ≤ other) ⊎ (other + m ≤ at)
 
 -- an image with entries laid over it, one after another
 unfoldable pub overlay_all : List Entry → Places → Places

@@ -79,7 +79,3 @@ module _ (v : Format) where
   abbrev pub CutLaw : Type 0
   CutLaw = IsLawful v → (start : ℕ) (opening : Newest v) (before : Trace) (disk : DiskState) (newest : Newest v) (flush : Flush v) (marks : List (Mark v.Forest))
       → IsDurable before (base_of v opening) → latest before ≤ start → StandsAt start opening before disk newest flush marks → CutsMount start opening before disk marks
-
-  -- a property of the blocks that are reached: what holds in each image in which they are the same
-  abbrev pub Locally : (Places → v.Header → v.Forest → Type 0) → Places → v.Header → v.Forest → Type 0
-  Locally P image h forest = (other : Places) → SameReached v image (v.roots h) other → P other h forest

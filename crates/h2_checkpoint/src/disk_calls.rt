@@ -28,6 +28,7 @@ pub(crate) fn write_pieces<D: Disk, V: VolumeFormat>(
     ensures time_most { OnErr result (D.moment disk.new ≤ D.moment disk.old + length pieces.now) }
     ensures later { D.faults disk.old ≤ D.faults disk.new }
     ensures cause { IfErr result (λ fault. HasCause (D.faults disk.old) (D.faults disk.new) fault) }
+    ensures memory { IfErr result (λ fault. IsTrue D.takes_no_memory → fault ≡ DiskFault.Failed) }
 {
     for piece in pieces {
         if let Err(fault) = disk.write(piece.at, piece.bytes.as_slice()) {
@@ -47,6 +48,7 @@ fn settle<D: Disk>(disk: &mut D) -> Result<(), DiskFault>
     ensures time_failed { OnErr result (D.moment disk.new ≡ one_more (D.moment disk.old)) }
     ensures later { D.faults disk.old ≤ D.faults disk.new }
     ensures cause { IfErr result (λ fault. HasCause (D.faults disk.old) (D.faults disk.new) fault) }
+    ensures memory { IfErr result (λ fault. IsTrue D.takes_no_memory → fault ≡ DiskFault.Failed) }
 {
     disk.sync()
 }
@@ -64,6 +66,7 @@ pub(crate) fn sync_blocks<D: Disk, V: VolumeFormat>(disk: &mut D) -> Result<(), 
     ensures time_failed { OnErr result (D.moment disk.new ≡ one_more (D.moment disk.old)) }
     ensures later { D.faults disk.old ≤ D.faults disk.new }
     ensures cause { IfErr result (λ fault. HasCause (D.faults disk.old) (D.faults disk.new) fault) }
+    ensures memory { IfErr result (λ fault. IsTrue D.takes_no_memory → fault ≡ DiskFault.Failed) }
 {
     if let Err(fault) = settle(disk) {
         return Err(fault);
@@ -89,6 +92,7 @@ pub(crate) fn write_header<D: Disk, V: VolumeFormat>(
     ensures time_failed { OnErr result (D.moment disk.new ≡ one_more (D.moment disk.old)) }
     ensures later { D.faults disk.old ≤ D.faults disk.new }
     ensures cause { IfErr result (λ fault. HasCause (D.faults disk.old) (D.faults disk.new) fault) }
+    ensures memory { IfErr result (λ fault. IsTrue D.takes_no_memory → fault ≡ DiskFault.Failed) }
 {
     if let Err(fault) = disk.write(place, header) {
         return Err(fault);
@@ -109,6 +113,7 @@ pub(crate) fn sync_header<D: Disk, V: VolumeFormat>(disk: &mut D) -> Result<(), 
     ensures time_failed { OnErr result (D.moment disk.new ≡ one_more (D.moment disk.old)) }
     ensures later { D.faults disk.old ≤ D.faults disk.new }
     ensures cause { IfErr result (λ fault. HasCause (D.faults disk.old) (D.faults disk.new) fault) }
+    ensures memory { IfErr result (λ fault. IsTrue D.takes_no_memory → fault ≡ DiskFault.Failed) }
 {
     if let Err(fault) = settle(disk) {
         return Err(fault);

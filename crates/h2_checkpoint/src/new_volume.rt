@@ -14,7 +14,10 @@ use h2_disk::{Disk, DiskFault};
 /// Makes a volume where there is none, by one whole flush.
 ///
 /// Where the pieces and the header are those of a first checkpoint, a power cut at any moment leaves no
-/// header, or the planned volume. At Ok the volume stands and is durable. A fault is the disk's own.
+/// header, or the planned volume. At Ok the volume stands and is durable. With n pieces the header's
+/// write begins at the moment n + 3 after the call's start, or the last moment, and a cut before leaves no
+/// header. A call that is Ok ends at n + 5, and one that fails at n + 4 or before. A fault is the disk's
+/// own, and memory is wanting only over a disk that takes some.
 pub fn make<D: Disk, V: VolumeFormat>(
     disk: &mut D,
     pieces: &[Piece],
@@ -37,6 +40,7 @@ pub fn make<D: Disk, V: VolumeFormat>(
     ensures time_most { OnErr result (D.moment disk.new ≤ D.moment disk.old + length pieces.now + 4) }
     ensures later { D.faults disk.old ≤ D.faults disk.new }
     ensures cause { IfErr result (λ fault. HasCause (D.faults disk.old) (D.faults disk.new) fault) }
+    ensures memory { IfErr result (λ fault. IsTrue D.takes_no_memory → fault ≡ DiskFault.Failed) }
 {
     if let Err(fault) = drive::<D, V>(disk, pieces, place, header) {
         return Err(fault);

@@ -14,7 +14,10 @@ use h2_disk::{Disk, DiskFault};
 /// to its place, and makes it durable.
 ///
 /// Where the pieces and the header are those of a frozen flush, the checkpoint is then completed, and
-/// a fault sets the flush back to the start of its queue. A fault is the disk's own.
+/// a fault sets the flush back to the start of its queue. With n pieces the header's write begins at the
+/// moment n + 3 after the call's start, and its sync is done at n + 5. A fault up to n + 1 comes before
+/// that write. A later one, up to n + 4, leaves the header under way since its write began, at n + 3 or
+/// the last moment. A fault is the disk's own, and memory is wanting only over a disk that takes some.
 pub fn drive<D: Disk, V: VolumeFormat>(
     disk: &mut D,
     pieces: &[Piece],
@@ -37,6 +40,7 @@ pub fn drive<D: Disk, V: VolumeFormat>(
     ensures time_most { OnErr result (D.moment disk.new ≤ D.moment disk.old + length pieces.now + 4) }
     ensures later { D.faults disk.old ≤ D.faults disk.new }
     ensures cause { IfErr result (λ fault. HasCause (D.faults disk.old) (D.faults disk.new) fault) }
+    ensures memory { IfErr result (λ fault. IsTrue D.takes_no_memory → fault ≡ DiskFault.Failed) }
 {
     if let Err(fault) = write_pieces::<D, V>(disk, pieces) {
         return Err(fault);
