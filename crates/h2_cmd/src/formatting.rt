@@ -41,6 +41,7 @@ fn read_slot<D: Disk>(
     ensures time { D.moment disk.new ≡ D.moment disk.old }
     ensures later { D.faults disk.old ≤ D.faults disk.new }
     ensures cause { IfErr result (λ fault. HasCause (D.faults disk.old) (D.faults disk.new) fault) }
+    ensures memory { IfErr result (λ fault. IsTrue D.takes_no_memory → fault ≡ DiskFault.Failed) }
 {
     if let Err(fault) = disk.read(header_place(slot), block) {
         return Err(fault);
@@ -56,6 +57,7 @@ fn read_slots<D: Disk>(disk: &mut D, block: &mut [u8]) -> Result<[Option<Header>
     ensures time { D.moment disk.new ≡ D.moment disk.old }
     ensures later { D.faults disk.old ≤ D.faults disk.new }
     ensures cause { IfErr result (λ fault. HasCause (D.faults disk.old) (D.faults disk.new) fault) }
+    ensures memory { IfErr result (λ fault. IsTrue D.takes_no_memory → fault ≡ DiskFault.Failed) }
 {
     let mut headers = [None; SLOTS];
     for slot in 0..4u32 {
@@ -81,7 +83,7 @@ fn newest_number(headers: &[Option<Header>; SLOTS]) -> Option<u64>
 }
 
 /// The number of the newest header of an image, or None where no slot has a header. The block has the
-/// bytes of a header.
+/// bytes of a header. It takes no memory, so memory is wanting only over a disk that takes some.
 pub fn find_newest<D: Disk>(disk: &mut D, block: &mut [u8]) -> Result<Option<u64>, DiskFault>
     requires size { length block.old ≡ 65536 }
     ensures number { IfOk result (λ found. IsTrue D.tells → IsNewestNumber (D.image disk.old) found) }
@@ -89,6 +91,7 @@ pub fn find_newest<D: Disk>(disk: &mut D, block: &mut [u8]) -> Result<Option<u64
     ensures time { D.moment disk.new ≡ D.moment disk.old }
     ensures later { D.faults disk.old ≤ D.faults disk.new }
     ensures cause { IfErr result (λ fault. HasCause (D.faults disk.old) (D.faults disk.new) fault) }
+    ensures memory { IfErr result (λ fault. IsTrue D.takes_no_memory → fault ≡ DiskFault.Failed) }
 {
     match read_slots(disk, block) {
         Ok(headers) => Ok(newest_number(&headers)),
