@@ -6,20 +6,14 @@ use Rattle.std.proofs.lemmas.Option.{none-some, same_Some}
 use Rattle.std.proofs.lemmas.Bool.{cases_Bool}
 use Rattle.std.proofs.lemmas.List.Elements.{All-contains}
 use Rattle.std.specs.declared.cmp.Ordering.{Ordering}
-use Rattle.std.specs.declared.cmp.Ordering.TheVariants.{Less, Equal, Greater}
-use Rattle.std.specs.Ordering.{eq_by_cmp, is_eq, nat_cmp}
-use Rattle.std.specs.Cmp.{IsTotalOrder, eq_by_cmp_equiv}
+use Rattle.std.specs.Ordering.{eq_by_cmp, nat_cmp}
+use Rattle.std.specs.Cmp.{IsTotalOrder, eq_by_cmp_equiv, Equal-is}
 use Rattle.std.specs.Cmp.Lexicographic.{slice_cmp, nat_list_cmp_total}
 use Rattle.std.specs.FinMap.{IsAntisymmetric, nat_cmp-IsAntisymmetric, slice_cmp-IsAntisymmetric, find, get, from_entries, get-from_entries}
 use Rattle.h2_ref.specs.declared.reference.Ref.{Ref}
 use Rattle.h2_inode.specs.Access.{Access, OneByOne}
 use Rattle.h2_inode.specs.Directory.{Entries, IsEntry, IsDirectory}
 use Rattle.h2_inode.specs.ListLaws.{behind, all_none, all_cons}
-
-tied : (r : Ordering) → is_eq r ≡ true → r ≡ Equal
-tied Less e = absurd (cc)
-tied Equal e = refl
-tied Greater e = absurd (cc)
 
 partner_at : {X Y : Type 0} (P : X → Y → Type 0) (xs : List X) (ys : List Y) → OneByOne P xs ys → (x : X) (k : ℕ) → k < length xs → slice_index_or xs k x ≡ x → (y : Y) × Contains ys y × P x y
 partner_at P [] [] p x k lt e = absurd (omega (arith, lt))
@@ -30,7 +24,7 @@ partner_at P (z ∷ xs) (y ∷ ys) p x (suc k) lt e = let h = partner_at P xs ys
 
 -- different keys are no equal ones
 apart : {K : Type 0} (R : K → K → Ordering) → IsAntisymmetric R → (q k : K) → (k ≢ q) → eq_by_cmp R q k ≡ false
-apart R same q k ne = elim (cases_Bool (eq_by_cmp R q k)) [ inl tie ↦ absurd (ne (sym (same q k (tied (R q k) tie)))) | inr e ↦ e ]
+apart R same q k ne = elim (cases_Bool (eq_by_cmp R q k)) [ inl tie ↦ absurd (ne (sym (same q k ((Equal-is (R q k)).0 tie)))) | inr e ↦ e ]
 
 module _ {K V : Type 0} {R : K → K → Ordering} (o : IsTotalOrder R) (same : IsAntisymmetric R) where
   -- where the keys differ, each entry is found
@@ -45,7 +39,7 @@ module _ {K V : Type 0} {R : K → K → Ordering} (o : IsTotalOrder R) (same : 
   partner_first : (P : X → K × V → Type 0) (r : X) (l : List X) (y : K × V) (es : List (K × V)) (q : K) (v : V) → P r y
       → (find R q es ≡ Some v → (s : X) × Contains l s × P s (q, v)) → (b : Bool) → eq_by_cmp R q y.0 ≡ b → cond b (Some y.1) (find R q es) ≡ Some v → (s : X) × Contains (r ∷ l) s × P s (q, v)
   partner_first P r l y es q v here later true h e =
-      let key : q ≡ y.0 = same q y.0 (tied (R q y.0) h) in
+      let key : q ≡ y.0 = same q y.0 ((Equal-is (R q y.0)).0 h) in
       let value : y.1 ≡ v = same_Some y.1 v e in
       let pair : y ≡ (q, v) = λ i. (sym key i, value i) in
       (r, (0, omega arith, refl), subst (λ w. P r w) pair here)

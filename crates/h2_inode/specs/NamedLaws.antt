@@ -11,7 +11,7 @@ use Rattle.h2_inode.specs.declared.inode.Body.{Body}
 use Rattle.h2_inode.specs.declared.inode.Body.TheVariants.{Refs, Bytes}
 use Rattle.h2_inode.specs.declared.inode.Inode.{Inode}
 use Rattle.h2_inode.specs.Nodes.{Fields, fields_of, bytes_of, set_of, HasInode, IsNamed, IsUnloaded, Brings, Replaces}
-use Rattle.h2_inode.specs.NodeLaws.{named_stays, named_back, inode_held}
+use Rattle.h2_inode.specs.NodeLaws.{named_stays, named_back, inode_held, replaced_place}
 use Rattle.h2_inode.specs.Loaded.{Tree, at_root, IsTold, IsLoaded, NamesInode, View, IsSameTree, HoldsOn, HoldsBut, TellsOn}
 
 -- A root has one inode.
@@ -120,10 +120,7 @@ module _ (u v : View) (at : ℕ) (s : RefSet) (h : Replaces u.forest v.forest at
 
   -- all that stands before and after stays in its place
   pub replaces_place : (m : ℕ) → u.forest.stands m ≡ true → v.forest.stands m ≡ true → InPlace u.forest v.forest m
-  replaces_place m stood stands = elim (cases_eq m at) as (λ _. InPlace u.forest v.forest m) [
-    | inl e ↦ subst (λ n. InPlace u.forest v.forest n) (sym e) h.place
-    | inr ne ↦ (replaces_kept m stood stands ne).place
-  ]
+  replaces_place = replaced_place u.forest v.forest at s h
 
   module _ (holds : HoldsBut at u v) (told : TellsOn u v) where
     -- the inodes of other roots stay

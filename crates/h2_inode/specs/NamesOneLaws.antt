@@ -6,7 +6,7 @@ use Rattle.h2_set.specs.RefSet.{RefSet}
 use Rattle.h2_set.specs.declared.set.Split.{Split}
 use Rattle.h2_set.specs.Forest.{Forest, IsSound, InPlace, Walks, ReadiesOnly, Unchanged, Alters, Stores, Makes}
 use Rattle.h2_inode.specs.Nodes.{IsNamed, NamesOne, IsUnloaded, Brings, Seeks, Plants, Replaces}
-use Rattle.h2_inode.specs.NodeLaws.{named_back}
+use Rattle.h2_inode.specs.NodeLaws.{named_back, replaced_place}
 use Rattle.h2_inode.specs.NamedLaws.{brings_bare}
 use Rattle.h2_inode.specs.Loaded.{View}
 
@@ -65,13 +65,7 @@ stores_one f g at s names h = rootless_one f g names h.sound (λ m stands root. 
     ]
 
 pub replaces_one : (f g : Forest) (at : ℕ) (s : RefSet) → NamesOne f → Replaces f g at s → NamesOne g
-replaces_one f g at s names h = rootless_one f g names h.sound (λ m stands root. h.none_new m stands) place
-  where
-    place : (m : ℕ) → f.stands m ≡ true → g.stands m ≡ true → InPlace f g m
-    place m stood stands = elim (cases_eq m at) as (λ _. InPlace f g m) [
-      | inl e ↦ subst (λ n. InPlace f g n) (sym e) h.place
-      | inr ne ↦ (h.others m stood ne (λ goes. let clash : true ≡ false = sym stands ∙ h.gone m stood (inl goes) in absurd (cc)) (λ goes. let clash : true ≡ false = sym stands ∙ h.gone m stood (inr goes) in absurd (cc))).place
-    ]
+replaces_one f g at s names h = rootless_one f g names h.sound (λ m stands root. h.none_new m stands) (replaced_place f g at s h)
 
 -- the node that a split makes is no root
 pub makes_one : (f g : Forest) (at c : ℕ) (set : RefSet) (split : Split) → IsSound f → f.stands at ≡ true → NamesOne f → Makes f g at c set split → NamesOne g

@@ -1,7 +1,7 @@
 -- What callers over inodes may rely on: names and trees stay where nodes stay, and an inode's leaves are those of its set.
 use Rattle.std.specs.Prelude.{◌≡◌, ◌⊎◌, ◌↔◌, ◌<◌, ◌≤◌, ◌+◌, ◌^◌, ℕ, true, false, List, [], Option, refl}
 use Rattle.std.proofs.Common.{ap, sym, ◌∙◌, subst, inl, inr}
-use Rattle.std.proofs.lemmas.Bool.{cases_Bool}
+use Rattle.std.proofs.lemmas.Bool.{cases_Bool, cases_eq}
 use Rattle.h2_ref.specs.declared.reference.Ref.{Ref}
 use Rattle.h2_set.specs.Ranges.{Rising, is_indirect}
 use Rattle.h2_set.specs.RefSet.{RefSet}
@@ -89,6 +89,13 @@ stores_leaves f g at s top sound h other none = tree_leaves f g top sound (λ n 
 
 pub replaces_leaves : (f g : Forest) (at : ℕ) (s : RefSet) (top : ℕ) → IsSound f → Replaces f g at s → (top ≡ f.root at → ⊥) → NoneGoes f at s top → (m : ℕ) → f.stands m ≡ true → f.root m ≡ top → KeepsLeaves f g m
 replaces_leaves f g at s top sound h other none = tree_leaves f g top sound (λ n stands root. h.others n stands (λ e. other (sym root ∙ ap f.root e)) (λ goes. other (sym root ∙ goes.tree)) (λ goes. none n stands root goes))
+
+-- where the inode of a root is replaced, what stands before and after stays in its place
+pub replaced_place : (f g : Forest) (at : ℕ) (s : RefSet) → Replaces f g at s → (m : ℕ) → f.stands m ≡ true → g.stands m ≡ true → InPlace f g m
+replaced_place f g at s h m stood stands = elim (cases_eq m at) as (λ _. InPlace f g m) [
+  | inl e ↦ subst (λ n. InPlace f g n) (sym e) h.place
+  | inr ne ↦ (h.others m stood ne (λ goes. let clash : true ≡ false = sym stands ∙ h.gone m stood (inl goes) in absurd (cc)) (λ goes. let clash : true ≡ false = sym stands ∙ h.gone m stood (inr goes) in absurd (cc))).place
+]
 
 -- the references of a body
 set_refs : (body : Body) → (let s = set_of body in s.refs) ≡ refs_of_body body

@@ -1,22 +1,16 @@
--- What holds of answers, and what is kept beside sets.
-use Rattle.std.proofs.Common.{arith, ◌≡◌, ℕ, ◌∙◌, sym, subst, refl, true, Result, Ok, Err}
-use Rattle.std.specs.Prelude.{IfOk, IfErr, OnErr}
+-- What holds of answers.
+use Rattle.std.proofs.Common.{arith, ◌≡◌, sym, subst, Result, Ok, Err}
+use Rattle.std.specs.Prelude.{IfOk, IfErr}
 use Rattle.std.specs.Result.{IsErrAnd}
 use Rattle.h2_ref.specs.declared.faults.Trouble.{Trouble}
 use Rattle.h2_ref.specs.declared.faults.Trouble.TheVariants.{Failed, Bad, NoMemory}
-use Rattle.h2_set.specs.Forest.{Forest, HasCause, KeepsBeside}
+use Rattle.h2_set.specs.Forest.{Forest, HasCause}
 use Rattle.h2_inode.specs.Nodes.{Visits}
 
 -- what holds of an error holds where it is handed on
 pub carried_err : {T E : Type 0} (P : E → Type 0) (r : Result T E) (e : E) → IsErrAnd r (λ x. x ≡ e) → P e → IfErr r P
 carried_err P (Ok v) e same p = tt
 carried_err P (Err x) e same p = subst P (sym same) p
-
-pub beside_same : {B : Type 0} (f : Forest) (a : ℕ → B) → KeepsBeside f f a a
-beside_same f a = record { same = λ m st st'. refl }
-
-pub beside_on : {B : Type 0} (f g h : Forest) (a b c : ℕ → B) → ((m : ℕ) → f.stands m ≡ true → g.stands m ≡ true) → KeepsBeside f g a b → KeepsBeside g h b c → KeepsBeside f h a c
-beside_on f g h a b c still first second = record { same = λ m st st'. let there = still m st in second.same m there st' ∙ first.same m st there }
 
 -- answers with more
 pub on_ok : {T E : Type 0} (P Q : T → Type 0) (r : Result T E) → ((v : T) → P v → Q v) → IfOk r P → IfOk r Q
@@ -35,8 +29,3 @@ cause_after f h g (Bad place why) visits cause =
     let rose = cause.0 in
     (grind arith, cause.1)
 cause_after f h g NoMemory visits cause = tt
-
--- what holds whatever was answered
-pub always_err : {T E P : Type 0} (r : Result T E) → P → OnErr r P
-always_err (Ok v) p = tt
-always_err (Err e) p = p

@@ -1,13 +1,13 @@
 -- Trees other than the super-root's, over changes of that one.
 use Rattle.std.proofs.Common.{◌≡◌, ℕ, true, false, refl, sym, ◌∙◌, ap, subst, inl, inr, suc, List, [], ◌∷◌, Option, Some, None, slice_get}
 use Rattle.std.specs.Prelude.{◌⊎◌}
-use Rattle.std.proofs.lemmas.Bool.{cases_Bool}
 use Rattle.h2_ref.specs.declared.reference.Ref.{Ref}
 use Rattle.h2_set.specs.RefSet.{RefSet}
 use Rattle.h2_set.specs.Forest.{Forest, refs, loaded, IsSound, AllRenewed, Alike, InPlace, Stays, Renews, KeepsLeaves, KeepsBeside, Reaches, OnWay, inside, across}
 use Rattle.h2_set.specs.StayLaws.{Alike-refl, InPlace-trans, Same-Stays, leaves_stay, leaves_stay_all, stands_below}
 use Rattle.h2_set.specs.PathLaws.{reaches_stay}
-use Rattle.h2_tree.specs.Changes.{Descends, arrived, onward, ChangesOnly, TakesIn, placed, parted, GoesAway, below_it, named, Removes}
+use Rattle.h2_tree.specs.Changes.{Descends, arrived, onward, ChangesOnly, GoesAway, below_it, named, Removes}
+use Rattle.h2_tree.specs.RootLaws.{inserted_roots, removed_roots, removed_place}
 use Rattle.h2_inode.specs.declared.inode.Inode.{Inode}
 use Rattle.h2_inode.specs.Nodes.{Fields, Told, held_by, HasInode, IsNamed}
 use Rattle.h2_inode.specs.Loaded.{view_of}
@@ -166,9 +166,8 @@ removes_others fields f g old new was now top leaf sound stands_top root_top bes
     let second = changed_tree h g n top c (GoesAway h n goes.place leaf) walks.sound rem.sound goes.only at bare first.place.stands (first.place.root ∙ root) other here in
     let tree = tree_trans f h g c first second in
     let before = λ (key d : ℕ) (is : IsNamed g c key d).
-    let there = goes.only.still d (goes.none_new d is.stands) (λ away. let clash : true ≡ false = sym is.stands ∙ goes.gone d (goes.none_new d is.stands) away in absurd (cc)) in
-    let stood = walks.roots d (goes.none_new d is.stands) (sym there.root ∙ is.root) in
-    named_back f g c key d tree.place stood (InPlace-trans f h g d (walks.stays d stood).place there) is in
+    let stood = removed_roots f g top leaf rem d is.stands is.root in
+    named_back f g c key d tree.place stood (removed_place f g top leaf rem d stood is.stands) is in
     let below = λ (key d : ℕ) (is : IsNamed f c key d).
     (rem.above d is.stands (named_apart f top c key d sound none root_top is) (λ e. named_left f top leaf.key c key d other left is (subst (λ t. f.belongs d t leaf.key ≡ true) root_top e))).place in
     record {
@@ -187,27 +186,6 @@ put_before : (f g : Forest) (top own c key d : ℕ) → {new : ℕ} → ((t k : 
 put_before f g top own c key d only came other is = elim (came d is.stands) as (λ _. f.stands d ≡ true) [
   | inl e ↦ absurd (other (only c key (subst (λ m. IsNamed g c key m) e is)).0)
   | inr stood ↦ stood
-]
-
--- no root came where the leaf was taken in: a node that a split makes stands below another
-pub taken_before : (f g : Forest) (n : ℕ) (leaf : Ref) (blocks : ℕ) → IsSound f → IsSound g → f.stands n ≡ true → ChangesOnly f g n (λ m. ⊥) → TakesIn f g n leaf blocks None → (d : ℕ) → g.stands d ≡ true → g.root d ≡ d → f.stands d ≡ true
-taken_before f g n leaf blocks sound after stands only (placed it) d st root = it.none_new d st
-taken_before f g n leaf blocks sound after stands only (parted it) d st root = elim (it.none_new d st) as (λ _. f.stands d ≡ true) [
-  | inr stood ↦ stood
-  | inl e ↦
-      let place = only.still n stands (λ z. z) in
-      let child = (after.node n place.stands).child it.key it.node it.link in
-      let own : g.root it.node ≡ it.node = subst (λ m. g.root m ≡ m) e root in
-      let is : f.root n ≡ it.node = sym place.root ∙ sym child.root ∙ own in
-      let clash : true ≡ false = sym (subst (λ m. f.stands m ≡ true) is (sound.top n stands).0) ∙ it.fresh in
-      absurd (cc)
-]
-
--- no root came by loads in the tree of a root that stood
-pub loaded_before : (f g : Forest) (top d : ℕ) → ((m : ℕ) → f.stands m ≡ false → g.stands m ≡ true → g.root m ≡ top) → f.stands top ≡ true → g.stands d ≡ true → g.root d ≡ d → f.stands d ≡ true
-loaded_before f g top d tree stands st root = elim (cases_Bool (f.stands d)) as (λ _. f.stands d ≡ true) [
-  | inl stood ↦ stood
-  | inr new ↦ subst (λ m. f.stands m ≡ true) (sym (tree d new st) ∙ root) stands
 ]
 
 -- other trees stay
@@ -233,11 +211,9 @@ founds_others fields f g old new was now top leaf inode sound stands_top root_to
     let before = λ (key d : ℕ) (is : IsNamed g c key d).
     let in_put = put_before it.put g top leaf.key c key d it.plants.only it.plants.brings.new other is in
     let in_put_root = sym (it.plants.brings.same d in_put).place.root ∙ is.root in
-    let in_b = taken_before b it.put n leaf goes.blocks prep.sound it.inserts.sound goes.stands goes.only goes.change d in_put in_put_root in
-    let in_b_root = sym (goes.only.still d in_b (λ z. z)).root ∙ in_put_root in
-    let in_a = loaded_before a b top d (λ m new st. goes.touched.tree m new st ∙ top_a.root ∙ root_top) top_a.stands in_b in_b_root in
+    let in_a = inserted_roots a it.put top leaf None it.readies.sound top_a.stands it.inserts d in_put in_put_root in
     let stood = it.readies.none_new d in_a in
-    let place_d = InPlace-trans f it.put g d (InPlace-trans f b it.put d (InPlace-trans f a b d (it.readies.same d stood).place (prep.stays d in_a).place) (goes.only.still d in_b (λ z. z))) (it.plants.brings.same d in_put).place in
+    let place_d = InPlace-trans f it.put g d (InPlace-trans f a it.put d (it.readies.same d stood).place (it.inserts.still d in_a)) (it.plants.brings.same d in_put).place in
     named_back f g c key d tree.place stood place_d is in
     record {
       place = tree.place;

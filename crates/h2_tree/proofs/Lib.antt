@@ -1,4 +1,3 @@
-mod Answering
 mod Climb
 mod Collect
 mod Going

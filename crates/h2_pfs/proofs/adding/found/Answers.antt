@@ -7,7 +7,7 @@ use Rattle.h2_inode.specs.Loaded.{StandsAlike, view_of}
 use Rattle.h2_inode.specs.AlikeLaws.{unchanged_alike}
 use Rattle.h2_pfs.specs.Meets.{LoadsPfss}
 use Rattle.h2_pfs.proofs.Loading.{none_loads}
-use Rattle.h2_pfs.proofs.Answering.{always_err, beside_on}
+use Rattle.h2_tree.specs.AnswerLaws.{always_err, beside_on}
 use Rattle.h2_pfs.proofs.Planted.{ready_path, ready_takes, none_before, new_unloaded, founds}
 use Rattle.h2_pfs.proofs.adding.found.Goals as goal
 

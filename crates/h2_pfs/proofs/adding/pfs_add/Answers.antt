@@ -11,7 +11,8 @@ use Rattle.h2_inode.specs.LoadedLaws.{alike_trans}
 use Rattle.h2_inode.specs.AlikeLaws.{walks_alike}
 use Rattle.h2_pfs.proofs.Loading.{tree_loads, loads_trans}
 use Rattle.h2_pfs.proofs.Apart.{founds_others}
-use Rattle.h2_pfs.proofs.Answering.{always_err, carried_err, beside_on}
+use Rattle.h2_tree.specs.AnswerLaws.{always_err, beside_on}
+use Rattle.h2_pfs.proofs.Answering.{carried_err}
 use Rattle.h2_pfs.proofs.Scanned.{super_stays}
 use Rattle.h2_pfs.proofs.Kept.{found_as}
 use Rattle.h2_pfs.proofs.Gone.{held_beside}

@@ -7,7 +7,8 @@ use Rattle.h2_pfs.specs.declared.fault.PfsFault.TheVariants.{Trouble as Troubled
 use Rattle.h2_pfs.specs.Listing.{HasPfss}
 use Rattle.h2_pfs.specs.Faults.{IsFaultIn}
 use Rattle.h2_pfs.proofs.Apart.{all_goes, removes_others}
-use Rattle.h2_pfs.proofs.Answering.{carried_err, beside_on}
+use Rattle.h2_tree.specs.AnswerLaws.{beside_on}
+use Rattle.h2_pfs.proofs.Answering.{carried_err}
 use Rattle.h2_pfs.proofs.Kept.{kept_id, found_as}
 use Rattle.h2_pfs.proofs.Found.{found_met, found_path, found_free}
 use Rattle.h2_pfs.proofs.Gone.{Gone, gone, dropped, removes_pfs}

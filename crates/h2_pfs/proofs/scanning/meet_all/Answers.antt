@@ -11,7 +11,8 @@ use Rattle.h2_inode.specs.LoadedLaws.{alike_trans}
 use Rattle.h2_pfs.specs.declared.met.Met.{Met}
 use Rattle.h2_pfs.specs.Mets.{met_of}
 use Rattle.h2_pfs.specs.Meets.{MetBy, AreKnown, InodeMissing}
-use Rattle.h2_pfs.proofs.Answering.{carried_err, beside_same, beside_on}
+use Rattle.h2_tree.specs.AnswerLaws.{beside_same, beside_on}
+use Rattle.h2_pfs.proofs.Answering.{carried_err}
 use Rattle.h2_pfs.proofs.Members.{whole_front, at_place, map_more}
 use Rattle.h2_pfs.proofs.Growing.{front_met, named_no_more}
 use Rattle.h2_pfs.proofs.Loading.{none_loads, leaves_stand, loads_trans}

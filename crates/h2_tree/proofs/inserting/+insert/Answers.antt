@@ -7,7 +7,7 @@ use Rattle.h2_tree.proofs.Edit.{same_leaf}
 use Rattle.h2_tree.proofs.Climb.{reaches_loaded}
 use Rattle.h2_tree.proofs.Touching.{in_path, err_touched}
 use Rattle.h2_tree.proofs.Descend.{child_stands, child_fewer, child_takes, child_room, ok_below, old_below, walks_below, touched_below, unloaded_below}
-use Rattle.h2_tree.proofs.Answering.{always_err, beside_on}
+use Rattle.h2_tree.specs.AnswerLaws.{always_err, beside_on}
 use Rattle.h2_tree.proofs.Paths.{inserts_paths, inserts_path, ok_paths, ok_path}
 use Rattle.h2_tree.proofs.Known.{child_good, good_above, carried_good, result_good}
 use Rattle.h2_tree.proofs.inserting.+insert.Goals as goal

@@ -1,7 +1,7 @@
 use Rattle.std.proofs.Common.{◌≡◌, true, false, sym, ◌∙◌}
 use Rattle.h2_set.specs.StayLaws.{Readies-unchanged, Unchanged-walks}
 use Rattle.h2_tree.proofs.Readied.{takes_after, inserts_after, none_after, full_after, not_full}
-use Rattle.h2_tree.proofs.Answering.{always_err}
+use Rattle.h2_tree.specs.AnswerLaws.{always_err}
 use Rattle.h2_tree.proofs.Touching.{none_in}
 use Rattle.h2_tree.proofs.inserting.add.Goals as goal
 

@@ -2,7 +2,7 @@ use Rattle.std.proofs.Common.{ap}
 use Rattle.h2_set.specs.RefSet.{RefSet}
 use Rattle.h2_tree.proofs.Store.{alters_still, enough_room}
 use Rattle.h2_tree.proofs.Parted.{parted, leaf_small, copy_apart, copy_full, copy_aligned, copy_class, made_from, part_space}
-use Rattle.h2_tree.proofs.Answering.{beside_on}
+use Rattle.h2_tree.specs.AnswerLaws.{beside_on}
 use Rattle.h2_tree.proofs.inserting.part.Goals as goal
 
 pub alter-requires-clause-room : goal.alter-requires-clause-room

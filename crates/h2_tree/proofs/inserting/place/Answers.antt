@@ -2,7 +2,7 @@ use Rattle.std.proofs.Common.{arith, refl}
 use Rattle.h2_tree.proofs.Store.{storable, inserts, alters_still, enough_room}
 use Rattle.h2_tree.proofs.Edit.{apart_altered, room_altered, put_copy, places}
 use Rattle.h2_tree.proofs.Parted.{leaf_small}
-use Rattle.h2_tree.proofs.Answering.{beside_on}
+use Rattle.h2_tree.specs.AnswerLaws.{beside_on}
 use Rattle.h2_tree.proofs.inserting.place.Goals as goal
 
 pub alter-requires-clause-room : goal.alter-requires-clause-room

@@ -2,7 +2,7 @@ use Rattle.std.proofs.Common.{arith, refl}
 use Rattle.h2_set.specs.RenewLaws.{Alike-length}
 use Rattle.h2_tree.proofs.Store.{storable, inserts, alters_still, enough_room}
 use Rattle.h2_tree.proofs.Edit.{same_altered, old_copy, swap_copy, replaces}
-use Rattle.h2_tree.proofs.Answering.{beside_on}
+use Rattle.h2_tree.specs.AnswerLaws.{beside_on}
 use Rattle.h2_tree.proofs.inserting.replace.Goals as goal
 
 pub alter-requires-clause-room : goal.alter-requires-clause-room

@@ -12,7 +12,7 @@ use Rattle.h2_ref.specs.declared.faults.Trouble.TheVariants.{NoMemory}
 use Rattle.h2_tree.specs.Listing.{Adds}
 use Rattle.h2_tree.proofs.Climb.{next_node, next_root}
 use Rattle.h2_tree.proofs.Gathering.{adds_none, adds_more, adds_skipped, adds_taken, adds_entered}
-use Rattle.h2_tree.proofs.Answering.{beside_same, beside_on}
+use Rattle.h2_tree.specs.AnswerLaws.{beside_same, beside_on}
 use Rattle.h2_tree.proofs.Collect.{no_leaves, collected_more, leaf_step, child_step}
 use Rattle.h2_tree.proofs.Known.{child_good, good_above, good_before, no_memory_good, carried_good}
 use Rattle.h2_tree.proofs.listing.+collect.Goals as goal

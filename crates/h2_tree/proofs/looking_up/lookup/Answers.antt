@@ -6,7 +6,7 @@ use Rattle.h2_tree.proofs.Climb.{next_root, leads_start, leads_on, next_node, fo
 use Rattle.h2_tree.proofs.Touching.{In-refl, In-trans, in_path}
 use Rattle.h2_tree.proofs.Taking.{itself_under, under_refl}
 use Rattle.h2_tree.proofs.TakeBelow.{under_step, under_next}
-use Rattle.h2_tree.proofs.Answering.{always_err, beside_same, beside_on}
+use Rattle.h2_tree.specs.AnswerLaws.{always_err, beside_same, beside_on}
 use Rattle.h2_tree.proofs.Known.{child_known, child_good, carried_good}
 use Rattle.h2_tree.proofs.looking_up.lookup.Goals as goal
 

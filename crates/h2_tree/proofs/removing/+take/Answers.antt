@@ -5,7 +5,7 @@ use Rattle.h2_set.specs.Ranges.{is_indirect}
 use Rattle.h2_set.specs.Forest.{refs, nowhere, here}
 use Rattle.h2_set.specs.StayLaws.{Walks-trans}
 use Rattle.h2_set.specs.LeafLaws.{find_none, find_here, leaves_rising}
-use Rattle.h2_tree.proofs.Answering.{always_err, beside_on}
+use Rattle.h2_tree.specs.AnswerLaws.{always_err, beside_on}
 use Rattle.h2_tree.proofs.Climb.{next_root, reaches_loaded}
 use Rattle.h2_tree.proofs.Touching.{In-refl, In-trans, in_path}
 use Rattle.h2_tree.specs.Changes.{TakesOut, itself}

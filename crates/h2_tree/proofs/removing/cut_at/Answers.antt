@@ -1,7 +1,7 @@
 use Rattle.std.proofs.Common.{arith}
 use Rattle.h2_tree.proofs.Removal.{cut_within, storable_copy, removes_copy}
 use Rattle.h2_tree.proofs.Store.{alters_still}
-use Rattle.h2_tree.proofs.Answering.{beside_on}
+use Rattle.h2_tree.specs.AnswerLaws.{beside_on}
 use Rattle.h2_tree.proofs.removing.cut_at.Goals as goal
 
 pub alter-requires-clause-room : goal.alter-requires-clause-room

@@ -1,7 +1,7 @@
 use Rattle.std.proofs.Common.{inl, arith, sym, ◌∙◌, subst}
 use Rattle.h2_tree.specs.Changes.{TakesOut}
 use Rattle.h2_tree.specs.declared.removing.Taken.TheVariants.{Nothing, Out, Sole}
-use Rattle.h2_tree.proofs.Answering.{always_err, beside_on}
+use Rattle.h2_tree.specs.AnswerLaws.{always_err, beside_on}
 use Rattle.h2_tree.proofs.TakeBelow.{root_free, root_room, root_answer, root_removes}
 use Rattle.h2_tree.proofs.Leaving.{removes_paths, removes_path}
 use Rattle.h2_tree.proofs.removing.remove.Goals as goal
