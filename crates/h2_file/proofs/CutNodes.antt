@@ -108,6 +108,7 @@ nodes_here f k g at size count last last' walks touched stands keeps changes giv
   renewed = λ m st root. keeps.above m st root;
   exact = λ m i r st st' ne read lt off. keeps.exact m i r st st' ne read off;
   kept = λ m i c r st st' ne read lt link w. keeps.kept m i c r st st' ne read link w;
+  kept_leaf = λ m i c r st st' ne read lt leaf is w. keeps.kept_leaf m i c r st st' ne read leaf is w;
   dated = λ m i r q st st' ne read now. keeps.dated m i r q st st' ne read now;
   epoch = keeps.fixed.epoch;
   others = keeps.others;

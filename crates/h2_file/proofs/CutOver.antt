@@ -7,7 +7,7 @@ use Rattle.std.proofs.lemmas.List.{length-take}
 use Rattle.h2_ref.specs.declared.reference.Ref.{Ref}
 use Rattle.h2_set.specs.Ranges.{limit, holds, is_indirect, leads_on}
 use Rattle.h2_set.specs.RefSet.{RefSet}
-use Rattle.h2_set.specs.Forest.{Forest, refs, loaded, IsChild, IsSoundNode, IsSound, Alike, InPlace, Keeps, Renews, Walks, OnWay, inside, across, IsAbove, itself, by}
+use Rattle.h2_set.specs.Forest.{Forest, refs, loaded, IsChild, IsSoundNode, IsSound, Alike, InPlace, Keeps, Renews, Walks, OnWay, inside, across, IsAbove, IsRootOf, itself, by}
 use Rattle.h2_set.specs.StayLaws.{Alike-trans, InPlace-trans, Walks-trans}
 use Rattle.h2_set.specs.LeafLaws.{holds_inside, place_above}
 use Rattle.h2_set.specs.PathLaws.{in_holds}
@@ -15,6 +15,7 @@ use Rattle.h2_set.specs.ChangeLaws.{same_or_not}
 use Rattle.h2_set.specs.SplitLaws.{nested, below_high}
 use Rattle.h2_set.specs.RenewLaws.{LikeAt, like_at, Alike-sym, Renews-trans}
 use Rattle.h2_tree.specs.Changes.{LoadsIn, onward}
+use Rattle.h2_inode.specs.NodeLaws.{named_stays}
 use Rattle.h2_file.specs.Cutting.{GoesBehind, GoesPast, KeepsFront, CutsNodes}
 use Rattle.h2_file.proofs.Answering.{In-on}
 use Rattle.h2_file.proofs.Parts.{Alike-take, take_from, taken_at}
@@ -329,6 +330,34 @@ module _ (f h k g : Forest) (at count c size : ℕ) (last : Option Ref) (r : Ref
         keeps.kept m i d x there st' nm in_k link_k ((nodes.still d d_t d_k).writable w)
   ]
 
+  -- no root goes
+  root_still : (m : ℕ) → t.stands m ≡ true → t.root m ≡ m → InPlace t k m
+  root_still m st own = nodes.still m st (nodes.stand m st (λ past.
+      let half = (nodes.walks.sound.node m st).half own in
+      let slope = (nodes.walks.sound.node past.node past.stood).slope in
+      let goes = past.behind in
+      let fewer = goes.fewer in
+      omega (arith, half, slope, fewer)))
+
+  kept_leaf_at : (i d : ℕ) (x : Ref) → slice_get (refs t at) i ≡ Some x → i < length (refs g at) → is_indirect x ≡ false → IsRootOf t (t.root at) x.key d → t.writable d ≡ true → slice_get (refs g at) i ≡ Some x
+  kept_leaf_at i d x read_x lt leaf is w =
+      let l = front_size in
+      let in_k : slice_get (refs k at) i ≡ Some x = nodes.kept_leaf at i d x at_t.stands at_k.place.stands other_node read_x (omega (arith, lt, l)) leaf is w in
+      subst (λ rs. slice_get rs i ≡ Some x) (sym at_front) (taken_at count (refs k at) i x in_k (omega (arith, lt, l)))
+
+  kept_leaf_over : (m i d : ℕ) (x : Ref) → t.stands m ≡ true → g.stands m ≡ true → (m ≡ nodes.node → ⊥) → slice_get (refs t m) i ≡ Some x → i < length (refs g m) → is_indirect x ≡ false → IsRootOf t (t.root m) x.key d → t.writable d ≡ true → slice_get (refs g m) i ≡ Some x
+  kept_leaf_over m i d x st st' ne read_x lt leaf is w = elim (same_or_not m at) as (λ _. slice_get (refs g m) i ≡ Some x) [
+    | inl e ↦ subst (λ z. slice_get (refs t z) i ≡ Some x → i < length (refs g z) → IsRootOf t (t.root z) x.key d → slice_get (refs g z) i ≡ Some x) (sym e) (λ a b c'. kept_leaf_at i d x a b leaf c' w) read_x lt is
+    | inr nm ↦
+        let there = keeps.none_new m st' in
+        let n = keeps.lengths m there st' nm in
+        let in_k : slice_get (refs k m) i ≡ Some x = nodes.kept_leaf m i d x st there ne read_x (omega (arith, lt, n)) leaf is w in
+        let top = nodes.walks.sound.top m st in
+        let d_k = root_still d is.stands is.root in
+        let is_k : IsRootOf k (t.root m) x.key d = named_stays t k (t.root m) x.key d (root_still (t.root m) top.0 top.1) d_k is in
+        keeps.kept_leaf m i d x there st' nm in_k leaf (subst (λ z. IsRootOf k z x.key d) (sym (nodes.still m st there).root) is_k) (d_k.writable w)
+  ]
+
   dated_over : (m i : ℕ) (x y : Ref) → t.stands m ≡ true → g.stands m ≡ true → (m ≡ nodes.node → ⊥) → slice_get (refs t m) i ≡ Some x → slice_get (refs g m) i ≡ Some y → (y ≡ x) ⊎ (y.id ≡ t.epoch)
   dated_over m i x y st st' ne read_x read_y = elim (same_or_not m at) as (λ _. (y ≡ x) ⊎ (y.id ≡ t.epoch)) [
     | inl e ↦ subst (λ z. slice_get (refs t z) i ≡ Some x → slice_get (refs g z) i ≡ Some y → (y ≡ x) ⊎ (y.id ≡ t.epoch)) (sym e) (λ a b. nodes.dated at i x y at_t.stands at_k.place.stands other_node a ((take_from count (refs k at) i y (subst (λ rs. slice_get rs i ≡ Some y) at_front b)).1)) read_x read_y
@@ -368,6 +397,7 @@ module _ (f h k g : Forest) (at count c size : ℕ) (last : Option Ref) (r : Ref
     renewed = renewed_over;
     exact = exact_on;
     kept = kept_over;
+    kept_leaf = kept_leaf_over;
     dated = dated_over;
     epoch = keeps.fixed.epoch ∙ nodes.epoch;
     others = λ m st st' off.

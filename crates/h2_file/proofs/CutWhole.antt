@@ -125,6 +125,11 @@ nodes_sized f k g at size last nodes sizes = record {
       let same = set_on m was in
       let less : i < length (refs k m) = (let n = ap (λ (s : RefSet). length s.refs) same in omega (arith, lt, n)) in
       subst (λ (s : RefSet). slice_get s.refs i ≡ Some r) (sym same) (nodes.kept m i c r st was ne read less link w);
+  kept_leaf = λ m i c r st st' ne read lt leaf is w.
+      let was = sizes.none_new m st' in
+      let same = set_on m was in
+      let less : i < length (refs k m) = (let n = ap (λ (s : RefSet). length s.refs) same in omega (arith, lt, n)) in
+      subst (λ (s : RefSet). slice_get s.refs i ≡ Some r) (sym same) (nodes.kept_leaf m i c r st was ne read less leaf is w);
   dated = λ m i r q st st' ne read now. let was = sizes.none_new m st' in nodes.dated m i r q st was ne read (subst (λ (s : RefSet). slice_get s.refs i ≡ Some q) (set_on m was) now);
   epoch = sizes.epoch ∙ nodes.epoch;
   others = λ m st st' off.

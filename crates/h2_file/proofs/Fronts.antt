@@ -364,6 +364,7 @@ module _ (f h : Forest) (at count : ℕ) (last : Option Ref) (sound : IsSound f)
       ];
       gone = λ m st goes. stores.gone m (altered_place f h at alters m st).stands (inl (ahead m st goes));
       kept = λ m i c r st st' ne read link w. subst (λ (t : RefSet). slice_get t.refs i ≡ Some r) (sym (same_on m st st' ne).set) (alters.kept m i c r st read link w);
+      kept_leaf = λ m i c r st st' ne read leaf is w. subst (λ (t : RefSet). slice_get t.refs i ≡ Some r) (sym (same_on m st st' ne).set) (alters.kept_leaf m i c r st read leaf is w);
       dated = λ m i r q st st' ne read now. alters.dated m i r q st read (subst (λ (t : RefSet). slice_get t.refs i ≡ Some q) (same_on m st st' ne).set now);
       writable = stores.place.writable alters.writable;
       copies = stores.copies ∙ alters.copies;

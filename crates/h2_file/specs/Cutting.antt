@@ -4,7 +4,7 @@ use Rattle.h2_ref.specs.declared.reference.Ref.{Ref}
 use Rattle.h2_ref.specs.declared.reference.Kind.TheVariants.{Content}
 use Rattle.h2_set.specs.Ranges.{limit, holds, NoneHolds, IsAligned, is_indirect}
 use Rattle.h2_set.specs.SetBytes.{IsHeld}
-use Rattle.h2_set.specs.Forest.{Forest, refs, loaded, IsSound, Alike, HasLeaves, LeavesOf, Fixed, InPlace, Keeps, Renews, Reaches, Walks, OnWay, IsAbove}
+use Rattle.h2_set.specs.Forest.{Forest, refs, loaded, IsSound, Alike, HasLeaves, LeavesOf, Fixed, InPlace, Keeps, Renews, Reaches, Walks, OnWay, IsAbove, IsRootOf}
 use Rattle.h2_tree.specs.Changes.{Under, LoadsIn, WalksUnder, Descends}
 use Rattle.h2_file.specs.declared.cutting.Left.{Left}
 use Rattle.h2_file.specs.declared.cutting.Left.TheVariants.{Nothing, All, Something}
@@ -118,8 +118,10 @@ pub record KeepsFront (f g : Forest) (at count : ℕ) (last : Option Ref) : Type
   -- no node goes but below a reference that is lost, and each of those goes
   pub stand : (m : ℕ) → f.stands m ≡ true → (GoesBehind f at count m → ⊥) → g.stands m ≡ true
   pub gone : (m : ℕ) → f.stands m ≡ true → GoesBehind f at count m → g.stands m ≡ false
-  -- no reference of another node changes that names a node which was writable, and one that changes has the epoch as its id
+  -- no reference of another node changes that names a node which was writable, be it a leaf that names a root, and one
+  -- that changes has the epoch as its id
   pub kept : (m i c : ℕ) (r : Ref) → f.stands m ≡ true → g.stands m ≡ true → (m ≡ at → ⊥) → slice_get (refs f m) i ≡ Some r → f.link m r.key ≡ loaded c → f.writable c ≡ true → slice_get (refs g m) i ≡ Some r
+  pub kept_leaf : (m i c : ℕ) (r : Ref) → f.stands m ≡ true → g.stands m ≡ true → (m ≡ at → ⊥) → slice_get (refs f m) i ≡ Some r → is_indirect r ≡ false → IsRootOf f (f.root m) r.key c → f.writable c ≡ true → slice_get (refs g m) i ≡ Some r
   pub dated : (m i : ℕ) (r q : Ref) → f.stands m ≡ true → g.stands m ≡ true → (m ≡ at → ⊥) → slice_get (refs f m) i ≡ Some r → slice_get (refs g m) i ≡ Some q → (q ≡ r) ⊎ (q.id ≡ f.epoch)
   pub writable : g.writable at ≡ true
   pub copies : g.copies at ≡ 0
@@ -188,6 +190,8 @@ pub record CutsNodes (f g : Forest) (at size : ℕ) (last : Option Ref) : Type 0
   pub exact : (m i : ℕ) (r : Ref) → walked.stands m ≡ true → g.stands m ≡ true → (m ≡ node → ⊥) → slice_get (refs walked m) i ≡ Some r → i < length (refs g m) → (OnWay walked m r node → ⊥) → slice_get (refs g m) i ≡ Some r
   -- nor does one that names a node which was writable
   pub kept : (m i c : ℕ) (r : Ref) → walked.stands m ≡ true → g.stands m ≡ true → (m ≡ node → ⊥) → slice_get (refs walked m) i ≡ Some r → i < length (refs g m) → walked.link m r.key ≡ loaded c → walked.writable c ≡ true → slice_get (refs g m) i ≡ Some r
+  -- nor does a leaf that names a root which was writable
+  pub kept_leaf : (m i c : ℕ) (r : Ref) → walked.stands m ≡ true → g.stands m ≡ true → (m ≡ node → ⊥) → slice_get (refs walked m) i ≡ Some r → i < length (refs g m) → is_indirect r ≡ false → IsRootOf walked (walked.root m) r.key c → walked.writable c ≡ true → slice_get (refs g m) i ≡ Some r
   -- one that changes has the epoch as its id
   pub dated : (m i : ℕ) (r q : Ref) → walked.stands m ≡ true → g.stands m ≡ true → (m ≡ node → ⊥) → slice_get (refs walked m) i ≡ Some r → slice_get (refs g m) i ≡ Some q → (q ≡ r) ⊎ (q.id ≡ walked.epoch)
   pub epoch : g.epoch ≡ walked.epoch

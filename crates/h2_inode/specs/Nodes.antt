@@ -7,7 +7,7 @@ use Rattle.h2_ref.specs.declared.reference.Ref.{Ref}
 use Rattle.h2_set.specs.Ranges.{Rising, IsAligned, is_indirect}
 use Rattle.h2_set.specs.RefSet.{RefSet, IsRefSet}
 use Rattle.h2_set.specs.SetBytes.{IsHeld}
-use Rattle.h2_set.specs.Forest.{Forest, refs, told, Reaches, IsSound, InPlace, Same, Stays, GoesBelow, GoesWith, LeavesOf}
+use Rattle.h2_set.specs.Forest.{Forest, refs, told, Reaches, IsSound, InPlace, Same, Stays, GoesBelow, GoesWith, LeavesOf, IsRootOf}
 use Rattle.h2_inode.specs.declared.kind.InodeKind.{InodeKind}
 use Rattle.h2_inode.specs.declared.kind.InodeKind.TheVariants.{Directory, File, Pfs}
 use Rattle.h2_inode.specs.declared.inode.Body.{Body}
@@ -87,12 +87,9 @@ pub record IsInodeLeaf (f : Forest) (top : ℕ) (leaf : Ref) : Type 0 where
   pub kind : leaf.kind ≡ Inode_kind
   pub path : Reaches f leaf.key top (Some leaf)
 
--- Root c is that of the inode which the leaf with this key names in the tree of root top: it belongs to that leaf, to
--- all that the tree of top belongs to, and to nothing else.
-pub record IsNamed (f : Forest) (top key c : ℕ) : Type 0 where
-  pub stands : f.stands c ≡ true
-  pub root : f.root c ≡ c
-  pub belongs : (t k : ℕ) → (f.belongs c t k ≡ true) ↔ (((t ≡ top) × (k ≡ key)) ⊎ (f.belongs top t k ≡ true))
+-- the leaf with this key in the tree of root top names the inode whose root is c
+abbrev pub IsNamed : Forest → ℕ → ℕ → ℕ → Type 0
+IsNamed f top key c = IsRootOf f top key c
 
 -- each leaf names one root at most
 abbrev pub NamesOne : Forest → Type 0

@@ -209,6 +209,7 @@ module _ (xs : List Node) (at : ℕ) (x : Node) (read : slice_get xs at ≡ Some
     room = room_is;
     exact = λ m i r st got off. ap (λ (t : RefSet). slice_get t.refs i) (set_same m) ∙ got;
     kept = λ m i c r st got link w. ap (λ (t : RefSet). slice_get t.refs i) (set_same m) ∙ got;
+    kept_leaf = λ m i c r st got leaf is w. ap (λ (t : RefSet). slice_get t.refs i) (set_same m) ∙ got;
     dated = λ m i r q st got now. inl (one_of q r (sym now ∙ ap (λ (t : RefSet). slice_get t.refs i) (set_same m) ∙ got));
     still = λ all m st. set_same m;
     others = others;

@@ -115,6 +115,7 @@ module _ (xs : List Node) (spare epoch room failed bad : ℕ) (met : Option (ℕ
       room = omega (arith, no_copies);
       exact = λ m i r st got off. got;
       kept = λ m i c r st got link w. got;
+      kept_leaf = λ m i c r st got leaf is w. got;
       dated = λ m i r q st got now. inl (one_of q r (sym now ∙ got));
       still = λ all m st. refl;
       others = λ m st off. refl;

@@ -1,5 +1,5 @@
 -- A forest of sets: trees whose nodes have a set of references each, some of them loaded.
-use Rattle.std.specs.Prelude.{◌≡◌, ℕ, ◌+◌, ◌%◌, ◌^◌, ◌≤◌, ◌<◌, ◌⊎◌, cond, Bool, true, false, List, [], ◌∷◌, ◌++◌, length, Option, Some, None, slice_get, filter, not}
+use Rattle.std.specs.Prelude.{◌≡◌, ℕ, ◌+◌, ◌%◌, ◌^◌, ◌≤◌, ◌<◌, ◌⊎◌, ◌↔◌, cond, Bool, true, false, List, [], ◌∷◌, ◌++◌, length, Option, Some, None, slice_get, filter, not}
 use Rattle.h2_num.specs.Causes.{Rose}
 use Rattle.h2_ref.specs.declared.reference.Ref.{Ref}
 use Rattle.h2_ref.specs.declared.reference.Kind.{Kind}
@@ -297,6 +297,13 @@ pub data IsAbove (f : Forest) (m at : ℕ) : Type 0 where
   itself : m ≡ at → IsAbove f m at
   by : (i : ℕ) (r : Ref) → slice_get (refs f m) i ≡ Some r → OnWay f m r at → IsAbove f m at
 
+-- Root c is that of the inode which the leaf with this key names in the tree of root top: it belongs to that leaf, to
+-- all that the tree of top belongs to, and to nothing else.
+pub record IsRootOf (f : Forest) (top key c : ℕ) : Type 0 where
+  pub stands : f.stands c ≡ true
+  pub root : f.root c ≡ c
+  pub belongs : (t k : ℕ) → (f.belongs c t k ≡ true) ↔ (((t ≡ top) × (k ≡ key)) ⊎ (f.belongs top t k ≡ true))
+
 -- Node at and all above it are writable now, the root too, and what is above that. References on the way to it may
 -- name other blocks, those to nodes that weren't writable; nothing else has changed.
 pub record Alters (f g : Forest) (at : ℕ) : Type 0 where
@@ -312,6 +319,8 @@ pub record Alters (f g : Forest) (at : ℕ) : Type 0 where
   pub exact : (m i : ℕ) (r : Ref) → f.stands m ≡ true → slice_get (refs f m) i ≡ Some r → (OnWay f m r at → ⊥) → slice_get (refs g m) i ≡ Some r
   -- nor does one change that names a node which was writable
   pub kept : (m i c : ℕ) (r : Ref) → f.stands m ≡ true → slice_get (refs f m) i ≡ Some r → f.link m r.key ≡ loaded c → f.writable c ≡ true → slice_get (refs g m) i ≡ Some r
+  -- nor does a leaf that names a root which was writable
+  pub kept_leaf : (m i c : ℕ) (r : Ref) → f.stands m ≡ true → slice_get (refs f m) i ≡ Some r → is_indirect r ≡ false → IsRootOf f (f.root m) r.key c → f.writable c ≡ true → slice_get (refs g m) i ≡ Some r
   -- one that changes has the epoch as its id
   pub dated : (m i : ℕ) (r q : Ref) → f.stands m ≡ true → slice_get (refs f m) i ≡ Some r → slice_get (refs g m) i ≡ Some q → (q ≡ r) ⊎ (q.id ≡ f.epoch)
   -- where all was writable already, no set changes

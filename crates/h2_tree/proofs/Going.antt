@@ -67,6 +67,9 @@ changes_only f h g at goes alters place others = record {
   kept = λ m i c r st differs not_gone read link was_writable.
       let first = altered_place f h at alters m st in
       subst (λ (s : RefSet). slice_get s.refs i ≡ Some r) (sym (others m first.stands differs not_gone).set) (alters.kept m i c r st read link was_writable);
+  kept_leaf = λ m i c r st differs not_gone read leaf is was_writable.
+      let first = altered_place f h at alters m st in
+      subst (λ (s : RefSet). slice_get s.refs i ≡ Some r) (sym (others m first.stands differs not_gone).set) (alters.kept_leaf m i c r st read leaf is was_writable);
   dated = λ m i r q st differs not_gone read read_now.
       let first = altered_place f h at alters m st in
       alters.dated m i r q st read (subst (λ (s : RefSet). slice_get s.refs i ≡ Some q) (others m first.stands differs not_gone).set read_now);

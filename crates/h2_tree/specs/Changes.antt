@@ -5,7 +5,7 @@ use Rattle.h2_ref.specs.declared.reference.Ref.{Ref}
 use Rattle.h2_set.specs.Ranges.{Rising, limit, holds, lies, NoneHolds, IsApart, Sides, put, without, at_key, is_indirect, IsAligned}
 use Rattle.h2_tree.specs.declared.removing.Taken.{Taken}
 use Rattle.h2_tree.specs.declared.removing.Taken.TheVariants.{Nothing, Out, Sole}
-use Rattle.h2_set.specs.Forest.{Forest, refs, loaded, IsSound, LeavesOf, Walks, Fixed, InPlace, Keeps, Renews, Stays, Reaches, OnWay, IsAbove}
+use Rattle.h2_set.specs.Forest.{Forest, refs, loaded, IsSound, LeavesOf, Walks, Fixed, InPlace, Keeps, Renews, Stays, Reaches, OnWay, IsAbove, IsRootOf}
 use Rattle.h2_set.specs.RefSet.{IsSplitOf}
 
 -- the range of m lies in that of node at
@@ -41,6 +41,8 @@ pub record ChangesOnly (h g : Forest) (n : ℕ) (goes : ℕ → Type 0) : Type 0
   pub exact : (m i : ℕ) (r : Ref) → h.stands m ≡ true → (m ≡ n → ⊥) → (goes m → ⊥) → slice_get (refs h m) i ≡ Some r → (OnWay h m r n → ⊥) → slice_get (refs g m) i ≡ Some r
   -- nor does one to a node that was writable
   pub kept : (m i c : ℕ) (r : Ref) → h.stands m ≡ true → (m ≡ n → ⊥) → (goes m → ⊥) → slice_get (refs h m) i ≡ Some r → h.link m r.key ≡ loaded c → h.writable c ≡ true → slice_get (refs g m) i ≡ Some r
+  -- nor does a leaf that names a root which was writable
+  pub kept_leaf : (m i c : ℕ) (r : Ref) → h.stands m ≡ true → (m ≡ n → ⊥) → (goes m → ⊥) → slice_get (refs h m) i ≡ Some r → is_indirect r ≡ false → IsRootOf h (h.root m) r.key c → h.writable c ≡ true → slice_get (refs g m) i ≡ Some r
   -- one that changes has the epoch as its id
   pub dated : (m i : ℕ) (r q : Ref) → h.stands m ≡ true → (m ≡ n → ⊥) → (goes m → ⊥) → slice_get (refs h m) i ≡ Some r → slice_get (refs g m) i ≡ Some q → (q ≡ r) ⊎ (q.id ≡ h.epoch)
   pub writable : (m : ℕ) → h.stands m ≡ true → (goes m → ⊥) → (IsAbove h m n → ⊥) → g.writable m ≡ h.writable m
