@@ -18,7 +18,7 @@ use Rattle.h2_dir.specs.declared.fault.DirFault.{DirFault}
 use Rattle.h2_dir.specs.declared.fault.DirFault.TheVariants as fault
 use Rattle.h2_dir.specs.Finding.{AgreesOn, FindFails}
 use Rattle.h2_dir.proofs.FoundLaws.{reached_in}
-use Rattle.h2_dir.specs.Members.{at_place, has_place}
+use Rattle.h2_dir.proofs.Members.{at_place, has_place}
 use Rattle.h2_dir.specs.Knowing.{KnowsWay, KnowsInode, KnownAs, KnownEntries, LeadsBy, entered, unknown, no_directory, no_inode, WalkAgrees, StepAgrees}
 use Rattle.h2_dir.proofs.Entered.{holds_own}
 use Rattle.h2_dir.proofs.Way.{same_root}

@@ -13,7 +13,7 @@ use Rattle.h2_inode.specs.Loaded.{at_root, loaded_nodes, no_content}
 use Rattle.h2_inode.specs.Directory.{Entries, IsEntry}
 use Rattle.h2_dir.specs.Names.{IsNamed, MayBeNamed, NoneNamed}
 use Rattle.h2_dir.specs.Finding.{HoldsEntries, last_key}
-use Rattle.h2_dir.specs.Members.{at_place, has_place, kept, keeps}
+use Rattle.h2_dir.proofs.Members.{at_place, has_place, kept, keeps}
 use Rattle.std.proofs.lemmas.Bool.Decides.{nat_tests}
 use Rattle.h2_inode.specs.FoundLaws.{held_in, held_by, exact_names, names_total}
 

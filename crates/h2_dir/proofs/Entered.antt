@@ -12,7 +12,7 @@ use Rattle.h2_set.specs.Ranges.{find, holds, put, without}
 use Rattle.h2_set.specs.PathLaws.{in_holds}
 use Rattle.h2_inode.specs.Access.{OneByOne}
 use Rattle.h2_inode.specs.FoundLaws.{exact_names, names_total}
-use Rattle.h2_dir.specs.Members.{at_place}
+use Rattle.h2_dir.proofs.Members.{at_place}
 use Rattle.h2_dir.proofs.Ordered.{Name, Pair, order, Differ, differ_still, equal_is, member_of, has_member, same_of}
 
 -- The list beside that of the leaves

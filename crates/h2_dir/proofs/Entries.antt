@@ -20,7 +20,7 @@ use Rattle.h2_dir.specs.Changing.{entry_ref, short_entry, long_entry, HasBlockIf
 use Rattle.h2_dir.specs.Names.{MayBeNamed}
 use Rattle.h2_dir.specs.Finding.{HoldsEntries}
 use Rattle.h2_dir.proofs.Agreeing.{one_named, told_once, found_agrees}
-use Rattle.h2_dir.specs.Members.{first, behind}
+use Rattle.h2_dir.proofs.Members.{first, behind}
 use Rattle.h2_dir.proofs.Ordered.{order, differ_still}
 use Rattle.h2_dir.proofs.Entered.{put_beside, cut_beside, each_as, differ_more, differ_rest, map_put, map_cut}
 

@@ -13,7 +13,7 @@ use Rattle.h2_dirkey.specs.Key.{least_key}
 use Rattle.h2_inode.specs.Nodes.{Fields, Told}
 use Rattle.h2_inode.specs.Directory.{Entries}
 use Rattle.h2_dir.specs.Finding.{last_key, HoldsEntries, IsFound, IsMissing}
-use Rattle.h2_dir.specs.Members.{at_place, has_place}
+use Rattle.h2_dir.proofs.Members.{at_place, has_place}
 use Rattle.h2_dir.proofs.Agreeing.{key_between, found_agrees, missing_agrees}
 
 -- A loaded path leads to a leaf of the tree.

@@ -13,7 +13,7 @@ use Rattle.h2_inode.specs.Directory.{Entries}
 use Rattle.h2_dir.specs.Names.{IsNamed, AllNamed}
 use Rattle.h2_dir.specs.Finding.{HoldsEntries}
 use Rattle.h2_inode.specs.FoundLaws.{entry_of_leaf}
-use Rattle.h2_dir.specs.Members.{at_place, has_place, kept}
+use Rattle.h2_dir.proofs.Members.{at_place, has_place, kept}
 use Rattle.h2_dir.proofs.Agreeing.{one_named}
 use Rattle.h2_dir.proofs.Unchanging.{named_stays}
 

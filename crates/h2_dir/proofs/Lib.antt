@@ -1,3 +1,4 @@
+pub mod Members
 pub mod Unchanging
 pub mod Scanning
 pub mod Paths

@@ -18,7 +18,7 @@ use Rattle.h2_inode.specs.Nodes.{Fields, HasInode, leaf_keybits}
 use Rattle.h2_dir.specs.Names.{NoneNamed, IsPlaceOfName}
 use Rattle.h2_dir.specs.Finding.{last_key}
 use Rattle.h2_dir.specs.Placing.{IsSpot, IsTaken}
-use Rattle.h2_dir.specs.Members.{first, behind, at_place, has_place}
+use Rattle.h2_dir.proofs.Members.{first, behind, at_place, has_place}
 use Rattle.h2_dir.proofs.Agreeing.{between}
 use Rattle.h2_dir.proofs.Paths.{hangs}
 use Rattle.h2_dir.proofs.Searched.{missing_there, found_there}

@@ -19,7 +19,7 @@ use Rattle.h2_dir.specs.Finding.{HoldsEntries}
 use Rattle.h2_dir.specs.Listing.{SaysEntry, HasLongName, AnyLongName, ListMayLoad, by_name, entries_of}
 use Rattle.h2_dir.proofs.Agreeing.{between, one_named, told_once}
 use Rattle.h2_inode.specs.FoundLaws.{held_in, exact_names, names_total}
-use Rattle.h2_dir.specs.Members.{first, behind}
+use Rattle.h2_dir.proofs.Members.{first, behind}
 use Rattle.h2_dir.proofs.Ordered.{in_order}
 
 all_pass : {X : Type 0} (p : X → Bool) (xs : List X) → ((x : X) → Contains xs x → p x ≡ true) → filter p xs ≡ xs

@@ -4,6 +4,7 @@ use Rattle.h2_ref.specs.declared.reference.Ref.{Ref}
 use Rattle.h2_set.specs.Forest.{Forest, IsSound, Same, Unchanged, Walks, KeepsBeside}
 use Rattle.h2_set.specs.StayLaws.{Fixed-refl, Fixed-trans, InPlace-refl, InPlace-trans}
 use Rattle.h2_set.specs.StayLaws.{Walks-refl}
+use Rattle.h2_tree.specs.AnswerLaws.{beside_on}
 use Rattle.h2_inode.specs.Nodes.{Visits}
 use Rattle.h2_inode.specs.VisitLaws.{walks_visit}
 use Rattle.h2_dir.specs.Names.{IsNamed, MayBeNamed}
@@ -33,23 +34,14 @@ unchanged_trans f g h a b = record {
   room = b.room ∙ a.room;
 }
 
-pub beside_refl : {B : Type 0} (f : Forest) (a : ℕ → B) → KeepsBeside f f a a
-beside_refl f a = record { same = λ m stands stands_too. refl }
-
 pub beside_unchanged : {B : Type 0} (f g h : Forest) (a b c : ℕ → B) → Unchanged f g → KeepsBeside f g a b → KeepsBeside g h b c → KeepsBeside f h a c
-beside_unchanged f g h a b c same first second = record {
-  same = λ m stands stands_too. let there = (same.same m stands).place.stands in second.same m there stands_too ∙ first.same m stands there;
-}
+beside_unchanged f g h a b c same = beside_on f g h a b c (λ m stands. (same.same m stands).place.stands)
 
 pub beside_visits : {B : Type 0} (f g h : Forest) (a b c : ℕ → B) → Visits f g → KeepsBeside f g a b → KeepsBeside g h b c → KeepsBeside f h a c
-beside_visits f g h a b c same first second = record {
-  same = λ m stands stands_too. let there = (same.stays m stands).place.stands in second.same m there stands_too ∙ first.same m stands there;
-}
+beside_visits f g h a b c same = beside_on f g h a b c (λ m stands. (same.stays m stands).place.stands)
 
 pub beside_walks : {B : Type 0} (f g h : Forest) (a b c : ℕ → B) → Walks f g → KeepsBeside f g a b → KeepsBeside g h b c → KeepsBeside f h a c
-beside_walks f g h a b c same first second = record {
-  same = λ m stands stands_too. let there = (same.stays m stands).place.stands in second.same m there stands_too ∙ first.same m stands there;
-}
+beside_walks f g h a b c same = beside_on f g h a b c (λ m stands. (same.stays m stands).place.stands)
 
 -- what is told of names stays
 

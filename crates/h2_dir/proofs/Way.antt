@@ -16,7 +16,7 @@ use Rattle.h2_dir.specs.declared.fault.DirFault.{DirFault}
 use Rattle.h2_dir.specs.declared.fault.DirFault.TheVariants as fault
 use Rattle.h2_dir.specs.Finding.{FindFails, IsBadBlock}
 use Rattle.h2_dir.proofs.FoundLaws.{reached_in}
-use Rattle.h2_dir.specs.Members.{at_place}
+use Rattle.h2_dir.proofs.Members.{at_place}
 use Rattle.h2_dir.specs.Knowing.{KnowsEntries, KnowsInode, KnowsWay}
 
 module _ (u v : View) (h : Rereads u v) (may : ℕ → ℕ → Bool) where

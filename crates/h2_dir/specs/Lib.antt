@@ -1,6 +1,5 @@
 pub mod Names
 pub mod Finding
-pub mod Members
 pub mod Placing
 pub mod Changing
 pub mod Others

@@ -9,7 +9,8 @@ use Rattle.h2_dir.proofs.Agreed.{AgreesOnTheWay, agrees_first, agrees_next, agre
 use Rattle.h2_dir.specs.Walking.{Leads, arrived}
 use Rattle.h2_dir.proofs.Loading.{no_loads, step_alone}
 use Rattle.h2_dir.proofs.Stepping.{IsOnTheWay, way_begins, way_goes_on}
-use Rattle.h2_dir.proofs.Unchanging.{beside_refl, beside_visits, visits_refl}
+use Rattle.h2_tree.specs.AnswerLaws.{beside_same}
+use Rattle.h2_dir.proofs.Unchanging.{beside_visits, visits_refl}
 use Rattle.h2_dir.proofs.Walked.{names_at, names_end, ends_err}
 use Rattle.h2_dir.proofs.walking.walk.Goals as goal
 
@@ -20,7 +21,7 @@ loop-i-init g c = record {
   known = λ may l has way. way;
   agrees = λ may l has way. agrees_first _ may c.args.pfs.0 l 1 c.args.names.now way;
   alike = as_before;
-  beside = beside_refl _ _;
+  beside = beside_same _ _;
   later = g.met.N.Sets.same_later _;
 }
 
@@ -100,7 +101,7 @@ returns-clause-ends g c =
     let now = g.N.Sets.beside c.loop-i.n in
     let inv = c.loop-i.invariant in
     let end : drop c.loop-i.i c.args.names.now ≡ [] = subst (λ (xs : List (List ℕ)). drop c.loop-i.i xs ≡ []) c.items-items.ensures (names_end c.items-items.result.now c.loop-i.i c.loop-i-test.false) in
-    inv.way.ends f now (Ok c.loop-i.number) (visits_refl f inv.visits.sound) (beside_refl f now)
+    inv.way.ends f now (Ok c.loop-i.number) (visits_refl f inv.visits.sound) (beside_same f now)
     (subst (λ (xs : List (List ℕ)). Leads f (held_by g.N.Nodes.fields now) c.args.pfs.0 c.loop-i.number xs (Ok c.loop-i.number)) (sym end) arrived)
 
 pub returns-clause-loads : goal.returns-clause-loads
@@ -108,7 +109,7 @@ returns-clause-loads g c =
     let f = g.N.Sets.forest c.loop-i.n in
     let now = g.N.Sets.beside c.loop-i.n in
     let inv = c.loop-i.invariant in
-    inv.way.loads f now (visits_refl f inv.visits.sound) (beside_refl f now) (no_loads f (held_by g.N.Nodes.fields now) c.args.pfs.0 c.loop-i.number (drop c.loop-i.i c.args.names.now))
+    inv.way.loads f now (visits_refl f inv.visits.sound) (beside_same f now) (no_loads f (held_by g.N.Nodes.fields now) c.args.pfs.0 c.loop-i.number (drop c.loop-i.i c.args.names.now))
 
 pub returns-in-Err-clause-agrees : goal.returns-in-Err-clause-agrees
 returns-in-Err-clause-agrees g c may l has way =
