@@ -1,23 +1,17 @@
 -- What is kept of a table, by the numbers of its inodes and the inodes.
 use Rattle.std.specs.Prelude.{◌≡◌, ℕ, List, [], ◌∷◌, cond, Bool, true, false, Option, Some, None, refl, map}
-use Rattle.std.specs.declared.cmp.Ordering.{Ordering}
-use Rattle.std.specs.declared.cmp.Ordering.TheVariants.{Less, Equal, Greater}
+use Rattle.std.specs.declared.cmp.Ordering.TheVariants.{Less}
 use Rattle.std.specs.Ordering.{eq_by_cmp, is_eq, nat_cmp}
 use Rattle.std.specs.List.Sorted.{IsStrictlySortedBy}
 use Rattle.std.specs.List.{AllByRecursion, filter}
-use Rattle.std.specs.Cmp.{nat_cmp_total}
+use Rattle.std.specs.Cmp.{nat_cmp_total, Equal-is}
 use Rattle.std.specs.FinMap.{find, get, from_entries, get-from_entries, same_map, empty, retain_keys, get-retain_keys, nat_cmp-IsAntisymmetric}
 use Rattle.std.proofs.Common.{ap, sym, ◌∙◌}
 use Rattle.h2_maps.specs.Maps.{put_all, put_all_sorted}
 use Rattle.h2_forest.specs.declared.table.Node.{Node}
 
-tied : (r : Ordering) → is_eq r ≡ true → r ≡ Equal
-tied Less e = absurd (cc)
-tied Equal e = refl
-tied Greater e = absurd (cc)
-
 pub equal_keys : (x y : ℕ) → eq_by_cmp nat_cmp x y ≡ true → x ≡ y
-equal_keys x y e = nat_cmp-IsAntisymmetric x y (tied (nat_cmp x y) e)
+equal_keys x y e = nat_cmp-IsAntisymmetric x y ((Equal-is (nat_cmp x y)).0 e)
 
 none_later : (q : ℕ) (es : List (ℕ × Node)) → AllByRecursion (λ y. nat_cmp q y ≡ Less) (map (λ x. x.0) es) → find nat_cmp q es ≡ None
 none_later q [] h = refl

@@ -3,7 +3,6 @@ use Rattle.std.specs.Prelude.{◌≡◌, ◌⊎◌, ℕ, ◌+◌, ◌-◌, ◌^�
 use Rattle.std.specs.Bool.{MatchBool}
 use Rattle.std.specs.List.{list_any}
 use Rattle.h2_command.specs.declared.command.Command.{Command}
-use Rattle.h2_command.specs.declared.command.Command.TheVariants.{Bulkfree}
 use Rattle.h2_command.specs.declared.reply.Reply.{Reply}
 use Rattle.h2_command.specs.declared.reply.Reply.TheVariants.{Done, Bulk, Io, BadBlock}
 use Rattle.h2_command.specs.declared.history.Entry.{Entry}
@@ -12,6 +11,7 @@ use Rattle.h2_command.specs.declared.history.Mark.TheVariants.{Freeze, HeaderOut
 use Rattle.h2_command.specs.declared.history.Item.{Item}
 use Rattle.h2_command.specs.declared.history.Item.TheVariants.{Call, Mark as Marked}
 use Rattle.h2_command.specs.Replies.{is_outside}
+use Rattle.h2_command.specs.Commands.{is_bulkfree}
 use Rattle.h2_forest.specs.declared.legality.Opening.{Opening}
 use Rattle.h2_forest.specs.declared.legality.LastPass.TheVariants.{Runs}
 use Rattle.h2_forest.specs.declared.legality.Flush.{Flush}
@@ -41,10 +41,7 @@ after_item f (Marked m) = f
 abbrev pub forest_at : List Item → PlainForest → ℕ → PlainForest
 forest_at h first i = after after_item (closed first) (take i h)
 
-abbrev pub is_bulkfree : Command → Bool
-is_bulkfree Bulkfree = true
-is_bulkfree _ = false
-
+-- the reply of a pass that ended
 abbrev pub is_bulk : Reply → Bool
 is_bulk (Bulk seen staged freed) = true
 is_bulk _ = false

@@ -1,6 +1,7 @@
 ghost use Rattle.std.specs.Prelude.{IfOk, OnOk, ◌<◌, ◌^◌, ◌≡◌, ◌↔◌, IsTrue, All, length, ◌&&◌};
 ghost use Rattle.h2_command.specs.Lawful.{Lawful, IsLawfulItem};
-ghost use Rattle.h2_forest.specs.History.{is_bulkfree, is_bulk, StandsFor, IsRight, IsRightEntry, after_item};
+ghost use Rattle.h2_command.specs.Commands.{is_bulkfree};
+ghost use Rattle.h2_forest.specs.History.{is_bulk, StandsFor, IsRight, IsRightEntry, after_item};
 ghost use Rattle.h2_forest.specs.Replay.{IsReplay};
 
 use crate::forest::Forest;

@@ -1,5 +1,5 @@
 -- Proofs of the laws of the freemap and the ledger.
-use Rattle.std.proofs.Common.{ℕ, zero, suc, true, false, Option, Some, None, List, ◌∷◌, ◌++◌, ◌≡◌, ◌≢◌, ◌⊎◌, ◌+◌, ◌-◌, ◌/◌, ◌^◌, ◌<◌, ◌≤◌, refl, sym, ap, ◌∙◌, subst, inl, inr, arith, pow_pos}
+use Rattle.std.proofs.Common.{ℕ, true, false, Option, Some, None, List, ◌∷◌, ◌++◌, ◌≡◌, ◌≢◌, ◌⊎◌, ◌+◌, ◌-◌, ◌/◌, ◌^◌, ◌<◌, ◌≤◌, refl, sym, ap, ◌∙◌, subst, inl, inr, arith, pow_pos}
 use Rattle.std.proofs.lemmas.Bool.{cases_Bool}
 use Rattle.h2_num.specs.declared.block.Block.{Block}
 use Rattle.h2_geom.specs.Geometry.{chunk_bytes, segment_of, in_segment, chunks_of, chunk_place}
@@ -21,7 +21,7 @@ use Rattle.h2_ledger.specs.declared.shared_size.SharedSize.{SharedSize}
 use Rattle.h2_ledger.specs.declared.shared_size.SharedSize.TheVariants.{Small, Middle}
 use Rattle.h2_codes.specs.declared.cursor.Cursor.{Cursor}
 use Rattle.h2_ledger.specs.Ledger.{Ledger, block_chunk, block_bytes, IsTaken, HasBlockIn}
-use Rattle.h2_ledger.specs.Moves.{Move, take_next, take_first, take_whole, adopt, apply, radix_of, Makes, WithinAnd, Joins, IsAtCursor, IsFilled, IsAtLowest, IsPaid, IsGranted, at_whole, TakesNext, TakesFirst, TakesWhole, Adopts, Applies}
+use Rattle.h2_ledger.specs.Moves.{Move, take_next, take_first, take_whole, radix_of, Makes, WithinAnd, Joins, IsAtCursor, IsAtLowest, IsPaid, IsGranted, at_whole, TakesNext, TakesFirst, TakesWhole}
 use Rattle.h2_ledger.specs.Moves as ledger
 use Rattle.h2_ledger.specs.CountLaws as counting
 use Rattle.h2_freemap_ledger.specs.Space.{size_of, IsTakeOf, HasSpace, PaysFor, JoinsBeside}

@@ -3,12 +3,10 @@ use Rattle.std.specs.Prelude.{◌≡◌, ◌≢◌, ◌<◌, ◌≤◌, ℕ, ◌
 use Rattle.std.proofs.Common.{ap, sym, ◌∙◌, arith, inl, inr, subst}
 use Rattle.std.proofs.lemmas.Option.{none-some}
 use Rattle.std.proofs.lemmas.List.{get_or_past, take-append-le, take_all}
-use Rattle.std.specs.Ordering.{nat_cmp, eq_by_cmp, is_eq}
-use Rattle.std.specs.Cmp.{nat_cmp_total}
+use Rattle.std.specs.Ordering.{nat_cmp, eq_by_cmp}
+use Rattle.std.specs.Cmp.{nat_cmp_total, Equal-is}
 use Rattle.std.specs.Cmp.Lexicographic.{slice_cmp}
 use Rattle.std.specs.FinMap.{get, empty, insert, entries, put, len-empty, len-entries, entries-insert, get-insert, get-empty, nat_cmp-IsAntisymmetric}
-use Rattle.std.specs.declared.cmp.Ordering.{Ordering}
-use Rattle.std.specs.declared.cmp.Ordering.TheVariants.{Less, Equal, Greater}
 use Rattle.h2_num.specs.Places.{places}
 use Rattle.h2_set.specs.Ranges.{find, holds, limit}
 use Rattle.h2_set.specs.LeafLaws.{holds_outside}
@@ -50,18 +48,13 @@ bare_entries = entries-insert nat_cmp_total empty 1 (Directory no_entries) ∙ a
 none_within : entries no_entries ≡ []
 none_within = no_items (entries no_entries) (sym (len-entries no_entries) ∙ len-empty (slice_cmp nat_cmp) ℕ)
 
-tied : (r : Ordering) → is_eq r ≡ true → r ≡ Equal
-tied Less e = absurd (cc)
-tied Equal e = refl
-tied Greater e = absurd (cc)
-
 shown : Option Node → Node → Node
 shown None d = d
 shown (Some n) d = n
 
 looked : (n : ℕ) (x : Node) (b : Bool) → eq_by_cmp nat_cmp n 1 ≡ b → cond b (Some (Directory no_entries)) None ≡ Some x → (n ≡ 1) × (x ≡ Directory no_entries)
 unfolding shown
-looked n x true e h = (nat_cmp-IsAntisymmetric n 1 (tied (nat_cmp n 1) e), ap (λ o. shown o x) (sym h))
+looked n x true e h = (nat_cmp-IsAntisymmetric n 1 ((Equal-is (nat_cmp n 1)).0 e), ap (λ o. shown o x) (sym h))
 looked n x false e h = absurd (none-some x h)
 
 -- there is one inode

@@ -2,6 +2,7 @@
 use Rattle.std.proofs.Common.{◌≡◌, ℕ, ◌+◌, ◌<◌, ◌≤◌, ◌^◌, nat_eq, nat_lt, Bool, true, false, ◌&&◌, ◌||◌, arith, refl, sym, ◌∙◌, ap, List, [], ◌∷◌, ◌++◌, take, drop, length, Option, Some, subst, inl, inr, slice_get, suc, zero}
 use Rattle.std.specs.Prelude.{map, not}
 use Rattle.std.proofs.Math.Seq.{take-append_seam}
+use Rattle.std.proofs.lemmas.Bool.{or_cases, or_left, or_right}
 use Rattle.std.proofs.lemmas.Nat.{pow_pos}
 use Rattle.h2_ref.specs.declared.faults.Why.{Why}
 use Rattle.h2_set.specs.RefSet.{RefSet}
@@ -22,21 +23,13 @@ use Rattle.std.proofs.lemmas.Bool.Decides.{nat_tests}
 use Rattle.h2_memory_sets.proofs.Counting.{count_none}
 use Rattle.h2_memory_sets.proofs.Nesting.{in_holds, meet, one_range, leads_to}
 use Rattle.h2_memory_sets.proofs.Nodes.{belongs_still}
-use Rattle.h2_memory_sets.proofs.Owned.{AreLower, chain_found, owner_is, or_first, or_second, or_parts}
+use Rattle.h2_memory_sets.proofs.Owned.{AreLower, chain_found, owner_is, or_first, or_second}
 use Rattle.h2_memory_sets.proofs.Parting.{one_of, alike}
 use Rattle.h2_memory_sets.proofs.Passing.{any_true, any_some, and_parts}
 use Rattle.h2_memory_sets.proofs.Recounting.{Above, field, link_same, node_at, above_is, is_above_of, is_writable, counted, root_above, still}
 use Rattle.h2_memory_sets.proofs.Rooted.{map_field}
 use Rattle.h2_memory_sets.proofs.Storing.{tested}
 use Rattle.h2_memory_sets.proofs.Unloads.{map_item}
-
-or_left : (a b : Bool) → a ≡ true → (a || b) ≡ true
-or_left true b e = refl
-or_left false b e = absurd (cc)
-
-or_right : (a b : Bool) → b ≡ true → (a || b) ≡ true
-or_right true b e = refl
-or_right false b e = e
 
 or_neither : (a b : Bool) → b ≡ false → (a || b) ≡ a
 or_neither true b e = refl
@@ -160,7 +153,7 @@ module _ (xs : List Node) (at : ℕ) (x : Node) (read : slice_get xs at ≡ Some
   marks m u got st (by i r at_i (across key ne held bel)) = or_second (is_above (place_of x) u) (is_over xs x.root u) (over_of m i key r u got at_i held bel)
 
   marked : (m : ℕ) (u : Node) → slice_get xs m ≡ Some u → f.stands m ≡ true → reach u ≡ true → IsAbove f m at
-  marked m u got st e = elim (or_parts (is_above (place_of x) u) (is_over xs x.root u) e) as (λ _. IsAbove f m at) [
+  marked m u got st e = elim (or_cases (is_above (place_of x) u) (is_over xs x.root u) e) as (λ _. IsAbove f m at) [
     | inl is ↦ leads_there m st (above_is xs new spare epoch room failed bad met sound m at u x got read is)
     | inr is ↦ leads_over m u got is
   ]

@@ -2,6 +2,7 @@
 use Rattle.std.proofs.Common.{◌≡◌, ℕ, ◌+◌, ◌<◌, ◌≤◌, Bool, true, false, ◌&&◌, arith, refl, cond, sym, ◌∙◌, ap, List, [], ◌∷◌, ◌++◌, length, Option, Some, None, subst, inl, inr, slice_get, slice_set, suc, nat_eq}
 use Rattle.std.specs.List.{position}
 use Rattle.std.proofs.Math.ListN.{length-set}
+use Rattle.std.proofs.lemmas.Bool.{or_cases}
 use Rattle.std.proofs.lemmas.Option.{none-some, slice_get_within, slice_get_past}
 use Rattle.h2_ref.specs.declared.faults.Why.{Why}
 use Rattle.h2_ref.specs.declared.reference.Ref.{Ref}
@@ -17,7 +18,7 @@ use Rattle.h2_memory_sets.specs.View.{stands_of, root_of, writable_of, is_top, i
 use Rattle.h2_memory_sets.proofs.Coming.{Comes, IsFitRoot, HasPath, brings_root, not_fresh, stands, root}
 use Rattle.h2_memory_sets.proofs.Named.{named_by, owner_named, self_owner}
 use Rattle.h2_memory_sets.proofs.Nodes.{get_set, get_set_other, position_same, is_there}
-use Rattle.h2_memory_sets.proofs.Owned.{AreLower, belongs_step, belongs_same, chain_under, or_parts, owner_is}
+use Rattle.h2_memory_sets.proofs.Owned.{AreLower, belongs_step, belongs_same, chain_under, owner_is}
 use Rattle.h2_memory_sets.proofs.Parting.{one_of, unlike, first_push, none_passes, none_false, get_last}
 use Rattle.h2_memory_sets.proofs.Passing.{and_parts}
 use Rattle.h2_memory_sets.proofs.Rooted.{get_push}
@@ -157,7 +158,7 @@ module _ (xs ys : List Node) (c : ℕ) (y : Node) (spare spare' epoch room faile
 
   -- what it belongs to, it belongs to by loaded paths
   paths : (t k : ℕ) → belongs_to ys c t k ≡ true → HasPath f t k
-  paths t k b = elim (or_parts (is_owner t k (record { root = top; key = leaf.key })) (belongs_to ys top t k) (sym (belongs_step ys low c t k (record { root = top; key = leaf.key }) at_owner) ∙ b)) as (λ _. HasPath f t k) [
+  paths t k b = elim (or_cases (is_owner t k (record { root = top; key = leaf.key })) (belongs_to ys top t k) (sym (belongs_step ys low c t k (record { root = top; key = leaf.key }) at_owner) ∙ b)) as (λ _. HasPath f t k) [
     | inl is ↦
         let same = owner_is t k (record { root = top; key = leaf.key }) is in
         subst (λ z. HasPath f z k) same.0 (subst (λ z. HasPath f top z) same.1 (record { stands = named.stands; root = named.root; leaf = leaf; key_is = refl; kind_is = named.kind; path = named.path }))

@@ -1,10 +1,10 @@
 -- A loaded node is the only one at its key below the node above it.
-use Rattle.std.proofs.Common.{◌≡◌, ℕ, Bool, true, false, ◌&&◌, refl, sym, ◌∙◌, ap, List, Option, Some, None, subst, slice_get}
+use Rattle.std.proofs.Common.{◌≡◌, ℕ, true, ◌&&◌, refl, sym, ◌∙◌, ap, List, Option, Some, None, subst, slice_get}
 use Rattle.std.specs.List.{position}
 use Rattle.h2_ref.specs.declared.faults.Why.{Why}
 use Rattle.h2_set.specs.Forest.{IsSound}
 use Rattle.h2_memory_sets.specs.declared.node.Node.{Node}
-use Rattle.h2_memory_sets.specs.View.{stands_of, root_of, low_of, is_up, is_child, is_child_of, is_top, is_bare, forest_with, AllRooted}
+use Rattle.h2_memory_sets.specs.View.{stands_of, low_of, is_up, is_child, is_child_of, is_top, is_bare, forest_with, AllRooted}
 use Rattle.h2_memory_sets.proofs.Bringing.{up_is}
 use Rattle.h2_memory_sets.proofs.Parting.{alike, one_of}
 use Rattle.h2_memory_sets.proofs.Passing.{and_parts}

@@ -1,5 +1,5 @@
 -- The first name of a list that has the block at a place.
-use Rattle.std.proofs.Common.{◌≡◌, ℕ, Bool, true, false, ◌&&◌, refl, cond, sym, ◌∙◌, ap, List, [], ◌∷◌, length, Option, Some, None, slice_get, suc, zero, nat_eq, subst}
+use Rattle.std.proofs.Common.{◌≡◌, ℕ, Bool, true, false, refl, cond, sym, ◌∙◌, ap, List, [], ◌∷◌, length, Option, Some, None, slice_get, suc, zero, nat_eq, subst}
 use Rattle.std.specs.Prelude.{IfNone}
 use Rattle.std.specs.List.{position}
 use Rattle.std.proofs.lemmas.Option.{none-some}

@@ -1,7 +1,7 @@
 -- What goes with a reference that is missing, and what stays, once another set is stored.
 use Rattle.std.proofs.Common.{◌≡◌, ℕ, ◌<◌, Bool, true, false, ◌&&◌, ◌||◌, arith, refl, cond, sym, ◌∙◌, ap, List, length, Option, Some, None, subst, ◌⊎◌, inl, inr, slice_get, suc, nat_eq, nat_lt}
 use Rattle.std.specs.List.{position}
-use Rattle.std.proofs.lemmas.Bool.{cases_lt}
+use Rattle.std.proofs.lemmas.Bool.{cases_lt, or_cases, or_left, or_right}
 use Rattle.std.proofs.lemmas.Bool.Decides.{nat_tests}
 use Rattle.std.proofs.lemmas.Option.{slice_get_past}
 use Rattle.h2_ref.specs.declared.faults.Why.{Why}
@@ -20,17 +20,6 @@ use Rattle.h2_memory_sets.proofs.Owned.{chain_found, owner_is}
 use Rattle.h2_memory_sets.proofs.Parting.{alike, item_at}
 use Rattle.h2_memory_sets.proofs.Passing.{and_parts}
 use Rattle.h2_memory_sets.proofs.Storing.{DiffersByStore, tested, now_stays, root_now}
-
-or_parts : (a b : Bool) → (a || b) ≡ true → (a ≡ true) ⊎ (b ≡ true)
-or_parts true b h = inl refl
-or_parts false b h = inr h
-
-or_left : (a b : Bool) → a ≡ true → (a || b) ≡ true
-or_left a b e = rw e refl
-
-or_right : (a b : Bool) → b ≡ true → (a || b) ≡ true
-or_right true b e = refl
-or_right false b e = e
 
 same_eq : (a b : ℕ) → a ≡ b → nat_eq a b ≡ true
 same_eq a b e = grind (arith, nat_tests)
@@ -84,7 +73,7 @@ module _ (xs : List Node) (at : ℕ) (x y : Node) (s : RefSet) (inode : Option I
   goes_is : (m : ℕ) → f.stands m ≡ true → goes_at m ≡ true → GoesBelow f m at s ⊎ GoesWith f m at s
   goes_is m st e =
       let it = there_of xs at x y s inode kept read same m e in
-      elim (or_parts (goes x.root x.bits (let t = x.set in t.refs) s.refs it.0) (goes_with xs x.root (let t = x.set in t.refs) s.refs (it.0).root) it.2) as (λ _. GoesBelow f m at s ⊎ GoesWith f m at s) [
+      elim (or_cases (goes x.root x.bits (let t = x.set in t.refs) s.refs it.0) (goes_with xs x.root (let t = x.set in t.refs) s.refs (it.0).root) it.2) as (λ _. GoesBelow f m at s ⊎ GoesWith f m at s) [
         | inl below ↦ inl (is_below m it.0 it.1 below)
         | inr with' ↦ inr (is_with m it.0 st it.1 with')
       ]

@@ -1,5 +1,6 @@
 -- Which leaf names the root of an inode.
 use Rattle.std.proofs.Common.{◌≡◌, ℕ, ◌<◌, true, false, ◌||◌, arith, refl, sym, ◌∙◌, ap, List, Option, Some, None, ◌⊎◌, inl, inr, slice_get, nat_eq}
+use Rattle.std.proofs.lemmas.Bool.{or_cases}
 use Rattle.std.proofs.lemmas.Bool.Decides.{nat_tests}
 use Rattle.h2_ref.specs.declared.faults.Why.{Why}
 use Rattle.h2_set.specs.Forest.{Forest, IsSound}
@@ -8,7 +9,7 @@ use Rattle.h2_memory_sets.specs.declared.node.Node.{Node}
 use Rattle.h2_memory_sets.specs.declared.node.Owner.{Owner}
 use Rattle.h2_memory_sets.specs.Owners.{owner_of, is_owner, belongs_to}
 use Rattle.h2_memory_sets.specs.View.{forest_with}
-use Rattle.h2_memory_sets.proofs.Owned.{AreLower, belongs_step, belongs_none, belongs_lower, owner_is, or_parts, or_first, or_second}
+use Rattle.h2_memory_sets.proofs.Owned.{AreLower, belongs_step, belongs_none, belongs_lower, owner_is, or_first, or_second}
 
 pub self_owner : (t k : ℕ) → is_owner t k (record { root = t; key = k }) ≡ true
 self_owner t k = let a : nat_eq t t ≡ true = grind (arith, nat_tests) in let b : nat_eq k k ≡ true = grind (arith, nat_tests) in rw (a, b) refl
@@ -26,7 +27,7 @@ module _ (xs : List Node) (spare epoch room failed bad : ℕ) (met : Option (ℕ
         let here : f.belongs c t k ≡ belongs_to xs c t k = ap (λ q. belongs_to xs q t k) own in
         let there : f.belongs top t k ≡ belongs_to xs top t k = ap (λ q. belongs_to xs q t k) top_own in
         let step = belongs_step xs low c t k (record { root = top; key = key }) owner in (
-          (λ e. elim (or_parts (is_owner t k (record { root = top; key = key })) (belongs_to xs top t k) (sym step ∙ sym here ∙ e)) as (λ _. ((t ≡ top) × (k ≡ key)) ⊎ (f.belongs top t k ≡ true)) [
+          (λ e. elim (or_cases (is_owner t k (record { root = top; key = key })) (belongs_to xs top t k) (sym step ∙ sym here ∙ e)) as (λ _. ((t ≡ top) × (k ≡ key)) ⊎ (f.belongs top t k ≡ true)) [
             | inl is ↦ let o = owner_is t k (record { root = top; key = key }) is in inl (sym o.0, sym o.1)
             | inr above ↦ inr (there ∙ above)
           ]),
@@ -50,7 +51,7 @@ module _ (xs : List Node) (spare epoch room failed bad : ℕ) (met : Option (ℕ
 
       go : (o : Option Owner) → owner_of (slice_get xs c) ≡ o → owner_of (slice_get xs c) ≡ Some (record { root = top; key = key })
       go None e = let clash : true ≡ false = sym belongs ∙ belongs_none xs c top key e in absurd (cc)
-      go (Some o) e = e ∙ elim (or_parts (is_owner top key o) (belongs_to xs o.root top key) (sym (belongs_step xs low c top key o e) ∙ belongs)) as (λ _. ◌≡◌ {A = Option Owner} (Some o) (Some (record { root = top; key = key }))) [
+      go (Some o) e = e ∙ elim (or_cases (is_owner top key o) (belongs_to xs o.root top key) (sym (belongs_step xs low c top key o e) ∙ belongs)) as (λ _. ◌≡◌ {A = Option Owner} (Some o) (Some (record { root = top; key = key }))) [
         | inl here ↦ let same = owner_is top key o here in ap (λ n. Some (record { root = n; key = o.key })) same.0 ∙ ap (λ n. Some (record { root = top; key = n })) same.1
         | inr above ↦
             let less : top < o.root = belongs_lower xs low o.root top key above in

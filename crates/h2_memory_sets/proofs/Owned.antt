@@ -1,6 +1,7 @@
 -- Which leaves a root belongs to, by the owners of nodes.
-use Rattle.std.proofs.Common.{◌≡◌, ℕ, ◌<◌, Bool, true, false, ◌||◌, arith, refl, cond, ◌∙◌, ap, List, [], ◌∷◌, ◌++◌, take, drop, Option, Some, None, ◌⊎◌, inl, inr, slice_get, suc, zero, nat_eq}
+use Rattle.std.proofs.Common.{◌≡◌, ℕ, ◌<◌, Bool, true, false, ◌||◌, arith, refl, cond, ◌∙◌, ap, List, [], ◌∷◌, ◌++◌, take, drop, Option, Some, None, inl, inr, slice_get, suc, zero, nat_eq}
 use Rattle.std.specs.Prelude.{map}
+use Rattle.std.proofs.lemmas.Bool.{or_cases}
 use Rattle.std.proofs.lemmas.Bool.Decides.{nat_tests}
 use Rattle.h2_ref.specs.declared.reference.Ref.{Ref}
 use Rattle.h2_memory_sets.specs.declared.node.Node.{Node}
@@ -53,10 +54,6 @@ belongs_step xs low c t k o e = ap (either (is_owner t k) (λ u. on_chain (is_ow
 pub belongs_none : (xs : List Node) (c t k : ℕ) → owner_of (slice_get xs c) ≡ None → belongs_to xs c t k ≡ false
 belongs_none xs c t k e = ap (either (is_owner t k) (λ u. on_chain (is_owner t k) xs c u)) e
 
-pub or_parts : (a b : Bool) → (a || b) ≡ true → (a ≡ true) ⊎ (b ≡ true)
-or_parts true b h = inl refl
-or_parts false b h = inr h
-
 -- an owner that passes is one of those that are looked at
 pub record IsOn (p : Owner → Bool) (xs : List Node) (n m : ℕ) : Type 0 where
   pub owner : Owner
@@ -82,7 +79,7 @@ or_last false b e = refl
 
 found_step : (p : Owner → Bool) (xs : List Node) (n m : ℕ) (o : Option Owner) → owner_of (slice_get xs m) ≡ o → either p (λ t. on_chain p xs n t) o ≡ true → ((w : Owner) → on_chain p xs n w.root ≡ true → IsOn p xs n w.root) → IsOn p xs (suc n) m
 found_step p xs n m None e h rest = absurd (cc)
-found_step p xs n m (Some o) e h rest = elim (or_parts (p o) (on_chain p xs n o.root) h) as (λ _. IsOn p xs (suc n) m) [
+found_step p xs n m (Some o) e h rest = elim (or_cases (p o) (on_chain p xs n o.root) h) as (λ _. IsOn p xs (suc n) m) [
   | inl here ↦ record { owner = o; passes = here; on = λ q is. found_next xs n m o e q true (or_first (q o) _ is); lower = λ low. low m o e }
   | inr above ↦
       let it = rest o above in

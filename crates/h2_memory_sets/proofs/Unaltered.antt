@@ -1,5 +1,5 @@
 -- A forest in memory in which a node and all above it are writable already.
-use Rattle.std.proofs.Common.{◌≡◌, ℕ, ◌+◌, ◌≤◌, ◌<◌, Bool, true, false, ◌&&◌, arith, refl, cond, sym, ◌∙◌, ap, List, Option, Some, None, subst, inl, inr, slice_get, suc, zero}
+use Rattle.std.proofs.Common.{◌≡◌, ℕ, ◌+◌, ◌≤◌, Bool, true, false, arith, refl, cond, sym, ◌∙◌, ap, List, Option, Some, None, subst, inl, inr, slice_get, suc, zero}
 use Rattle.std.proofs.lemmas.Nat.{pow_pos}
 use Rattle.h2_ref.specs.declared.faults.Why.{Why}
 use Rattle.h2_set.specs.Forest.{Forest, refs, IsSound, HasParent, Keeps, Alters, IsAbove, itself, by, inside, across}
@@ -16,7 +16,7 @@ use Rattle.h2_memory_sets.proofs.Nesting.{Link, link_of as link_at, few_bits}
 use Rattle.h2_memory_sets.proofs.Owned.{AreLower, belongs_none}
 use Rattle.h2_memory_sets.proofs.Parting.{one_of}
 use Rattle.h2_memory_sets.proofs.Passing.{and_parts}
-use Rattle.h2_memory_sets.proofs.Recounting.{Above, up, root_above}
+use Rattle.h2_memory_sets.proofs.Recounting.{Above, up}
 
 -- what a settled root is
 settled_top : (o : Option Node) → is_settled_top o ≡ true → (writable_of o ≡ true) × (owner_of o ≡ None)

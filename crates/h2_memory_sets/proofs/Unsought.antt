@@ -1,7 +1,8 @@
 -- Nodes whose tree a leaf names, once they are unloaded.
-use Rattle.std.proofs.Common.{◌≡◌, ℕ, Bool, true, false, ◌&&◌, ◌||◌, arith, refl, sym, ◌∙◌, ap, List, [], ◌∷◌, Option, Some, None, slice_get, suc, zero, nat_eq}
+use Rattle.std.proofs.Common.{◌≡◌, ℕ, Bool, true, false, ◌&&◌, arith, refl, sym, ◌∙◌, ap, List, [], ◌∷◌, Option, Some, None, slice_get, suc, zero, nat_eq}
 use Rattle.std.specs.Prelude.{map}
 use Rattle.std.specs.List.{position}
+use Rattle.std.proofs.lemmas.Bool.{or_left}
 use Rattle.std.proofs.lemmas.Bool.Decides.{nat_tests}
 use Rattle.std.proofs.lemmas.List.{length-map}
 use Rattle.h2_ref.specs.declared.faults.Why.{Why}
@@ -25,9 +26,6 @@ use Rattle.h2_memory_sets.proofs.Unloads.{Found, found, link_found}
 
 same_eq : (a : ℕ) → nat_eq a a ≡ true
 same_eq a = grind (arith, nat_tests)
-
-or_left : (a b : Bool) → a ≡ true → (a || b) ≡ true
-or_left a b e = rw e refl
 
 -- a tree that a leaf names belongs to it
 belongs_owner : (xs : List Node) → AreKept xs → (c : ℕ) (o : Owner) → owner_of (slice_get xs c) ≡ Some o → belongs_to xs c o.root o.key ≡ true

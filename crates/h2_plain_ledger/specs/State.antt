@@ -4,7 +4,7 @@ use Rattle.std.specs.List.{Contains}
 use Rattle.h2_num.specs.declared.block.Block.{Block}
 use Rattle.h2_geom.specs.Geometry.{chunk_bytes}
 use Rattle.h2_codes.specs.declared.code.Code.{Code}
-use Rattle.h2_codes.specs.declared.code.Code.TheVariants.{Free, Reserved, Staged, Used}
+use Rattle.h2_codes.specs.declared.code.Code.TheVariants.{Free}
 use Rattle.h2_codes.specs.Codes.{code_at}
 use Rattle.h2_codes.specs.Bulkfree.{seen_code, unseen_code}
 use Rattle.h2_codes.specs.Cursor.{unless_free as unless_code_free}

@@ -3,7 +3,7 @@ use Rattle.std.specs.Prelude.{Option, Some, None, List, [], ◌∷◌, ◌++◌,
 use Rattle.h2_num.specs.declared.block.Block.{Block}
 use Rattle.h2_geom.specs.Geometry.{chunk_bytes, segment_chunks}
 use Rattle.h2_codes.specs.declared.code.Code.{Code}
-use Rattle.h2_codes.specs.declared.code.Code.TheVariants.{Free, Used}
+use Rattle.h2_codes.specs.declared.code.Code.TheVariants.{Used}
 use Rattle.h2_codes.specs.Codes.{code_at}
 use Rattle.h2_ledger.specs.declared.shared_size.SharedSize.{SharedSize}
 use Rattle.h2_codes.specs.declared.cursor.Cursor.{Cursor}

@@ -5,7 +5,8 @@ use Rattle.std.proofs.lemmas.List.{length-append}
 use Rattle.std.proofs.lemmas.List.Sums.{sum_by-append}
 use Rattle.h2_command.specs.declared.command.Command.{Command}
 use Rattle.h2_script.specs.declared.counts.Counts.{Counts}
-use Rattle.h2_script.specs.Scripts.{is_list, is_pass, asked, AreFew}
+use Rattle.h2_command.specs.Commands.{is_bulkfree}
+use Rattle.h2_script.specs.Scripts.{is_list, asked, AreFew}
 use Rattle.h2_script.specs.Counts.{AreCounted}
 
 one_summed : {X : Type 0} (f : X → ℕ) (xs : List X) (x : X) → sum_by f (xs ++ x ∷ []) ≡ sum_by f xs + f x
@@ -18,7 +19,7 @@ one_counted p xs x = one_summed (λ y. cond (p y) 1 0) xs x
 pub record AreOneMore (command : Command) (old new : Counts) : Type 0 where
   pub all : new.commands ≡ old.commands + 1
   pub lists : new.lists ≡ old.lists + cond (is_list command) 1 0
-  pub passes : new.passes ≡ old.passes + cond (is_pass command) 1 0
+  pub passes : new.passes ≡ old.passes + cond (is_bulkfree command) 1 0
   pub bytes : new.bytes ≡ old.bytes + asked command
 
 abbrev pub FitCounts : Counts → Type 0
@@ -30,8 +31,8 @@ all_more before command old new are more = more.all ∙ ap (λ n. n + 1) are.all
 lists_more : (before : List Command) (command : Command) (old new : Counts) → AreCounted before old → AreOneMore command old new → new.lists ≡ count_by is_list (before ++ command ∷ [])
 lists_more before command old new are more = more.lists ∙ ap (λ n. n + cond (is_list command) 1 0) are.lists ∙ sym (one_counted is_list before command)
 
-passes_more : (before : List Command) (command : Command) (old new : Counts) → AreCounted before old → AreOneMore command old new → new.passes ≡ count_by is_pass (before ++ command ∷ [])
-passes_more before command old new are more = more.passes ∙ ap (λ n. n + cond (is_pass command) 1 0) are.passes ∙ sym (one_counted is_pass before command)
+passes_more : (before : List Command) (command : Command) (old new : Counts) → AreCounted before old → AreOneMore command old new → new.passes ≡ count_by is_bulkfree (before ++ command ∷ [])
+passes_more before command old new are more = more.passes ∙ ap (λ n. n + cond (is_bulkfree command) 1 0) are.passes ∙ sym (one_counted is_bulkfree before command)
 
 bytes_more : (before : List Command) (command : Command) (old new : Counts) → AreCounted before old → AreOneMore command old new → new.bytes ≡ sum_by asked (before ++ command ∷ [])
 bytes_more before command old new are more = more.bytes ∙ ap (λ n. n + asked command) are.bytes ∙ sym (one_summed asked before command)

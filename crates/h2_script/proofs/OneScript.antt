@@ -11,7 +11,8 @@ use Rattle.h2_script.specs.declared.fault.LineFault.{LineFault}
 use Rattle.h2_script.specs.declared.fault.LineFault.TheVariants.{TooLong}
 use Rattle.h2_script.specs.declared.fault.ParseFault.TheVariants.{Script}
 use Rattle.h2_script.specs.Lines.{lines_of, SpellsLine, IsFaultOfLine}
-use Rattle.h2_script.specs.Scripts.{AreLines, AreFew, IsScript, IsOneTooMany, IsFirstFault, IsFaultOfScript, commands_of, phases_of, is_list, is_pass, asked}
+use Rattle.h2_command.specs.Commands.{is_bulkfree}
+use Rattle.h2_script.specs.Scripts.{AreLines, AreFew, IsScript, IsOneTooMany, IsFirstFault, IsFaultOfScript, commands_of, phases_of, is_list, asked}
 use Rattle.h2_script.proofs.OneLine.{one_line, no_fault_of_line, one_fault_of_line}
 use Rattle.h2_script.proofs.Phases.{Phase, commands_more}
 
@@ -34,7 +35,7 @@ few_front : (xs ys : List Command) → AreFew (xs ++ ys) → AreFew xs
 few_front xs ys few =
     let all = length-append xs ys in let n = few.few in
     let lists = front_count (λ c. cond (is_list c) 1 0) xs ys in let m = few.few_lists in
-    let passes = front_count (λ c. cond (is_pass c) 1 0) xs ys in let k = few.few_passes in
+    let passes = front_count (λ c. cond (is_bulkfree c) 1 0) xs ys in let k = few.few_passes in
     let bytes = front_count asked xs ys in let l = few.few_bytes in
     record { few = omega arith; few_lists = omega arith; few_passes = omega arith; few_bytes = omega arith }
 

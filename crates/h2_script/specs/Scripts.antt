@@ -2,7 +2,8 @@
 use Rattle.std.specs.Prelude.{◌≡◌, ◌⊎◌, ◌<◌, ◌≤◌, ◌+◌, ℕ, Bool, true, false, List, [], ◌∷◌, ◌++◌, length, count_by}
 use Rattle.std.specs.List.{onto_first, sum_by}
 use Rattle.h2_command.specs.declared.command.Command.{Command}
-use Rattle.h2_command.specs.declared.command.Command.TheVariants.{Ls, ReadAt, Bulkfree}
+use Rattle.h2_command.specs.declared.command.Command.TheVariants.{Ls, ReadAt}
+use Rattle.h2_command.specs.Commands.{is_bulkfree}
 use Rattle.h2_script.specs.declared.line.Line.{Line}
 use Rattle.h2_script.specs.declared.line.Line.TheVariants.{Skipped, PhaseEnd, Call}
 use Rattle.h2_script.specs.declared.fault.LineFault.{LineFault}
@@ -38,10 +39,6 @@ abbrev pub is_list : Command → Bool
 is_list (Ls path) = true
 is_list _ = false
 
-abbrev pub is_pass : Command → Bool
-is_pass Bulkfree = true
-is_pass _ = false
-
 -- how many bytes the command asks for
 abbrev pub asked : Command → ℕ
 asked (ReadAt handle off len) = len
@@ -51,7 +48,7 @@ asked _ = 0
 pub record AreFew (commands : List Command) : Type 0 where
   pub few : length commands ≤ 65536
   pub few_lists : count_by is_list commands ≤ 256
-  pub few_passes : count_by is_pass commands ≤ 1024
+  pub few_passes : count_by is_bulkfree commands ≤ 1024
   pub few_bytes : sum_by asked commands ≤ 67108864
 
 -- the bytes are the script

@@ -1,6 +1,7 @@
 ghost use Rattle.std.specs.Prelude.{◌≡◌, ◌+◌, ◌≤◌, ◌<◌, ◌↔◌, IsTrue, [], ◌∷◌, ◌++◌, List, cond, length, MatchOption};
 ghost use Rattle.h2_command.specs.declared.command.Command.{Command};
-ghost use Rattle.h2_script.specs.Scripts.{AreFew, is_list, is_pass, asked};
+ghost use Rattle.h2_command.specs.Commands.{is_bulkfree};
+ghost use Rattle.h2_script.specs.Scripts.{AreFew, is_list, asked};
 ghost use Rattle.h2_script.specs.Counts.{AreCounted};
 
 use h2_command::Command;
@@ -30,8 +31,8 @@ fn is_list(command: &Command) -> bool
     matches!(command, Command::Ls(_))
 }
 
-fn is_pass(command: &Command) -> bool
-    ensures { result ≡ is_pass command.now }
+fn is_bulkfree(command: &Command) -> bool
+    ensures { result ≡ is_bulkfree command.now }
 {
     matches!(command, Command::Bulkfree)
 }
@@ -90,7 +91,7 @@ impl Counts {
         let counts = Counts {
             commands: self.commands + 1,
             lists: one_more(self.lists, is_list(command)),
-            passes: one_more(self.passes, is_pass(command)),
+            passes: one_more(self.passes, is_bulkfree(command)),
             bytes: self.bytes + asked(command) as u64,
         };
         if !counts.is_few() {

@@ -5,7 +5,8 @@ ghost use Rattle.h2_set.specs.HeldTest.{passes_as_held};
 
 use h2_ref::{Kind, Ref};
 
-// Whether the reference is valid and names something.
+// Whether the reference is valid and names something. A function of its own for the proof: `is_held` states the same in
+// two ways, and each is proved of this answer, not of the two tests.
 fn is_valid_and_named(r: &Ref) -> bool
     ensures { IsTrue result ↔ IsHeld r.now }
 {

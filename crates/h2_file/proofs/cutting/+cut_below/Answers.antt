@@ -7,7 +7,8 @@ use Rattle.h2_set.specs.Forest.{refs}
 use Rattle.h2_set.specs.StayLaws.{Walks-trans}
 use Rattle.h2_file.specs.Cutting.{Cuts, CutsNodes, Remains}
 use Rattle.h2_file.specs.declared.cutting.Left.TheVariants.{Nothing, All, Something}
-use Rattle.h2_file.proofs.Answering.{always_err, beside_over, In-refl, In-on}
+use Rattle.h2_tree.specs.AnswerLaws.{always_err}
+use Rattle.h2_file.proofs.Answering.{beside_over, In-refl, In-on}
 use Rattle.h2_file.proofs.Altered.{contents_keep}
 use Rattle.h2_file.proofs.Parts.{all_past}
 use Rattle.h2_file.proofs.CutLevels.{readied_here, under_refl, cuts_front, ends_here, past_here, ends_in, past_in, last_fits, before_here, before_in, clear_here}

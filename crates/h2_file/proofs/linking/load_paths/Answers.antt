@@ -1,7 +1,7 @@
 use Rattle.std.proofs.Common.{arith}
 use Rattle.std.proofs.lemmas.Option.{slice_get_within}
 use Rattle.h2_set.specs.StayLaws.{Walks-refl, Walks-trans}
-use Rattle.h2_file.proofs.Answering.{always_err, beside_on, beside_same}
+use Rattle.h2_tree.specs.AnswerLaws.{always_err, beside_on, beside_same}
 use Rattle.h2_file.proofs.Loaded.{apart_refl, apart_on, Each-refl, each_on, one_loaded, unloaded_before, at_place, loaded_more}
 use Rattle.h2_file.proofs.Known.{good_before, carried_good}
 use Rattle.h2_file.proofs.linking.load_paths.Goals as goal

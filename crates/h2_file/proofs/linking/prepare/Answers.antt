@@ -1,5 +1,5 @@
 use Rattle.h2_set.specs.StayLaws.{Readies-unchanged, Unchanged-walks, Walks-trans}
-use Rattle.h2_file.proofs.Answering.{beside_on}
+use Rattle.h2_tree.specs.AnswerLaws.{beside_on}
 use Rattle.h2_file.proofs.Linked.{walked_readied}
 use Rattle.h2_file.proofs.Loaded.{apart_readied, each_on, none_loaded, loaded_on, readied_paths}
 use Rattle.h2_file.proofs.linking.prepare.Goals as goal

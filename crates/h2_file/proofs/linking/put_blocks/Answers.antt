@@ -1,7 +1,7 @@
 use Rattle.std.proofs.Common.{◌≡◌, arith, sym, ◌∙◌, subst, take, length}
 use Rattle.std.proofs.lemmas.List.{take_all}
 use Rattle.h2_file.specs.Linking.{PutsEach, none}
-use Rattle.h2_file.proofs.Answering.{beside_on, beside_same}
+use Rattle.h2_tree.specs.AnswerLaws.{beside_on, beside_same}
 use Rattle.h2_file.proofs.Altered.{contents_keep}
 use Rattle.h2_file.proofs.Loaded.{at_place}
 use Rattle.h2_file.proofs.Chained.{blocks_ordered, puts_all, puts_more, front_none, front_more, taken_length}
