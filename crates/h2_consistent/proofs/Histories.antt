@@ -1,5 +1,5 @@
 -- The forests of a history are consistent where the first one is.
-use Rattle.std.specs.Prelude.{◌≡◌, ℕ, List, [], ◌∷◌, take, Bool, true, false, cond, nat_eq, Option, Some, None}
+use Rattle.std.specs.Prelude.{◌≡◌, ℕ, List, [], ◌∷◌, take, Bool, true, false, cond, nat_eq, Some, None}
 use Rattle.std.proofs.Common.{subst}
 use Rattle.h2_command.specs.declared.history.Item.{Item}
 use Rattle.h2_command.specs.declared.history.Item.TheVariants.{Call, Mark as Marked}

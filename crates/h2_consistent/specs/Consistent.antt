@@ -1,4 +1,4 @@
--- A consistent PFS: its inodes and the entries of its directories agree, as mount asks of an image.
+-- A consistent PFS: its inodes and the entries of its directories agree.
 use Rattle.std.specs.Prelude.{◌≡◌, ◌≢◌, ℕ, zero, suc, List, Option, Some, None, IsSome, All}
 use Rattle.std.specs.FinMap.{get}
 use Rattle.h2_forest.specs.declared.pfs.Pfs.{Pfs}
