@@ -1,0 +1,9 @@
+mod Lookups
+mod Counting
+mod Agreeing
+mod Tables
+mod Names
+mod Commands
+mod Consistency
+mod Forests
+mod Histories
