@@ -1,5 +1,5 @@
 -- A disk that was written and synced, by which the definitions of power cuts are tried.
-use Rattle.std.specs.Prelude.{ℕ, [], ◌∷◌}
+use Rattle.std.specs.Prelude.{[], ◌∷◌}
 use Rattle.h2_num.specs.Places.{Places, places}
 use Rattle.h2_disk.specs.Trace.{Trace, Opened, Wrote, Synced}
 

@@ -1,7 +1,7 @@
-use Rattle.std.proofs.Common.{◌≡◌, ◌≤◌, ◌⊎◌, ◌<◌, ℕ, zero, suc, ◌+◌, [], ◌∷◌, length, arith, inl, inr, refl}
+use Rattle.std.proofs.Common.{◌≡◌, ◌≤◌, ◌⊎◌, ◌<◌, ℕ, zero, suc, [], ◌∷◌, arith, inl, inr, refl}
 use Rattle.h2_num.specs.Places.{Places, InRange, Holds, places}
-use Rattle.h2_disk.specs.Trace.{durable, IsWritten, IsChanged, MayLeave, LeftAt}
-use Rattle.h2_crash_rows.specs.Cuts.{zeros, image_synced, synced, unsynced, again}
+use Rattle.h2_disk.specs.Trace.{IsWritten, IsChanged, MayLeave}
+use Rattle.h2_crash_rows.specs.Cuts.{image_synced, unsynced, again}
 use Rattle.h2_crash_rows.proofs.cuts.worked_cuts_law.Goals as goal
 
 in_two : InRange 2 2 2
