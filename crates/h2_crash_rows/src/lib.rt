@@ -1,0 +1,10 @@
+//! Worked examples of what a power cut may leave of a disk and of a volume on it, as laws; nothing else. They show that
+//! the definitions of `h2_disk` and `h2_checkpoint` say on small values what was worked out by hand, of images that may
+//! be left as of those that can't.
+#![tactic(auto)]
+
+mod cuts;
+mod mounts;
+
+pub use cuts::{worked_cuts_law, worked_headers_law};
+pub use mounts::{worked_marks_law, worked_mounts_law, worked_plan_law};
