@@ -56,7 +56,7 @@ impl MemorySets {
     ghost use Rattle.std.specs.Prelude.{OnErr, OnOk, IfErr, ℕ, true, false, Some, None};
     ghost use Rattle.h2_ref.specs.declared.faults.Trouble.{Trouble};
     ghost use Rattle.h2_ref.specs.declared.faults.Why.{Why};
-    ghost use Rattle.h2_set.specs.Forest.{IsSound, Unchanged, HasCause, KeepsBeside};
+    ghost use Rattle.h2_set.specs.Forest.{IsSound, IsBad, MeetsNone, Unchanged, HasCause, KeepsBeside};
     ghost use Rattle.h2_memory_sets.specs.Seen.{forest_of, beside_seen, blocks_of, name_of, failing_load, spoiled_load, refused_spare};
     ghost use Rattle.h2_memory_sets.specs.Roots.{AddsRoot, AddsSuperRoot, HoldsRoot, BeginsEpoch, Unloads, UnloadsInodes};
 
@@ -245,7 +245,8 @@ impl MemorySets {
         ensures untold { IfErr result (λ e. (p : ℕ) (why : Why) → e ≡ Trouble.Bad p why → (spoiled_load self.old ≡ 1) ⊎ (name_of self.old place len ≡ None)) }
         ensures err { IfErr result (HasCause (forest_of self.old) (forest_of self.new)) }
         ensures place { IfErr result (λ e. (p : ℕ) (why : Why) → e ≡ Trouble.Bad p why → p ≡ place) }
-        ensures met { let f = forest_of self.old in let g = forest_of self.new in OnOk result (g.met ≡ f.met) }
+        ensures none_met { OnOk result (MeetsNone (forest_of self.old) (forest_of self.new)) }
+        ensures none_met_refused { IfErr result (λ e. (IsBad e → ⊥) → MeetsNone (forest_of self.old) (forest_of self.new)) }
         ensures beside { beside_seen self.new ≡ beside_seen self.old }
     {
         if is_due(&mut self.fault) {

@@ -263,7 +263,7 @@ pub record Loads (f g : Forest) (at k : ℕ) : Type 0 where
   pub link : (j : ℕ) → (j ≡ k → ⊥) → g.link at j ≡ f.link at j
   pub new : (m : ℕ) → g.stands m ≡ true → (f.stands m ≡ true) ⊎ (g.link at k ≡ loaded m)
 
--- nothing has changed, but for the two counts
+-- nothing has changed, but for the two counts and which bad block was met last
 pub record Unchanged (f g : Forest) : Type 0 where
   pub sound : IsSound g
   pub fixed : Fixed f g
@@ -272,7 +272,8 @@ pub record Unchanged (f g : Forest) : Type 0 where
   pub spare : g.spare ≡ f.spare
   pub room : g.room ≡ f.room
 
--- nothing but loads took place: indirect blocks have been loaded, and all else but the two counts is as before
+-- nothing but loads took place: indirect blocks have been loaded, and all else but the two counts and which bad block was
+-- met last is as before
 pub record Walks (f g : Forest) : Type 0 where
   pub sound : IsSound g
   pub fixed : Fixed f g
@@ -401,6 +402,10 @@ abbrev pub IsBad : Trouble → Type 0
 IsBad Failed = ⊥
 IsBad (Bad place why) = Unit {0}
 IsBad NoMemory = ⊥
+
+-- no bad block was met
+abbrev pub MeetsNone : Forest → Forest → Type 0
+MeetsNone f g = (g.bad ≡ f.bad) × (g.met ≡ f.met)
 
 -- the reference at place i leads further down
 pub record IsIndirectAt (rs : List Ref) (i : ℕ) : Type 0 where

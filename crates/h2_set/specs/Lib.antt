@@ -5,6 +5,7 @@ pub mod Forest
 pub mod EditLaws
 pub mod LeafLaws
 pub mod StayLaws
+pub mod MetLaws
 pub mod ChangeLaws
 pub mod PartLaws
 pub mod CutLaws

@@ -4,7 +4,7 @@ ghost use Rattle.h2_ref.specs.declared.reference.Dirent.{Dirent};
 ghost use Rattle.h2_ref.specs.declared.faults.Trouble.{Trouble};
 ghost use Rattle.h2_ref.specs.declared.faults.Why.{Why};
 ghost use Rattle.h2_ref.specs.Ref.{IsValid};
-ghost use Rattle.h2_set.specs.Forest.{Forest, refs, loaded, told, IsBad, IsSound, IsIndirectAt, Walks, HasCause, Alters, Storable, Stores, Loads, Unchanged, MadeFrom, Makes, ReadiesOnly, KeepsBeside};
+ghost use Rattle.h2_set.specs.Forest.{Forest, refs, loaded, told, IsBad, IsSound, IsIndirectAt, Walks, HasCause, MeetsNone, Alters, Storable, Stores, Loads, Unchanged, MadeFrom, Makes, ReadiesOnly, KeepsBeside};
 
 use crate::set::{Set, Split};
 use h2_num::{Bytes, NoMemory};
@@ -48,7 +48,8 @@ pub trait Sets {
     /// The node that the indirect reference at place `i` of the set leads to, loaded where it wasn't. No other node
     /// is loaded, and it isn't writable. Trouble only where it wasn't loaded: Failed where the disk failed, Bad with the
     /// reference's place where the block isn't one of this tree, which is never so of a block whose leaves are told. After
-    /// it nothing but the two counts and the last bad block that was met has changed.
+    /// it nothing but the two counts and the last bad block that was met has changed. A bad block is met only where the
+    /// answer is Bad.
     fn child(&mut self, alloc: Global, at: NodeId, i: usize) -> Result<NodeId, Trouble>
         requires sound { IsSound (forest self.old) }
         requires stands { let f = forest self.old in f.stands at.0 ≡ true }
@@ -60,7 +61,8 @@ pub trait Sets {
         ensures err { IfErr result (HasCause (forest self.old) (forest self.new)) }
         ensures unloaded { let f = forest self.old in OnErr result ((r : Ref) (c : ℕ) → slice_get (refs f at.0) i ≡ Some r → f.link at.0 r.key ≡ loaded c → ⊥) }
         ensures place { let f = forest self.old in IfErr result (λ e. (r : Ref) (place : ℕ) (why : Why) → slice_get (refs f at.0) i ≡ Some r → e ≡ Trouble.Bad place why → place ≡ r.place) }
-        ensures met { let f = forest self.old in let g = forest self.new in OnOk result (g.met ≡ f.met) }
+        ensures none_met { OnOk result (MeetsNone (forest self.old) (forest self.new)) }
+        ensures none_met_refused { IfErr result (λ e. (IsBad e → ⊥) → MeetsNone (forest self.old) (forest self.new)) }
         ensures good { let f = forest self.old in IfErr result (λ e. (r : Ref) (l : List Ref) → slice_get (refs f at.0) i ≡ Some r → f.link at.0 r.key ≡ told l → IsBad e → ⊥) }
         ensures beside { KeepsBeside (forest self.old) (forest self.new) (beside self.old) (beside self.new) }
         ensures later { later self.old self.new };
@@ -111,9 +113,10 @@ pub trait Sets {
         ensures beside { KeepsBeside (forest self.old) (forest self.new) (beside self.old) (beside self.new) }
         ensures later { later self.old self.new };
 
-    /// The name of a directory's entry, as long as the entry says. Nothing but the two counts changes. Trouble only from
-    /// a load or want of memory in this call, and a name of at most 64 bytes, which stands in its entry, needs no load;
-    /// the block of a name that is told is never bad.
+    /// The name of a directory's entry, as long as the entry says. Nothing but the two counts and the last bad block that
+    /// was met changes. Trouble only from a load or want of memory in this call, and a name of at most 64 bytes, which
+    /// stands in its entry, needs no load; the block of a name that is told is never bad. A bad block is met only where
+    /// the answer is Bad.
     fn name(&mut self, alloc: Global, r: &Ref) -> Result<Bytes, Trouble>
         requires sound { IsSound (forest self.old) }
         requires valid { IsValid r.now }
@@ -124,7 +127,8 @@ pub trait Sets {
         ensures long { IfOk result (λ b. (d : Dirent) → r.now.dirent ≡ Some d → length b ≡ d.len) }
         ensures err { IfErr result (HasCause (forest self.old) (forest self.new)) }
         ensures place { IfErr result (λ e. (place : ℕ) (why : Why) → e ≡ Trouble.Bad place why → place ≡ r.now.place) }
-        ensures met { let f = forest self.old in let g = forest self.new in OnOk result (g.met ≡ f.met) }
+        ensures none_met { OnOk result (MeetsNone (forest self.old) (forest self.new)) }
+        ensures none_met_refused { IfErr result (λ e. (IsBad e → ⊥) → MeetsNone (forest self.old) (forest self.new)) }
         ensures good { let f = forest self.old in IfErr result (λ e. (name : List ℕ) → f.name r.now ≡ Some name → IsBad e → ⊥) }
         ensures unread { IfErr result (λ e. (d : Dirent) → r.now.dirent ≡ Some d → d.len ≤ 64 → e ≡ Trouble.NoMemory) }
         ensures beside { KeepsBeside (forest self.old) (forest self.new) (beside self.old) (beside self.new) }
