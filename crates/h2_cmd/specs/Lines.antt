@@ -4,12 +4,15 @@ use Rattle.std.specs.Fmt.{decimal}
 use Rattle.h2_num.specs.Causes.{Rose}
 use Rattle.h2_io.specs.Sink.{GrowsByFront}
 
+-- the byte at which a line ends
 abbrev pub line_feed : List ℕ
 line_feed = 10 ∷ []
 
+-- the line that is printed where the words ask for nothing
 abbrev pub usage_line : List ℕ
 usage_line = codes "usage: h2 COMMAND IMAGE [ARGUMENTS]" ++ line_feed
 
+-- the line that is printed where the disk failed
 abbrev pub disk_fault_line : List ℕ
 disk_fault_line = codes "disk fault" ++ line_feed
 

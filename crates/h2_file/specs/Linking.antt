@@ -69,6 +69,7 @@ pub record PathMissing (f : Forest) (at : ℕ) (rs : List Ref) : Type 0 where
 
 -- The changes
 
+-- the set of an inode's body with no reference in it
 abbrev pub empty_set : RefSet
 empty_set = record { refs = []; capacity = 4 }
 

@@ -29,9 +29,11 @@ abbrev pub first_from : (Pfs → Bool) → ℕ → List Pfs → Option (ℕ × P
 first_from test i [] = None
 first_from test i (p ∷ ps) = cond (test p) (Some (i, p)) (first_from test (i + 1) ps)
 
+-- the first PFS with a name, with its place in the list
 abbrev pub pfs_named : List ℕ → List Pfs → Option (ℕ × Pfs)
 pfs_named name pfss = first_from (λ p. pointwise nat_eq p.name name) 0 pfss
 
+-- the first PFS with an id, with its place in the list
 abbrev pub pfs_with_id : ℕ → List Pfs → Option (ℕ × Pfs)
 pfs_with_id id pfss = first_from (λ p. nat_eq p.id id) 0 pfss
 
@@ -50,6 +52,7 @@ abbrev pub opened_in : PlainForest → Option (ℕ × ℕ) → Option (ℕ × (P
 opened_in f (Some (id, inode)) = elim (pfs_with_id id f.pfss) [ Some found ↦ Some (found.0, (found.1, inode)) | None ↦ None ]
 opened_in f None = None
 
+-- the file behind a client's handle with a number
 abbrev pub opened : PlainForest → ℕ → ℕ → Option (ℕ × (Pfs × ℕ))
 opened f client number = opened_in f (get f.handles (client, number))
 
@@ -77,6 +80,7 @@ write_reply f file off new =
     refuse f (nat_eq (length new) 0) (Wrote 0)
     (Wrote (length new), with_file f here (λ bytes. written_at bytes off new))))
 
+-- cut: the file has exactly this many bytes
 abbrev pub cut_reply : PlainForest → Option (ℕ × (Pfs × ℕ)) → ℕ → Reply × PlainForest
 cut_reply f file size =
     given f file NoHandle (λ here.
@@ -91,9 +95,11 @@ with_pfs f name next table = record f { next_pfs = f.next_pfs + 1; pfss = f.pfss
 abbrev pub bare_table : Table
 bare_table = map.insert map.empty 1 (Directory map.empty)
 
+-- no more PFSs fit in
 abbrev pub is_crowded : PlainForest → Bool
 is_crowded f = nat_le 64 (length f.pfss)
 
+-- snapshot: one more PFS with the table of another, but for the files that have no link
 abbrev pub snapshot_reply : PlainForest → List ℕ → List ℕ → Reply × PlainForest
 snapshot_reply f source name =
     given f (pfs_named source f.pfss) NoPfs (λ found.
@@ -101,12 +107,14 @@ snapshot_reply f source name =
     refuse f (is_crowded f) Full
     (Done, with_pfs f name found.1.next (without_orphans found.1.table (λ n. false)))))
 
+-- create a PFS: one more, with an empty root directory
 abbrev pub create_reply : PlainForest → List ℕ → Reply × PlainForest
 create_reply f name =
     refuse f (is_some (pfs_named name f.pfss)) Exists (
     refuse f (is_crowded f) Full
     (Done, with_pfs f name 2 bare_table))
 
+-- delete a PFS, in which no handle is open
 abbrev pub delete_reply : PlainForest → List ℕ → Reply × PlainForest
 delete_reply f name =
     given f (pfs_named name f.pfss) NoPfs (λ found.
@@ -143,6 +151,7 @@ is_named handles id inode = list_any (λ at. nat_eq at.0 id && nat_eq at.1 inode
 abbrev pub trimmed : Handles → Pfs → Pfs
 trimmed handles p = record p { table = without_orphans p.table (is_named handles p.id) }
 
+-- each PFS without the files that have no link and that no handle names
 abbrev pub trim : PlainForest → PlainForest
 trim f = record f { pfss = map {A = Pfs} {B = Pfs} (trimmed f.handles) f.pfss }
 

@@ -54,6 +54,7 @@ StandsFor command reply due = MatchBool (is_bulkfree command && is_bulk reply) (
 abbrev pub IsRightEntry : PlainForest → Entry → Type 0
 IsRightEntry f e = (is_outside e.reply ≡ true) ⊎ StandsFor e.command e.reply (answer f e.client e.command).0
 
+-- an entry has a right reply; of a mark nothing is asked
 abbrev pub IsRight : PlainForest → Item → Type 0
 IsRight f (Call e) = IsRightEntry f e
 IsRight f (Marked m) = Unit {0}
@@ -67,6 +68,7 @@ abbrev pub io_reply : Reply → Option (ℕ × ℕ)
 io_reply (Io before after) = Some (before, after)
 io_reply _ = None
 
+-- the two counts of an item, where it is an entry with an Io
 abbrev pub io_of : Item → Option (ℕ × ℕ)
 io_of (Call e) = io_reply e.reply
 io_of (Marked m) = None
@@ -76,6 +78,7 @@ abbrev pub IsRise : ℕ → Option (ℕ × ℕ) → Type 0
 IsRise floor (Some counts) = (floor ≤ counts.0) × ((counts.0 < counts.1) ⊎ (counts.1 ≡ 2 ^ 64 - 1))
 IsRise floor None = Unit {0}
 
+-- the count to which an Io leaves it risen
 abbrev pub risen : ℕ → Option (ℕ × ℕ) → ℕ
 risen floor (Some counts) = max floor counts.1
 risen floor None = floor
@@ -89,10 +92,12 @@ abbrev pub index_of : ℕ → Item → Option ℕ
 index_of client (Call e) = cond (nat_eq e.client client) (Some e.index) None
 index_of client (Marked m) = None
 
+-- an index is the next one
 abbrev pub IsCounted : ℕ → Option ℕ → Type 0
 IsCounted next (Some index) = index ≡ next
 IsCounted next None = Unit {0}
 
+-- the index that comes next
 abbrev pub counted : ℕ → Option ℕ → ℕ
 counted next (Some index) = index + 1
 counted next None = next
@@ -113,14 +118,17 @@ mark_moment (HeaderOut number moment) = Some moment
 mark_moment (HeaderDone number moment) = Some moment
 mark_moment _ = None
 
+-- the moment of an item, where it is a mark that has one
 abbrev pub moment_of : Item → Option ℕ
 moment_of (Call e) = None
 moment_of (Marked m) = mark_moment m
 
+-- a number isn't below the last one
 abbrev pub IsFrom : ℕ → Option ℕ → Type 0
 IsFrom low (Some n) = low ≤ n
 IsFrom low None = Unit {0}
 
+-- the last number, after one more item
 abbrev pub or_later : ℕ → Option ℕ → ℕ
 or_later low (Some n) = n
 or_later low None = low
@@ -137,16 +145,19 @@ IsFlushStep flush (HeaderOut number moment) = ¬ (flush.stage ≡ Durable) × (n
 IsFlushStep flush (HeaderDone number moment) = (flush.stage ≡ Out) × (number ≡ flush.number)
 IsFlushStep flush _ = Unit {0}
 
+-- the flush after a mark
 abbrev pub flush_step : Flush → Mark → Flush
 flush_step flush (Freeze number moment) = record { number = number; stage = Frozen }
 flush_step flush (HeaderOut number moment) = record flush { stage = Out }
 flush_step flush (HeaderDone number moment) = record flush { stage = Durable }
 flush_step flush _ = flush
 
+-- a mark may come at this stage of the flush; of an entry nothing is asked
 abbrev pub IsFlushItem : Flush → Item → Type 0
 IsFlushItem flush (Call e) = Unit {0}
 IsFlushItem flush (Marked m) = IsFlushStep flush m
 
+-- the flush after an item
 abbrev pub after_flush_item : Flush → Item → Flush
 after_flush_item flush (Call e) = flush
 after_flush_item flush (Marked m) = flush_step flush m
@@ -160,14 +171,17 @@ abbrev pub durable_mark : List ℕ → Mark → List ℕ
 durable_mark numbers (HeaderDone number moment) = numbers ++ number ∷ []
 durable_mark numbers _ = numbers
 
+-- the durable numbers after an item
 abbrev pub after_durable : List ℕ → Item → List ℕ
 after_durable numbers (Call e) = numbers
 after_durable numbers (Marked m) = durable_mark numbers m
 
+-- a scan is that of a header that became durable
 abbrev pub IsScanOf : List ℕ → Mark → Type 0
 IsScanOf numbers (ScanBegin number) = list_any (λ n. nat_eq n number) numbers ≡ true
 IsScanOf numbers _ = Unit {0}
 
+-- so is the scan that an item begins, if it begins one
 abbrev pub IsLateScan : List ℕ → Item → Type 0
 IsLateScan numbers (Call e) = Unit {0}
 IsLateScan numbers (Marked m) = IsScanOf numbers m
@@ -191,20 +205,24 @@ abbrev pub AreSums : ℕ → ℕ → ℕ → Pass → Type 0
 AreSums segments staged freed Idle = ⊥
 AreSums segments staged freed (Scanned applied s f) = (applied ≡ segments) × ((staged ≡ s) × (freed ≡ f))
 
+-- the pass with one more segment applied
 abbrev pub with_applied : Pass → ℕ → ℕ → Pass
 with_applied Idle staged freed = Idle
 with_applied (Scanned applied s f) staged freed = Scanned (applied + 1) (s + staged) (f + freed)
 
+-- a mark may come at this point of the passes
 abbrev pub IsPassMark : ℕ → Pass → Mark → Type 0
 IsPassMark segments p (ScanBegin number) = HasEnded segments p
 IsPassMark segments p (Applied segment staged freed) = IsNext segments segment p
 IsPassMark segments p _ = Unit {0}
 
+-- the pass after a mark
 abbrev pub after_pass_mark : Pass → Mark → Pass
 after_pass_mark p (ScanBegin number) = Scanned 0 0 0
 after_pass_mark p (Applied segment staged freed) = with_applied p staged freed
 after_pass_mark p _ = p
 
+-- a pass that is given up has applied no segment
 abbrev pub HasAppliedNone : Pass → Type 0
 HasAppliedNone Idle = Unit {0}
 HasAppliedNone (Scanned applied staged freed) = applied ≡ 0
@@ -216,6 +234,7 @@ reply_outcome (Io before after) = GivenUp
 reply_outcome (BadBlock place why) = GivenUp
 reply_outcome _ = Pending
 
+-- what an entry says of the pass: only a bulkfree says something
 abbrev pub outcome_of : Entry → Outcome
 outcome_of e = cond (is_bulkfree e.command) (reply_outcome e.reply) Pending
 
@@ -231,10 +250,12 @@ after_outcome p Pending = p
 after_outcome p GivenUp = Idle
 after_outcome p (Complete staged freed) = Idle
 
+-- an item may come at this point of the passes
 abbrev pub IsPassItem : ℕ → Pass → Item → Type 0
 IsPassItem segments p (Call e) = IsOutcome segments p (outcome_of e)
 IsPassItem segments p (Marked m) = IsPassMark segments p m
 
+-- the pass after an item
 abbrev pub after_pass_item : Pass → Item → Pass
 after_pass_item p (Call e) = after_outcome p (outcome_of e)
 after_pass_item p (Marked m) = after_pass_mark p m

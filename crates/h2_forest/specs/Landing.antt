@@ -13,6 +13,7 @@ abbrev pub newest_mark : ℕ → ℕ → Mark → ℕ
 newest_mark moment n (HeaderDone number at) = cond (nat_le at moment) (max n number) n
 newest_mark moment n _ = n
 
+-- the newest header that is durable, after one more item
 abbrev pub newest_item : ℕ → ℕ → Item → ℕ
 newest_item moment n (Call e) = n
 newest_item moment n (Marked m) = newest_mark moment n m
@@ -21,10 +22,12 @@ newest_item moment n (Marked m) = newest_mark moment n m
 abbrev pub durable_by : ℕ → ℕ → List Item → ℕ
 durable_by moment opened h = after (newest_item moment) opened h
 
+-- the mark says that a write of the header with a number had begun by a moment
 abbrev pub is_out_mark : ℕ → ℕ → Mark → Bool
 is_out_mark moment n (HeaderOut number at) = nat_eq number n && nat_le at moment
 is_out_mark moment n _ = false
 
+-- so does the item
 abbrev pub is_out_item : ℕ → ℕ → Item → Bool
 is_out_item moment n (Call e) = false
 is_out_item moment n (Marked m) = is_out_mark moment n m
@@ -37,10 +40,12 @@ is_out_by moment n h = list_any (is_out_item moment n) h
 abbrev pub IsLanding : ℕ → List Item → ℕ → ℕ → Type 0
 IsLanding opened h moment n = (n ≡ durable_by moment opened h) ⊎ ((n ≡ durable_by moment opened h + 1) × (is_out_by moment n h ≡ true))
 
+-- the mark is the Freeze with a number
 abbrev pub is_freeze_mark : ℕ → Mark → Bool
 is_freeze_mark n (Freeze number moment) = nat_eq number n
 is_freeze_mark n _ = false
 
+-- so is the item
 abbrev pub is_freeze : ℕ → Item → Bool
 is_freeze n (Call e) = false
 is_freeze n (Marked m) = is_freeze_mark n m

@@ -14,6 +14,7 @@ use Rattle.h2_forest.specs.Steps.{on, given, refuse}
 abbrev pub front : List (List ℕ) → List (List ℕ)
 front names = take (length names - 1) names
 
+-- the last one of the names
 abbrev pub last : List (List ℕ) → List ℕ
 last names = slice_index_or names (length names - 1) []
 
@@ -76,6 +77,7 @@ abbrev pub listed_as : Option Entries → Reply
 listed_as (Some entries) = Listed (keys entries)
 listed_as None = NotDir
 
+-- ls: the names in a directory
 abbrev pub listed : Pfs → List (List ℕ) → Reply
 listed pfs names = elim (walk pfs.table 1 names) [ Ok number ↦ listed_as (entries_at pfs.table number) | Err refusal ↦ refusal ]
 
@@ -85,5 +87,6 @@ stated_as number (Some (File bytes links)) = FileIs number links (length bytes)
 stated_as number (Some (Directory entries)) = Dir number (len entries)
 stated_as number None = NoEntry
 
+-- stat: what is told of an inode
 abbrev pub stated : Pfs → List (List ℕ) → Reply
 stated pfs names = elim (walk pfs.table 1 names) [ Ok number ↦ stated_as number (get pfs.table number) | Err refusal ↦ refusal ]

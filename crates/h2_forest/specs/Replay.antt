@@ -6,6 +6,7 @@ use Rattle.h2_forest.specs.declared.replay_result.Replay.TheVariants.{Same, Diff
 use Rattle.h2_forest.specs.Forest.{PlainForest}
 use Rattle.h2_forest.specs.History.{RepliesAreRight, IsRight, forest_at}
 
+-- there is an item, and its reply isn't right
 abbrev pub IsWrong : PlainForest → Option Item → Type 0
 IsWrong f (Some x) = ¬ (IsRight f x)
 IsWrong f None = ⊥

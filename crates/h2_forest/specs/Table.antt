@@ -18,6 +18,7 @@ entries_of (Some (Directory entries)) = Some entries
 entries_of (Some (File bytes links)) = None
 entries_of None = None
 
+-- the entries of the directory with a number
 abbrev pub entries_at : Table → ℕ → Option Entries
 entries_at t n = entries_of (get t n)
 
@@ -50,6 +51,7 @@ abbrev pub with_links : ℕ → Node → Node
 with_links links (File bytes old) = File bytes links
 with_links links (Directory entries) = Directory entries
 
+-- the table with another number of links of a file
 abbrev pub relinked : Table → ℕ → ℕ → Table
 relinked t n links = changed_node t n (get t n) (with_links links)
 
@@ -58,6 +60,7 @@ abbrev pub found : Option ℕ → Result ℕ Reply
 found (Some number) = Ok number
 found None = Err NoEntry
 
+-- what a name is in the entries of an inode, if it is a directory
 abbrev pub looked_up : Option Entries → List ℕ → Result ℕ Reply
 looked_up (Some entries) name = found (get entries name)
 looked_up None name = Err NotDir
@@ -83,6 +86,7 @@ abbrev pub with_bytes : (List ℕ → List ℕ) → Node → Node
 with_bytes change (File bytes links) = File (change bytes) links
 with_bytes change (Directory entries) = Directory entries
 
+-- the table with other bytes of a file
 abbrev pub rewritten : Table → ℕ → (List ℕ → List ℕ) → Table
 rewritten t n change = changed_node t n (get t n) (with_bytes change)
 

@@ -36,6 +36,7 @@ asked_from phase done (lines ∷ phases) = asked_in phase done lines ++ asked_fr
 abbrev pub entry_asked : Entry → Asked
 entry_asked e = record { phase = e.phase; client = e.client; index = e.index; command = e.command }
 
+-- the entries among the items, without their replies
 abbrev pub called : List Item → List Asked
 called [] = []
 called (Call e ∷ h) = entry_asked e ∷ called h

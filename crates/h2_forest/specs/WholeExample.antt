@@ -7,6 +7,7 @@ use Rattle.h2_command.specs.declared.history.Item.TheVariants.{Call, Mark as Mar
 use Rattle.h2_command.specs.declared.history.Mark.TheVariants.{ScanBegin}
 use Rattle.h2_forest.specs.Whole.{Asked, Script}
 
+-- two clients give three commands in the first phase, and two in the second
 abbrev pub two_phases : Script
 two_phases = ((0, Sync) ∷ (3, Bulkfree) ∷ (0, PfsList) ∷ []) ∷ ((3, Sync) ∷ (0, Close 1) ∷ []) ∷ []
 

@@ -29,6 +29,7 @@ use Rattle.h2_freemap_ledger.specs.Laws.{TakeMoves, TakeIsGranted, AdoptMoves, A
 
 -- The sizes of the two agree
 
+-- the cursor in a chunk, behind so many bytes
 abbrev cursor : ℕ → ℕ → Option Cursor
 cursor chunk used = Some (record { chunk = chunk; used = used })
 

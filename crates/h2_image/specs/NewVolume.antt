@@ -22,9 +22,11 @@ use Rattle.h2_image.specs.NewBlocks.{RootDirectoryBytes, RootPfsBytes}
 abbrev pub inode_chunk : ℕ
 inode_chunk = 256
 
+-- the place of the root directory's block: the chunk's first 1 KiB
 abbrev pub directory_place : ℕ
 directory_place = 4194304
 
+-- the place of the PFS's block: the 1 KiB behind that
 abbrev pub pfs_place : ℕ
 pfs_place = 4195328
 
@@ -32,6 +34,7 @@ pfs_place = 4195328
 abbrev pub inode_ref : ℕ → Places → Ref
 inode_ref place block = record { kind = Inode; key = 1; keybits = 0; place = place; radix = 10; id = 1; check = Xx (xxh64_of block 1024); dirent = None }
 
+-- the four references of the super-root: one to the PFS, and three empty ones
 abbrev pub new_root : Places → List Ref
 new_root pfs = inode_ref pfs_place pfs ∷ empty_ref ∷ empty_ref ∷ empty_ref ∷ []
 
@@ -62,6 +65,7 @@ pub record LeadToNewCodes (image : Places) (zones : ℕ) (map : List Ref) : Type
 abbrev pub directory_block : Places → Places
 directory_block image = from_place image directory_place
 
+-- the block of the PFS in an image
 abbrev pub pfs_block : Places → Places
 pfs_block image = from_place image pfs_place
 

@@ -113,6 +113,7 @@ pfs_names_same a b p q same pfs h = subst (λ (r : Ref). RootPfsBytes r q) (sym 
 
 -- All its blocks are reached
 
+-- all references in a header
 abbrev pub roots_of : Header → List Ref
 roots_of h = h.root ++ h.map
 

@@ -39,6 +39,7 @@ body_number kind size (Bytes bytes) h = h.0
 abbrev number_if : Bool → ℕ
 number_if t = if t then 1 else 0
 
+-- where the zeros begin in the body, by whether bytes stand there
 abbrev from_if : Bool → ℕ → ℕ
 from_if t size = if t then 512 + size else 1024
 

@@ -34,21 +34,27 @@ zeros_from Pfs size = 1024
 
 -- The rules in their order, each for bytes that begin with the kind
 
+-- the number of the body is that of the kind at this size
 abbrev pub HasBody : InodeKind → Places → Type 0
 HasBody kind b = b 1 ≡ body_of kind (number_at b 16 8)
 
+-- the links are as many as the kind may have
 abbrev pub HasLinks : InodeKind → Places → Type 0
 HasLinks kind b = InSpan (limits_of kind).links (number_at b 4 4)
 
+-- the number is one of an inode or a PFS
 abbrev pub HasNumber : Places → Type 0
 HasNumber b = InSpan numbers (number_at b 8 8)
 
+-- the size is one that the kind may have
 abbrev pub HasSize : InodeKind → Places → Type 0
 HasSize kind b = InSpan (limits_of kind).sizes (number_at b 16 8)
 
+-- the next inode number is one that the kind may have
 abbrev pub HasNext : InodeKind → Places → Type 0
 HasNext kind b = InSpan (limits_of kind).nexts (number_at b 24 8)
 
+-- a name stands there that the kind may have
 abbrev pub HasNameOf : InodeKind → Places → Type 0
 HasNameOf kind b = (name : List ℕ) × HasName name b × IsNameOf kind name
 
@@ -77,21 +83,27 @@ pub record HeadFits (kind : InodeKind) (name : List ℕ) (b : Places) : Type 0 w
 
 -- The first of them that doesn't hold
 
+-- the rules before the links hold
 abbrev pub ToLinks : InodeKind → Places → Type 0
 ToLinks kind b = HasBody kind b
 
+-- the rules before the number hold
 abbrev pub ToNumber : InodeKind → Places → Type 0
 ToNumber kind b = ToLinks kind b × HasLinks kind b
 
+-- the rules before the size hold
 abbrev pub ToSize : InodeKind → Places → Type 0
 ToSize kind b = ToNumber kind b × HasNumber b
 
+-- the rules before the next inode number hold
 abbrev pub ToNext : InodeKind → Places → Type 0
 ToNext kind b = ToSize kind b × HasSize kind b
 
+-- the rules before the name hold
 abbrev pub ToName : InodeKind → Places → Type 0
 ToName kind b = ToNext kind b × HasNext kind b
 
+-- the rules before the zeros hold
 abbrev pub ToPadding : InodeKind → Places → Type 0
 ToPadding kind b = ToName kind b × HasNameOf kind b
 

@@ -23,6 +23,7 @@ keys_from Directory = 2 ^ 63
 keys_from File = 0
 keys_from Pfs = 0
 
+-- where the keys of the trees of a kind end
 abbrev pub keys_end : InodeKind → ℕ
 keys_end Directory = 2 ^ 64
 keys_end File = 2 ^ 62

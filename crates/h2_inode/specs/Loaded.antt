@@ -63,6 +63,7 @@ pub record View : Type 0 where
 abbrev pub view_of : {B : Type 0} → (B → Option Fields) → Forest → (ℕ → B) → (Ref → Option Told) → View
 view_of fields f beside tells = record { forest = f; holds = held_by fields beside; tells = tells }
 
+-- the reading of loaded nodes by a view, with the contents of blocks
 abbrev pub reading : View → (Ref → Places → Type 0) → Access
 reading v Content = loaded_nodes v.forest v.holds v.tells Content
 

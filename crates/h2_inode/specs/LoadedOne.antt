@@ -11,11 +11,13 @@ use Rattle.h2_inode.specs.Single.{IsSingle}
 use Rattle.h2_inode.specs.NamedLaws.{inode_one}
 use Rattle.h2_inode.specs.Loaded.{Tree, at_root, of_leaves, HasAsLeaves, IsTold, NamesInode, View, reading, BlocksOne}
 
+-- the node of a link, or another one where none is loaded
 abbrev loaded_node : ℕ → Link → ℕ
 loaded_node d (loaded c) = c
 loaded_node d (told l) = d
 loaded_node d untold = d
 
+-- the leaves of a link, or others where none are told
 abbrev told_leaves : List Ref → Link → List Ref
 told_leaves d (loaded c) = d
 told_leaves d (told l) = l

@@ -92,6 +92,7 @@ makes_one f g at c set split sound stood names h = rootless_one f g names h.soun
 
 module _ (f g : Forest) (top key c : ℕ) (sound : IsSound f) (names : NamesOne f) (brings : Brings f g c) (only : f.stands c ≡ false → (t k : ℕ) → IsNamed g t k c → (t ≡ top) × (k ≡ key))
     (this : (d : ℕ) → IsNamed g top key d → d ≡ c) where
+  -- the forest as a view in which no root holds an inode and nothing is told
   abbrev seen : Forest → View
   seen x = record { forest = x; holds = λ m. None; tells = λ r. None }
 

@@ -28,10 +28,12 @@ pub record Fields : Type 0 where
   pub name : List ℕ
   pub bytes : Option (List ℕ)
 
+-- the bytes of a body that is bytes
 abbrev pub bytes_of : Body → Option (List ℕ)
 bytes_of (Refs s) = None
 bytes_of (Bytes bytes) = Some bytes
 
+-- the fields of an inode
 abbrev pub fields_of : Inode → Fields
 fields_of i = record { kind = i.kind; number = i.number; size = i.size; links = i.links; next = i.next; name = i.name; bytes = bytes_of i.body }
 
@@ -52,6 +54,7 @@ leaf_kind Directory = Dirent
 leaf_kind File = Content
 leaf_kind Pfs = Inode_kind
 
+-- the keybits of the leaves, by the kind of the inode
 abbrev pub leaf_keybits : InodeKind → ℕ
 leaf_keybits Directory = 0
 leaf_keybits File = 14

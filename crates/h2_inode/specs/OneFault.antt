@@ -73,24 +73,31 @@ of_refs_one c f g (unshaped h) (unshaped k) = refl
 
 -- the rules in their order, for bytes that begin with the kind
 
+-- the rule of zeros, and those behind it
 abbrev FromPadding : InodeKind → Places → InodeFault → Type 0
 FromPadding kind b = InOrder (IsPadded kind b) (IsPadding kind b) (OfRefs (from_place b 512))
 
+-- the rule of the name, and those behind it
 abbrev FromName : InodeKind → Places → InodeFault → Type 0
 FromName kind b = InOrder (HasNameOf kind b) (Just Name) (FromPadding kind b)
 
+-- the rule of the next inode number, and those behind it
 abbrev FromNext : InodeKind → Places → InodeFault → Type 0
 FromNext kind b = InOrder (HasNext kind b) (Just Next) (FromName kind b)
 
+-- the rule of the size, and those behind it
 abbrev FromSize : InodeKind → Places → InodeFault → Type 0
 FromSize kind b = InOrder (HasSize kind b) (Just (Size (number_at b 16 8))) (FromNext kind b)
 
+-- the rule of the number, and those behind it
 abbrev FromNumber : InodeKind → Places → InodeFault → Type 0
 FromNumber kind b = InOrder (HasNumber b) (Just Number) (FromSize kind b)
 
+-- the rule of the links, and those behind it
 abbrev FromLinks : InodeKind → Places → InodeFault → Type 0
 FromLinks kind b = InOrder (HasLinks kind b) (Just (Links (number_at b 4 4))) (FromNumber kind b)
 
+-- all rules, from that of the body on
 abbrev FromBody : InodeKind → Places → InodeFault → Type 0
 FromBody kind b = InOrder (HasBody kind b) (Just Body) (FromLinks kind b)
 

@@ -2,6 +2,7 @@
 use Rattle.std.specs.Prelude.{ℕ, zero, suc, List, Option, Some, None}
 use Rattle.h2_io.specs.declared.memory.MemSink.{MemSink}
 
+-- the bytes that it took
 abbrev pub bytes_of : MemSink → List ℕ
 bytes_of sink = sink.bytes.items
 
@@ -9,6 +10,7 @@ bytes_of sink = sink.bytes.items
 abbrev pub until_fault : MemSink → Option ℕ
 until_fault sink = sink.until_fault
 
+-- how often it failed
 abbrev pub faults_of : MemSink → ℕ
 faults_of sink = sink.faults
 

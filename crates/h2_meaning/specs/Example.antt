@@ -21,9 +21,11 @@ use Rattle.h2_meaning.specs.Image.{block}
 abbrev pub first_inode : ℕ → ℕ → Ref
 first_inode place check = record { kind = Inode_kind; key = 1; keybits = 0; place = place; radix = 10; id = 1; check = Xx check; dirent = None }
 
+-- the leaf of inode or PFS 1, wherever its block lies
 abbrev pub inode_leaf : Ref
 inode_leaf = first_inode 4194304 0
 
+-- the leaves of a tree: the first two trees have one each
 abbrev pub leaves_at : ℕ → List Ref
 leaves_at t = cond (nat_lt t 2) (inode_leaf ∷ []) []
 
@@ -31,6 +33,7 @@ leaves_at t = cond (nat_lt t 2) (inode_leaf ∷ []) []
 abbrev pub pfs_over : Ref → Inode
 pfs_over directory = record { kind = Pfs_kind; number = 1; size = 0; links = 1; next = 2; name = 82 ∷ 79 ∷ 79 ∷ 84 ∷ []; body = Refs (record { refs = directory ∷ []; capacity = 4 }) }
 
+-- the PFS with a leaf for its root directory
 abbrev pub pfs_inode : Inode
 pfs_inode = pfs_over inode_leaf
 
@@ -38,6 +41,7 @@ pfs_inode = pfs_over inode_leaf
 abbrev pub listed_root : ListedPfs
 listed_root = record { id = 1; name = 82 ∷ 79 ∷ 79 ∷ 84 ∷ []; next = 2 }
 
+-- the root directory, without entries
 abbrev pub root_inode : Inode
 root_inode = record { kind = Directory_kind; number = 1; size = 0; links = 1; next = 0; name = []; body = Refs (record { refs = []; capacity = 4 }) }
 
@@ -45,6 +49,7 @@ root_inode = record { kind = Directory_kind; number = 1; size = 0; links = 1; ne
 abbrev pub inode_at : ℕ → Inode
 inode_at t = cond (nat_eq t 0) pfs_inode root_inode
 
+-- the reading of the three trees
 abbrev pub new_volume : Access
 new_volume = record {
   Tree = ℕ;
@@ -71,6 +76,7 @@ pub record HasNewBlocks (image : Places) (pfs directory : Ref) : Type 0 where
 
 -- Trees that are lists of leaves; each content block holds the same bytes, and then zeros.
 
+-- the reading of lists of leaves, whose content blocks hold these bytes
 abbrev pub one_block : List ℕ → Access
 one_block bytes = record {
   Tree = List Ref;

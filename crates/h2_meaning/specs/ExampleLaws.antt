@@ -35,6 +35,7 @@ use Rattle.h2_meaning.specs.Example.{inode_leaf, pfs_inode, listed_root, root_in
 
 -- The table with an empty root directory
 
+-- a directory without entries
 abbrev pub no_entries : Entries
 no_entries = empty
 

@@ -61,6 +61,7 @@ content_same r a b same h = record { kind_is = h.kind_is; check_is = check_same 
 
 -- Sizes of blocks
 
+-- how many bytes a block with a radix has
 abbrev size_by : ℕ → ℕ
 size_by radix = if radix == 0 then 0 else 2 ^ radix
 
@@ -86,6 +87,7 @@ body_valid kind size (Refs s) h = λ k d lt. (h.2.held k d lt).valid
 body_valid kind size (Bytes x) h = all_none IsValid
 
 module _ (x : Places) (roots : List Ref) (y : Places) (agree : SameReached x roots y) where
+  -- the reference is valid, and the first image leads to it
   abbrev Known : Ref → Type 0
   Known r = IsKnown x roots r
 

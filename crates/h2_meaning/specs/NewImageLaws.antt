@@ -18,9 +18,11 @@ pub one_named : (place check : ℕ) → named (new_root (first_inode place check
 one_named place check = refl
 
 module _ (image : Places) (place check below under : ℕ) (h : HasNewBlocks image (first_inode place check) (first_inode below under)) where
+  -- the reference to the PFS
   abbrev the_pfs : Ref
   the_pfs = first_inode place check
 
+  -- the reference to its root directory
   abbrev the_directory : Ref
   the_directory = first_inode below under
 

@@ -9,6 +9,7 @@ use Rattle.h2_set.specs.LeafLaws.{Rising-append, Rising-low}
 use Rattle.h2_inode.specs.ListLaws.{all_head, all_tail}
 use Rattle.h2_meaning.specs.Image.{LeavesIn, nothing_left, a_leaf, a_block}
 
+-- the range of the second reference lies in that of the first
 abbrev LiesIn : Ref → Ref → Type 0
 LiesIn r s = lies r.key r.keybits s ≡ true
 

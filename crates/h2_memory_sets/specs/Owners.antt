@@ -43,9 +43,11 @@ abbrev pub refit_body : Body → RefSet → Body
 refit_body (Refs t) s = Refs s
 refit_body (Bytes bytes) s = Bytes bytes
 
+-- the same inode with another set in its body
 abbrev pub refit_inode : Inode → RefSet → Inode
 refit_inode i s = record { kind = i.kind; number = i.number; size = i.size; links = i.links; next = i.next; name = i.name; body = refit_body i.body s }
 
+-- the same inode with another set, where there is an inode
 abbrev pub refit : Option Inode → RefSet → Option Inode
 refit None s = None
 refit (Some i) s = Some (refit_inode i s)
@@ -87,6 +89,7 @@ abbrev pub tree_allows : Leaves → Ref → Bool
 tree_allows Any r = is_plain r.kind
 tree_allows Inodes r = is_leaf_of Pfs r.kind && passes_as_held r
 
+-- whether the tree of a root may have the leaf, by its inode, where it has one
 abbrev pub allowed_by : Option Inode → Leaves → Ref → Bool
 allowed_by None leaves r = tree_allows leaves r
 allowed_by (Some i) leaves r = inode_allows i.kind i.body r

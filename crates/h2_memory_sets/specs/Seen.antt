@@ -28,8 +28,10 @@ name_of p place len = name_in p.names.items place len
 abbrev pub failing_load : MemorySets → ℕ
 failing_load p = p.fault
 
+-- which load from now on meets a bad block
 abbrev pub spoiled_load : MemorySets → ℕ
 spoiled_load p = p.spoiled
 
+-- which call for spare nodes from now on is refused
 abbrev pub refused_spare : MemorySets → ℕ
 refused_spare p = p.refused

@@ -24,30 +24,37 @@ abbrev pub stands_of : Option Node → Bool
 stands_of None = false
 stands_of (Some x) = x.loaded
 
+-- the set of a node
 abbrev pub set_of : Option Node → RefSet
 set_of None = record { refs = []; capacity = 4 }
 set_of (Some x) = x.set
 
+-- the root of its tree
 abbrev pub root_of : Option Node → ℕ
 root_of None = 0
 root_of (Some x) = x.root
 
+-- where its range begins
 abbrev pub low_of : Option Node → ℕ
 low_of None = 0
 low_of (Some x) = x.low
 
+-- how long its range is, as a power of 2
 abbrev pub bits_of : Option Node → ℕ
 bits_of None = 0
 bits_of (Some x) = x.bits
 
+-- whether it is writable
 abbrev pub writable_of : Option Node → Bool
 writable_of None = false
 writable_of (Some x) = x.dirty
 
+-- how many nodes would be copied to make it writable
 abbrev pub copies_of : Option Node → ℕ
 copies_of None = 0
 copies_of (Some x) = x.copies
 
+-- the keybits of its tree's leaves
 abbrev pub leaf_bits_of : Option Node → ℕ
 leaf_bits_of None = 0
 leaf_bits_of (Some x) = x.leaf_bits
@@ -79,6 +86,7 @@ abbrev pub names : List Ref → ℕ → Bool
 names [] k = false
 names (r ∷ rs) k = if is_indirect r && r.key == k then true else names rs k
 
+-- the link to a node, where one is loaded
 abbrev pub link_to : Option ℕ → Link
 link_to None = untold
 link_to (Some c) = loaded c
@@ -120,6 +128,7 @@ moved_up at c r low (Some u) = if u == c then None else (if u == at then (if hol
 abbrev pub moved : ℕ → ℕ → Ref → Node → Node
 moved at c r x = record { set = x.set; loaded = x.loaded; up = moved_up at c r x.low x.up; root = x.root; low = x.low; bits = x.bits; dirty = x.dirty; copies = x.copies; leaf_bits = x.leaf_bits; inode = x.inode; owner = x.owner; held = x.held; leaves = x.leaves }
 
+-- all nodes, once node c has what lay in the range of r below node at
 abbrev pub moved_all : ℕ → ℕ → Ref → List Node → List Node
 moved_all at c r xs = map (moved at c r) xs
 
@@ -201,9 +210,11 @@ AllRooted xs = (i : ℕ) → stands_of (slice_get xs i) ≡ true → is_top (sli
 abbrev pub stays_loaded : ℕ → Node → Bool
 stays_loaded from x = x.loaded && (is_bare x.up || nat_lt x.low from)
 
+-- a node, once all below roots are unloaded whose range starts at a key or above it
 abbrev pub unloaded : ℕ → Node → Node
 unloaded from x = record { set = x.set; loaded = stays_loaded from x; up = x.up; root = x.root; low = x.low; bits = x.bits; dirty = x.dirty; copies = x.copies; leaf_bits = x.leaf_bits; inode = x.inode; owner = x.owner; held = x.held; leaves = x.leaves }
 
+-- all nodes, once these are unloaded
 abbrev pub unloaded_all : ℕ → List Node → List Node
 unloaded_all from xs = map (unloaded from) xs
 
@@ -211,6 +222,7 @@ unloaded_all from xs = map (unloaded from) xs
 abbrev pub is_above : Place → Node → Bool
 is_above at x = x.root == at.root && (nat_le at.bits x.bits && (nat_le x.low at.low && nat_lt at.low (x.low + 2 ^ x.bits)))
 
+-- the place of a node: its tree and its range
 abbrev pub place_of : Node → Place
 place_of x = record { root = x.root; low = x.low; bits = x.bits }
 
@@ -218,6 +230,7 @@ place_of x = record { root = x.root; low = x.low; bits = x.bits }
 abbrev pub with_dirty : Bool → Node → Node
 with_dirty dirty x = record { set = x.set; loaded = x.loaded; up = x.up; root = x.root; low = x.low; bits = x.bits; dirty = dirty; copies = x.copies; leaf_bits = x.leaf_bits; inode = x.inode; owner = x.owner; held = x.held; leaves = x.leaves }
 
+-- a node with another count of copies
 abbrev pub with_copies : ℕ → Node → Node
 with_copies n x = record { set = x.set; loaded = x.loaded; up = x.up; root = x.root; low = x.low; bits = x.bits; dirty = x.dirty; copies = n; leaf_bits = x.leaf_bits; inode = x.inode; owner = x.owner; held = x.held; leaves = x.leaves }
 
@@ -282,6 +295,7 @@ goes_with xs root old new m = on_chain (is_lost root old new) xs (suc m) m
 abbrev pub lost : Node → Node
 lost x = record { set = x.set; loaded = false; up = None; root = x.root; low = x.low; bits = x.bits; dirty = x.dirty; copies = x.copies; leaf_bits = x.leaf_bits; inode = None; owner = x.owner; held = x.held; leaves = x.leaves }
 
+-- a node, once another set took the place of an old one: lost, or as it was
 abbrev pub dropped : List Node → ℕ → ℕ → List Ref → List Ref → Node → Node
 dropped xs root bits old new x = if goes root bits old new x || goes_with xs root old new x.root then lost x else x
 
@@ -298,5 +312,6 @@ pub record Block : Type 0 where
   pub up : Option ℕ
   pub owner : Option Owner
 
+-- what the block of a node has
 abbrev pub block : Node → Block
 block x = record { set = x.set; inode = x.inode; low = x.low; up = x.up; owner = x.owner }

@@ -7,6 +7,7 @@ use Rattle.h2_inode.specs.Nodes.{Fields, Told}
 use Rattle.h2_inode.specs.Loaded.{loaded_nodes, at_root, no_content}
 use Rattle.h2_inode.specs.PfsList.{ListedPfs, IsPfsList}
 
+-- the name of a listed PFS
 abbrev pub name_of : ListedPfs → List ℕ
 name_of p = p.name
 

@@ -13,5 +13,6 @@ abbrev pub id_in : List ℕ → List Met → Option ℕ
 id_in name [] = None
 id_in name (p ∷ ps) = if pointwise nat_eq p.name name then Some p.id else id_in name ps
 
+-- the name of one of them
 abbrev pub met_name : Met → List ℕ
 met_name m = m.name

@@ -5,6 +5,7 @@ use Rattle.std.specs.Prelude.{◌≡◌, ◌≢◌, ℕ, List, ◌∷◌, ◌++�
 abbrev pub colon : ℕ
 colon = 58
 
+-- no byte of the text is a colon
 abbrev pub HasNoColon : List ℕ → Type 0
 HasNoColon text = All (λ b. b ≢ colon) text
 

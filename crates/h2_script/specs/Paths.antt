@@ -15,6 +15,7 @@ pub record SpellsPath (word : List ℕ) (p : Path) : Type 0 where
   pub written : (names : List ℕ) × (word ≡ p.pfs ++ colon ∷ slash ∷ names) × SpellsNames names p.names
   pub pfs_is_good : IsPfsName p.pfs
 
+-- the word is no path
 abbrev pub IsNoPath : List ℕ → Type 0
 IsNoPath word = (p : Path) → SpellsPath word p → ⊥
 
@@ -23,5 +24,6 @@ pub record SpellsEntryPath (word : List ℕ) (p : Path) : Type 0 where
   pub path : SpellsPath word p
   pub named : 1 ≤ length p.names
 
+-- the word is no path with a name
 abbrev pub IsNoEntryPath : List ℕ → Type 0
 IsNoEntryPath word = (p : Path) → SpellsEntryPath word p → ⊥

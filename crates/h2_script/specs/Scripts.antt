@@ -35,6 +35,7 @@ phases_of (Skipped ∷ lines) = phases_of lines
 phases_of (PhaseEnd ∷ lines) = [] ∷ phases_of lines
 phases_of (Call client command ∷ lines) = onto_first (client, command) (phases_of lines)
 
+-- the command lists a directory
 abbrev pub is_list : Command → Bool
 is_list (Ls path) = true
 is_list _ = false

@@ -3,6 +3,7 @@ use Rattle.std.specs.Prelude.{◌≡◌, ℕ, List, [], ◌∷◌, codes}
 use Rattle.h2_script.specs.declared.verb.Verb.{Verb}
 use Rattle.h2_script.specs.declared.verb.Verb.TheVariants.{Mkdir, Create, Link, Rm, Rmdir, Mv, Ls, Stat, Open, Close, Read, Write, Cut, Sync, Bulkfree, Snapshot, PfsCreate, PfsDelete, PfsList}
 
+-- the word of a verb
 abbrev pub verb_word : Verb → List ℕ
 verb_word Mkdir = codes "mkdir"
 verb_word Create = codes "create"
@@ -24,6 +25,7 @@ verb_word PfsCreate = codes "pfs-create"
 verb_word PfsDelete = codes "pfs-delete"
 verb_word PfsList = codes "pfs-list"
 
+-- the word is that of no verb
 abbrev pub IsNoVerb : List ℕ → Type 0
 IsNoVerb word = (verb : Verb) → word ≡ verb_word verb → ⊥
 

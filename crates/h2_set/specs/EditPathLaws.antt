@@ -117,6 +117,7 @@ pub record PartsRefs (f g : Forest) (n c key bits : ℕ) (all : List Ref) (ref :
   pub below_kept : (k : ℕ) → (k < key) ⊎ (key + 2 ^ bits ≤ k) → g.link n k ≡ f.link n k
 
 module _ (f g : Forest) (n c key bits : ℕ) (all : List Ref) (ref : Ref) (it : PartsRefs f g n c key bits all ref) where
+  -- the references outside of the range
   abbrev outer : List Ref
   outer = filter (λ q. not (lies key bits q)) all
 

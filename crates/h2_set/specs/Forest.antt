@@ -18,6 +18,7 @@ pub data Link : Type 0 where
   told : List Ref → Link
   untold : Link
 
+-- what is known of the loaded nodes of trees and of their disk
 pub record Forest : Type 0 where
   -- whether a node is loaded and stands
   pub stands : ℕ → Bool
@@ -54,6 +55,7 @@ pub record Forest : Type 0 where
   -- where the last bad block lies that was met, and what is wrong with it
   pub met : Option (ℕ × Why)
 
+-- the references in the set of a node
 abbrev pub refs : Forest → ℕ → List Ref
 refs f at = let s = f.set at in s.refs
 
@@ -151,6 +153,7 @@ pub record HasParent (f : Forest) (m : ℕ) : Type 0 where
   pub stands : f.stands parent ≡ true
   pub link : f.link parent (f.low m) ≡ loaded m
 
+-- what holds of every forest, between any two calls
 pub record IsSound (f : Forest) : Type 0 where
   pub node : (m : ℕ) → f.stands m ≡ true → IsSoundNode f m
   -- what is held is a root that stands

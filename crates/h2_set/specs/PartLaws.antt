@@ -19,9 +19,11 @@ not_before key bits r le = let pos = pow_pos r.keybits in grind (arith, nat_test
 not_after : (key bits : ℕ) (r : Ref) → key + 2 ^ bits ≤ r.key → lies key bits r ≡ false
 not_after key bits r le = let pos = pow_pos r.keybits in grind (arith, nat_tests)
 
+-- the references in the range
 abbrev pub inner_of : ℕ → ℕ → List Ref → List Ref
 inner_of key bits rs = filter (lies key bits) rs
 
+-- those outside of it
 abbrev pub outer_of : ℕ → ℕ → List Ref → List Ref
 outer_of key bits rs = filter (λ q. not (lies key bits q)) rs
 
