@@ -30,3 +30,9 @@ returns-in_err-ready-clause-touched g c = always_err c.from_residual.result (non
 
 pub returns-then-is_full-clause-ok : goal.returns-then-is_full-clause-ok
 returns-then-is_full-clause-ok g c = inserts_after _ _ _ _ c.requires.stands c.in_ok-ready.ensures.same _ _ c.requires.sound c.part.ensures.inserts
+
+pub returns-in_err-ready-clause-none_met : goal.returns-in_err-ready-clause-none_met
+returns-in_err-ready-clause-none_met g c = (c.in_err-ready.ensures.same.bad, c.in_err-ready.ensures.same.met)
+
+pub returns-then-is_full-clause-none_met : goal.returns-then-is_full-clause-none_met
+returns-then-is_full-clause-none_met g c = (c.part.ensures.none_met.0 ∙ c.in_ok-ready.ensures.same.bad, c.part.ensures.none_met.1 ∙ c.in_ok-ready.ensures.same.met)
