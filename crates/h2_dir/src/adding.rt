@@ -3,7 +3,7 @@ ghost use Rattle.std.specs.FinMap.{get, insert};
 ghost use Rattle.h2_ref.specs.Ref.{IsValid};
 ghost use Rattle.h2_ref.specs.declared.reference.Ref.{Ref};
 ghost use Rattle.h2_set.specs.Ranges.{put};
-ghost use Rattle.h2_set.specs.Forest.{IsSound, LeavesOf, Reaches, KeepsBeside};
+ghost use Rattle.h2_set.specs.Forest.{IsSound, LeavesOf, Reaches, MeetsNone, KeepsBeside};
 ghost use Rattle.h2_tree.specs.Changes.{Takes, Inserts, KeepsPaths};
 ghost use Rattle.h2_dirkey.specs.Key.{IsNameUnder};
 ghost use Rattle.h2_inode.specs.declared.inode.Inode.{Inode};
@@ -32,6 +32,7 @@ fn put_in<N: Sets>(alloc: Global, n: &mut N, root: NodeId, leaf: Ref)
     requires free { Reaches (N.forest n.old) leaf.key root.0 None }
     requires space { let f = N.forest n.old in (1 ≤ f.spare) × (63 ≤ f.room) }
     ensures inserts { Inserts (N.forest n.old) (N.forest n.new) root.0 leaf None }
+    ensures none_met { MeetsNone (N.forest n.old) (N.forest n.new) }
     ensures paths { KeepsPaths (N.forest n.old) (N.forest n.new) root.0 leaf }
     ensures path { Reaches (N.forest n.new) leaf.key root.0 (Some leaf) }
     ensures beside { KeepsBeside (N.forest n.old) (N.forest n.new) (N.beside n.old) (N.beside n.new) }
@@ -48,9 +49,9 @@ fn put_in<N: Sets>(alloc: Global, n: &mut N, root: NodeId, leaf: Ref)
 /// No entry has the key, its path is loaded, and it has the upper bits of the name's keys (`spot` gives such a key).
 /// The size is below 4096. The number is from 1 to 2^62 - 1, and the target 1 for a directory or 2 for a file. A name
 /// of more than 64 bytes has a block of 1 KiB, and no other has: it is given with its check. At least one node is
-/// spare, and the room is at least 63; they are lowered by at most this. It can't be refused. No node is unloaded, and
-/// all loaded paths stay. Other directories and files stay the same, and the trees of PFSs do, but for where the blocks
-/// of inodes lie. No root comes, and leaves that named one root each still do.
+/// spare, and the room is at least 63; they are lowered by at most this. It can't be refused, and meets no bad block. No
+/// node is unloaded, and all loaded paths stay. Other directories and files stay the same, and the trees of PFSs do, but
+/// for where the blocks of inodes and indirect blocks lie. No root comes, and leaves that named one root each still do.
 pub fn add_at<N: Nodes>(
     alloc: Global,
     n: &mut N,
@@ -79,6 +80,7 @@ pub fn add_at<N: Nodes>(
     ensures above { RenewsOthers (view_of N.fields (N.forest n.old) (N.beside n.old) (N.told n.old)) (view_of N.fields (N.forest n.new) (N.beside n.new) (N.told n.new)) dir.0 }
     ensures other_entries { KeepsOtherEntries (N.forest n.old) (N.forest n.new) (held_by N.fields (N.beside n.old)) (held_by N.fields (N.beside n.new)) (N.told n.old) (N.told n.new) dir.0 }
     ensures one { NamesOne (N.forest n.old) → NamesOne (N.forest n.new) }
+    ensures none_met { MeetsNone (N.forest n.old) (N.forest n.new) }
     ensures beside { KeepsOthersBeside (N.forest n.old) (N.forest n.new) dir.0 (N.beside n.old) (N.beside n.new) }
     ensures spends { let f = N.forest n.old in let g = N.forest n.new in (f.room ≤ g.room + 63) × (f.spare ≤ g.spare + 1) }
     ensures later { N.later n.old n.new }

@@ -1,7 +1,7 @@
-ghost use Rattle.std.specs.Prelude.{◌≡◌, ◌↔◌, ℕ, Bool, IsTrue, IfOk, IfErr, Some, None, Err, slice_get, length};
+ghost use Rattle.std.specs.Prelude.{◌≡◌, ◌↔◌, ℕ, Bool, IsTrue, IfOk, IfErr, OnOk, Some, None, Err, slice_get, length};
 ghost use Rattle.h2_ref.specs.declared.reference.Ref.{Ref};
 ghost use Rattle.h2_ref.specs.declared.reference.Dirent.{Dirent};
-ghost use Rattle.h2_set.specs.Forest.{IsSound, Walks, KeepsBeside};
+ghost use Rattle.h2_set.specs.Forest.{IsSound, Walks, MeetsNone, KeepsBeside};
 ghost use Rattle.h2_tree.specs.Changes.{LoadsIn};
 ghost use Rattle.h2_dirkey.specs.Key.{least_key};
 ghost use Rattle.h2_inode.specs.declared.inode.Inode.{Inode};
@@ -44,7 +44,8 @@ fn entry_at(leaves: &[Ref], i: usize) -> (u64, Dirent)
 /// under these keys are read, those of more than 64 bytes and of this length. NoEntry exactly where there is none,
 /// as for a name that no entry may have; NotDir exactly where the inode isn't that of a directory, and then nothing
 /// is loaded; never Exists. Trouble only where one of these nodes isn't loaded or such a name was to be read, or for
-/// want of memory; never a bad block where the directory's entries are known.
+/// want of memory; never a bad block where the directory's entries are known. A bad block is met only where the answer
+/// tells one.
 pub fn find<N: Nodes>(
     alloc: Global,
     n: &mut N,
@@ -57,6 +58,8 @@ pub fn find<N: Nodes>(
     ensures found { IfOk result (λ x. IsFound (N.forest n.new) dir.0 name.now x.0 x.1) }
     ensures kind { (i : Inode) → HasInode (N.forest n.old) (held_by N.fields (N.beside n.old)) dir.0 i → IfOk result (λ x. i.kind ≡ Directory) }
     ensures err { (i : Inode) → HasInode (N.forest n.old) (held_by N.fields (N.beside n.old)) dir.0 i → IfErr result (FindFails (N.forest n.old) (N.forest n.new) i.kind dir.0 name.now) }
+    ensures none_met { OnOk result (MeetsNone (N.forest n.old) (N.forest n.new)) }
+    ensures none_met_refused { IfErr result (λ e. (IsBadBlock e → ⊥) → MeetsNone (N.forest n.old) (N.forest n.new)) }
     ensures agrees { (may : ℕ → ℕ → Bool) (size : ℕ) (entries : Entries) → HoldsEntries (N.forest n.old) (held_by N.fields (N.beside n.old)) (N.told n.old) may dir.0 size entries → AgreesOn entries name.now result }
     ensures good { (may : ℕ → ℕ → Bool) (size : ℕ) (entries : Entries) → HoldsEntries (N.forest n.old) (held_by N.fields (N.beside n.old)) (N.told n.old) may dir.0 size entries → IfErr result (λ e. IsBadBlock e → ⊥) }
     ensures touched { LoadsIn (N.forest n.old) (N.forest n.new) dir.0 (least_key name.now) (last_key name.now) }

@@ -1,6 +1,6 @@
-ghost use Rattle.std.specs.Prelude.{◌≡◌, ◌≤◌, ◌⊎◌, ◌-◌, ◌^◌, ℕ, Bool, true, IfOk, IfErr, List, All, Some, IsPermutation, IsSorted};
+ghost use Rattle.std.specs.Prelude.{◌≡◌, ◌≤◌, ◌⊎◌, ◌-◌, ◌^◌, ℕ, Bool, true, IfOk, IfErr, OnOk, List, All, Some, IsPermutation, IsSorted};
 ghost use Rattle.h2_ref.specs.declared.reference.Ref.{Ref};
-ghost use Rattle.h2_set.specs.Forest.{Forest, IsBad, IsSound, Walks, Unchanged, HasCause, KeepsBeside};
+ghost use Rattle.h2_set.specs.Forest.{Forest, IsBad, IsSound, Walks, Unchanged, HasCause, MeetsNone, KeepsBeside};
 ghost use Rattle.h2_tree.specs.Changes.{LoadsIn};
 ghost use Rattle.h2_inode.specs.declared.inode.Inode.{Inode};
 ghost use Rattle.h2_inode.specs.declared.kind.InodeKind.TheVariants.{Directory};
@@ -31,6 +31,8 @@ fn entry_of<N: Sets>(alloc: Global, n: &mut N, leaf: &Ref) -> Result<(Name, u64)
     ensures same { Unchanged (N.forest n.old) (N.forest n.new) }
     ensures says { IfOk result (SaysEntry (N.forest n.old) leaf.now) }
     ensures err { IfErr result (HasCause (N.forest n.old) (N.forest n.new)) }
+    ensures none_met { OnOk result (MeetsNone (N.forest n.old) (N.forest n.new)) }
+    ensures none_met_refused { IfErr result (λ e. (IsBad e → ⊥) → MeetsNone (N.forest n.old) (N.forest n.new)) }
     ensures unread { IfErr result (λ e. (e ≡ Trouble.NoMemory) ⊎ HasLongName leaf.now) }
     ensures good { let f = N.forest n.old in IfErr result (λ e. (own : List ℕ) → IsNamed f leaf.now own → IsBad e → ⊥) }
     ensures beside { KeepsBeside (N.forest n.old) (N.forest n.new) (N.beside n.old) (N.beside n.new) }
@@ -53,6 +55,8 @@ fn all_named<N: Sets>(alloc: Global, n: &mut N, leaves: &[Ref]) -> Result<Vec<(N
     ensures same { Unchanged (N.forest n.old) (N.forest n.new) }
     ensures each { IfOk result (λ v. OneByOne (SaysEntry (N.forest n.old)) leaves.now v.items) }
     ensures err { IfErr result (HasCause (N.forest n.old) (N.forest n.new)) }
+    ensures none_met { OnOk result (MeetsNone (N.forest n.old) (N.forest n.new)) }
+    ensures none_met_refused { IfErr result (λ e. (IsBad e → ⊥) → MeetsNone (N.forest n.old) (N.forest n.new)) }
     ensures unread { IfErr result (λ e. (e ≡ Trouble.NoMemory) ⊎ AnyLongName leaves.now) }
     ensures good { let f = N.forest n.old in IfErr result (λ e. AllNamed f leaves.now → IsBad e → ⊥) }
     ensures beside { KeepsBeside (N.forest n.old) (N.forest n.new) (N.beside n.old) (N.beside n.new) }
@@ -82,7 +86,7 @@ fn sort_by_name(all: &mut Vec<(Name, u64)>) -> Result<(), AllocError>
 ///
 /// NotDir exactly where the inode isn't that of a directory, and then nothing is loaded; never NoEntry or Exists. Trouble
 /// only where a node that may have entries isn't loaded or an entry has such a name, or for want of memory; never a bad
-/// block where the directory's entries are known.
+/// block where the directory's entries are known. A bad block is met only where the answer tells one.
 pub fn list<N: Nodes>(alloc: Global, n: &mut N, dir: NodeId) -> Result<Vec<(Name, u64)>, DirFault>
     requires sound { IsSound (N.forest n.old) }
     requires inode { (i : Inode) × HasInode (N.forest n.old) (held_by N.fields (N.beside n.old)) dir.0 i }
@@ -91,6 +95,8 @@ pub fn list<N: Nodes>(alloc: Global, n: &mut N, dir: NodeId) -> Result<Vec<(Name
     ensures entries { (may : ℕ → ℕ → Bool) (size : ℕ) (entries : Entries) → HoldsEntries (N.forest n.old) (held_by N.fields (N.beside n.old)) (N.told n.old) may dir.0 size entries → IfOk result (λ v. v.items ≡ entries_of entries) }
     ensures kind { (i : Inode) → HasInode (N.forest n.old) (held_by N.fields (N.beside n.old)) dir.0 i → IfOk result (λ v. i.kind ≡ Directory) }
     ensures err { (i : Inode) → HasInode (N.forest n.old) (held_by N.fields (N.beside n.old)) dir.0 i → IfErr result (ListFails (N.forest n.old) (N.forest n.new) i.kind dir.0) }
+    ensures none_met { OnOk result (MeetsNone (N.forest n.old) (N.forest n.new)) }
+    ensures none_met_refused { IfErr result (λ e. (IsBadBlock e → ⊥) → MeetsNone (N.forest n.old) (N.forest n.new)) }
     ensures good { (may : ℕ → ℕ → Bool) (size : ℕ) (entries : Entries) → HoldsEntries (N.forest n.old) (held_by N.fields (N.beside n.old)) (N.told n.old) may dir.0 size entries → IfErr result (λ e. IsBadBlock e → ⊥) }
     ensures none { (i : Inode) → HasInode (N.forest n.old) (held_by N.fields (N.beside n.old)) dir.0 i → (i.kind ≡ Directory → ⊥) → LoadsNone (N.forest n.old) (N.forest n.new) }
     ensures touched { LoadsIn (N.forest n.old) (N.forest n.new) dir.0 (2 ^ 63) (2 ^ 64 - 1) }

@@ -1,7 +1,7 @@
-ghost use Rattle.std.specs.Prelude.{◌≡◌, ◌≤◌, ◌⊎◌, ℕ, List, true, false, Some, IfOk, IfErr, All, take, length};
+ghost use Rattle.std.specs.Prelude.{◌≡◌, ◌≤◌, ◌⊎◌, ℕ, List, true, false, Some, IfOk, IfErr, OnOk, All, take, length};
 ghost use Rattle.h2_ref.specs.Ref.{IsValid};
 ghost use Rattle.h2_ref.specs.declared.reference.Ref.{Ref};
-ghost use Rattle.h2_set.specs.Forest.{IsBad, IsSound, Unchanged, HasCause, KeepsBeside};
+ghost use Rattle.h2_set.specs.Forest.{IsBad, IsSound, Unchanged, HasCause, MeetsNone, KeepsBeside};
 ghost use Rattle.h2_dir.specs.Names.{IsNamed, MayBeNamed, AllNamed, IsLongCandidate, AnyLongCandidate, Scanned};
 
 use h2_ref::{Dirent, Ref, Trouble};
@@ -35,6 +35,8 @@ pub(crate) fn has_name<N: Sets>(
     ensures yes { IfOk result (λ b. b ≡ true → MayBeNamed (N.forest n.old) leaf.now name.now) }
     ensures no { IfOk result (λ b. b ≡ false → IsNamed (N.forest n.old) leaf.now name.now → ⊥) }
     ensures err { IfErr result (HasCause (N.forest n.old) (N.forest n.new)) }
+    ensures none_met { OnOk result (MeetsNone (N.forest n.old) (N.forest n.new)) }
+    ensures none_met_refused { IfErr result (λ e. (IsBad e → ⊥) → MeetsNone (N.forest n.old) (N.forest n.new)) }
     ensures unread { IfErr result (λ e. (e ≡ Trouble.NoMemory) ⊎ IsLongCandidate leaf.now name.now) }
     ensures good { let f = N.forest n.old in IfErr result (λ e. (own : List ℕ) → IsNamed f leaf.now own → IsBad e → ⊥) }
     ensures beside { KeepsBeside (N.forest n.old) (N.forest n.new) (N.beside n.old) (N.beside n.new) }
@@ -66,6 +68,8 @@ pub(crate) fn scan<N: Sets>(
     ensures same { Unchanged (N.forest n.old) (N.forest n.new) }
     ensures scanned { IfOk result (Scanned (N.forest n.old) leaves.now name.now) }
     ensures err { IfErr result (HasCause (N.forest n.old) (N.forest n.new)) }
+    ensures none_met { OnOk result (MeetsNone (N.forest n.old) (N.forest n.new)) }
+    ensures none_met_refused { IfErr result (λ e. (IsBad e → ⊥) → MeetsNone (N.forest n.old) (N.forest n.new)) }
     ensures unread { IfErr result (λ e. (e ≡ Trouble.NoMemory) ⊎ AnyLongCandidate leaves.now name.now) }
     ensures good { let f = N.forest n.old in IfErr result (λ e. AllNamed f leaves.now → IsBad e → ⊥) }
     ensures beside { KeepsBeside (N.forest n.old) (N.forest n.new) (N.beside n.old) (N.beside n.new) }

@@ -3,7 +3,7 @@ ghost use Rattle.std.specs.FinMap.{get, remove};
 ghost use Rattle.h2_ref.specs.declared.reference.Ref.{Ref};
 ghost use Rattle.h2_ref.specs.declared.reference.Dirent.{Dirent};
 ghost use Rattle.h2_set.specs.Ranges.{without};
-ghost use Rattle.h2_set.specs.Forest.{IsSound, LeavesOf, Reaches, KeepsBeside};
+ghost use Rattle.h2_set.specs.Forest.{IsSound, LeavesOf, Reaches, MeetsNone, KeepsBeside};
 ghost use Rattle.h2_tree.specs.Changes.{IsFree, Removes, KeepsPaths};
 ghost use Rattle.h2_inode.specs.declared.inode.Inode.{Inode};
 ghost use Rattle.h2_inode.specs.Nodes.{held_by, HasInode, NamesOne, KeepsOthersBeside};
@@ -48,6 +48,7 @@ fn take_out<N: Sets>(alloc: Global, n: &mut N, root: NodeId, key: u64) -> Ref
     requires free { IsFree (N.forest n.old) root.0 key }
     requires there { (leaf : Ref) × Reaches (N.forest n.old) key root.0 (Some leaf) × (leaf.key ≡ key) }
     ensures removes { Removes (N.forest n.old) (N.forest n.new) root.0 result }
+    ensures none_met { MeetsNone (N.forest n.old) (N.forest n.new) }
     ensures was { Reaches (N.forest n.old) key root.0 (Some result) }
     ensures key { result.key ≡ key }
     ensures paths { KeepsPaths (N.forest n.old) (N.forest n.new) root.0 result }
@@ -76,9 +77,9 @@ fn says(leaf: Ref) -> Dirent
 /// entry said is answered. The directory stands for its entries without the one of this name.
 ///
 /// The entry is there, its path is loaded, and the room is at least 62, and lowered by at most this. It can't be
-/// refused. Of the tree nothing goes but indirect blocks that would be left empty, and loaded paths to other keys stay.
-/// Other directories and files stay the same, and the trees of PFSs do, but for where the blocks of inodes lie. No root
-/// comes, and leaves that named one root each still do.
+/// refused, and meets no bad block. Of the tree nothing goes but indirect blocks that would be left empty, and loaded
+/// paths to other keys stay. Other directories and files stay the same, and the trees of PFSs do, but for where the
+/// blocks of inodes and indirect blocks lie. No root comes, and leaves that named one root each still do.
 pub fn remove_at<N: Nodes>(alloc: Global, n: &mut N, dir: NodeId, key: u64) -> Dirent
     requires sound { IsSound (N.forest n.old) }
     requires directory { IsDirectoryRoot (N.forest n.old) (held_by N.fields (N.beside n.old)) dir.0 }
@@ -96,6 +97,7 @@ pub fn remove_at<N: Nodes>(alloc: Global, n: &mut N, dir: NodeId, key: u64) -> D
     ensures above { RenewsOthers (view_of N.fields (N.forest n.old) (N.beside n.old) (N.told n.old)) (view_of N.fields (N.forest n.new) (N.beside n.new) (N.told n.new)) dir.0 }
     ensures other_entries { KeepsOtherEntries (N.forest n.old) (N.forest n.new) (held_by N.fields (N.beside n.old)) (held_by N.fields (N.beside n.new)) (N.told n.old) (N.told n.new) dir.0 }
     ensures one { NamesOne (N.forest n.old) → NamesOne (N.forest n.new) }
+    ensures none_met { MeetsNone (N.forest n.old) (N.forest n.new) }
     ensures beside { KeepsOthersBeside (N.forest n.old) (N.forest n.new) dir.0 (N.beside n.old) (N.beside n.new) }
     ensures spends { let f = N.forest n.old in let g = N.forest n.new in (f.room ≤ g.room + 62) × (g.spare ≡ f.spare) }
     ensures later { N.later n.old n.new }

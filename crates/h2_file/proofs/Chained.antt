@@ -109,6 +109,7 @@ pub record PutAll (f g : Forest) (at : ℕ) (rs : List Ref) : Type 0 where
   pub room : f.room ≤ g.room + 63 * length rs
   pub room_falls : g.room ≤ f.room
   pub spare : f.spare ≤ g.spare + length rs
+  pub grown : length rs ≤ f.spare → g.spare ≤ f.spare
 
 pub puts_all : {at : ℕ} {f g : Forest} {rs : List Ref} → PutsEach at f rs g → IsSound f → f.stands at ≡ true → PutAll f g at rs
 puts_all {at} (none {f = f}) sound stands = record {
@@ -123,6 +124,7 @@ puts_all {at} (none {f = f}) sound stands = record {
   room = omega arith;
   room_falls = omega arith;
   spare = omega arith;
+  grown = λ enough. omega arith;
 }
 puts_all {at} (first {f = f} {h = h} {g = g} {r = r} {rs = rs} step rest) sound stands =
     let ins = step.inserts in
@@ -140,6 +142,13 @@ puts_all {at} (first {f = f} {h = h} {g = g} {r = r} {rs = rs} step rest) sound 
       room = omega (arith, ins.room, tail.room, n);
       room_falls = omega (arith, ins.room_falls, tail.room_falls);
       spare = omega (arith, ins.spare, tail.spare, n);
+      grown = λ enough.
+          let goes = ins.goes in
+          let then = goes.then in
+          let first : then.spare ≡ f.spare = goes.grown (omega (arith, enough, n)) in
+          let rest_grown = tail.grown (omega (arith, enough, n, ins.spare)) in
+          let spent = goes.spare in
+          omega (arith, first, rest_grown, spent);
     }
 
 -- each path leads to what was put there

@@ -1,5 +1,5 @@
 -- A file into which references of blocks were put.
-use Rattle.std.proofs.Common.{◌≡◌, ℕ, ◌+◌, ◌^◌, true, false, arith, refl, sym, ◌∙◌, ap, List, Option, Some, subst, inl, inr}
+use Rattle.std.proofs.Common.{◌≡◌, ℕ, ◌+◌, ◌≤◌, ◌^◌, true, false, arith, refl, sym, ◌∙◌, ap, List, length, Option, Some, subst, inl, inr}
 use Rattle.h2_ref.specs.declared.reference.Ref.{Ref}
 use Rattle.h2_ref.specs.declared.reference.Kind.{Kind}
 use Rattle.h2_ref.specs.declared.reference.Kind.TheVariants.{Content}
@@ -139,7 +139,7 @@ module _ (h : Forest) (holds : ℕ → Option Fields) (at : ℕ) (file : IsFile 
 
 -- The whole
 
-module _ (f w o p g : Forest) (at : ℕ) (rs : List Ref) (sound : IsSound f) (stands : f.stands at ≡ true) (top : f.root at ≡ at) (prepares : Prepares f w) (loads : LoadsEach f w at rs) (apart : KeepsOthers f w at) (loaded : PathsLoaded w at rs) (opens : Opens w at o) (puts : PutsEach at o rs p) (sizes : Sizes p g at) (are : AreBlocks rs) (contents : HasContents o at) where
+module _ (f w o p g : Forest) (at : ℕ) (rs : List Ref) (sound : IsSound f) (stands : f.stands at ≡ true) (top : f.root at ≡ at) (prepares : Prepares f w) (loads : LoadsEach f w at rs) (apart : KeepsOthers f w at) (loaded : PathsLoaded w at rs) (enough : length rs ≤ w.spare) (opens : Opens w at o) (puts : PutsEach at o rs p) (sizes : Sizes p g at) (are : AreBlocks rs) (contents : HasContents o at) where
   place_w : (m : ℕ) → f.stands m ≡ true → InPlace f w m
   place_w m st = (prepares.stays m st).place
 
@@ -171,7 +171,7 @@ module _ (f w o p g : Forest) (at : ℕ) (rs : List Ref) (sound : IsSound f) (st
   still_all m st = InPlace-trans f w g m (place_w m st) (InPlace-trans w o g m (open_w.still m (stands_w m st)) (InPlace-trans o p g m (all.still m (stands_o m st)) (place_g m (stands_p m st))))
 
   abbrev linked_nodes : LinksNodes f g at rs
-  linked_nodes = record { walked = w; prepares = prepares; touched = loads; apart = apart; loaded = loaded; opened = o; opens = opens; linked = p; puts = puts; sizes = sizes }
+  linked_nodes = record { walked = w; prepares = prepares; touched = loads; apart = apart; loaded = loaded; enough = enough; opened = o; opens = opens; linked = p; puts = puts; grown = (let fewer = all.grown (omega (arith, enough, open_w.spare)) in omega (arith, fewer, open_w.spare)); sizes = sizes }
 
   pub links_file : LinksFile f g at rs
   links_file = record {

@@ -99,12 +99,16 @@ pub record LinksNodes (f g : Forest) (at : ℕ) (rs : List Ref) : Type 0 where
   pub touched : LoadsEach f walked at rs
   pub apart : KeepsOthers f walked at
   pub loaded : PathsLoaded walked at rs
+  -- a node is spare for each reference by then
+  pub enough : length rs ≤ walked.spare
   -- once the root was made writable
   pub opened : Forest
   pub opens : Opens walked at opened
   -- once the references were in
   pub linked : Forest
   pub puts : PutsEach at opened rs linked
+  -- and no spare node was made after the loads
+  pub grown : linked.spare ≤ walked.spare
   pub sizes : Sizes linked g at
 
 -- The references are in the file's list, each in place of the one with its key. What stands stands where it stood; in

@@ -3,7 +3,7 @@ ghost use Rattle.h2_ref.specs.declared.reference.Ref.{Ref};
 ghost use Rattle.h2_ref.specs.declared.reference.Kind.{Kind};
 ghost use Rattle.h2_set.specs.Ranges.{is_indirect, limit};
 ghost use Rattle.h2_set.specs.RefSet.{RefSet};
-ghost use Rattle.h2_set.specs.Forest.{Forest, refs, IsSound, Walks, HasCause, IsBad, LeavesOf, HasLeaves, KeepsBeside};
+ghost use Rattle.h2_set.specs.Forest.{Forest, refs, IsSound, Walks, HasCause, IsBad, MeetsNone, LeavesOf, HasLeaves, KeepsBeside};
 ghost use Rattle.h2_tree.specs.Changes.{LoadsIn, PathUnloaded, WalksUnder};
 ghost use Rattle.h2_inode.specs.Nodes.{held_by, KeepsOthersBeside, NamesOne};
 ghost use Rattle.h2_num.specs.Places.{Places};
@@ -79,6 +79,7 @@ fn keep_front<N: Sets>(n: &mut N, at: NodeId, count: usize, last: Option<Ref>)
     requires some { let f = N.forest n.old in (f.root at.0 ≡ at.0) ⊎ ((0 < count) × (0 < length (refs f at.0))) }
     requires last { IfSome last (FitsLast (refs (N.forest n.old) at.0) count) }
     ensures kept { KeepsFront (N.forest n.old) (N.forest n.new) at.0 count last }
+    ensures none_met { MeetsNone (N.forest n.old) (N.forest n.new) }
     ensures beside { KeepsBeside (N.forest n.old) (N.forest n.new) (N.beside n.old) (N.beside n.new) }
     ensures later { N.later n.old n.new }
 {
@@ -109,6 +110,7 @@ fn shorten<N: Sets>(n: &mut N, at: NodeId, count: usize, last: Option<Ref>) -> L
     requires within { (0 < count) × (count ≤ length (refs (N.forest n.old) at.0)) }
     requires last { IfSome last (FitsLast (refs (N.forest n.old) at.0) count) }
     ensures shortens { Shortens (N.forest n.old) (N.forest n.new) at.0 count last result }
+    ensures none_met { MeetsNone (N.forest n.old) (N.forest n.new) }
     ensures beside { KeepsBeside (N.forest n.old) (N.forest n.new) (N.beside n.old) (N.beside n.new) }
     ensures later { N.later n.old n.new }
 {
@@ -136,6 +138,8 @@ fn cut_below<N: Sets>(
     ensures left { IfOk result (Remains (N.forest n.old) (N.forest n.new) at.0 size last) }
     ensures walks { OnErr result (Walks (N.forest n.old) (N.forest n.new)) }
     ensures err { IfErr result (HasCause (N.forest n.old) (N.forest n.new)) }
+    ensures none_met { OnOk result (MeetsNone (N.forest n.old) (N.forest n.new)) }
+    ensures none_met_refused { IfErr result (λ e. (IsBad e → ⊥) → MeetsNone (N.forest n.old) (N.forest n.new)) }
     ensures touched { OnErr result (LoadsIn (N.forest n.old) (N.forest n.new) at.0 size size) }
     ensures unloaded { OnErr result (PathUnloaded (N.forest n.old) at.0 size) }
     ensures good { IfErr result (λ e. (l : List Ref) → LeavesOf (N.forest n.old) at.0 l → IsBad e → ⊥) }
@@ -186,6 +190,8 @@ fn cut_tree<N: Sets>(
     ensures nodes { OnOk result (CutsNodes (N.forest n.old) (N.forest n.new) root.0 size last) }
     ensures walks { OnErr result (Walks (N.forest n.old) (N.forest n.new)) }
     ensures err { IfErr result (HasCause (N.forest n.old) (N.forest n.new)) }
+    ensures none_met { OnOk result (MeetsNone (N.forest n.old) (N.forest n.new)) }
+    ensures none_met_refused { IfErr result (λ e. (IsBad e → ⊥) → MeetsNone (N.forest n.old) (N.forest n.new)) }
     ensures touched { OnErr result (LoadsIn (N.forest n.old) (N.forest n.new) root.0 size size) }
     ensures unloaded { OnErr result (PathUnloaded (N.forest n.old) root.0 size) }
     ensures good { IfErr result (λ e. (l : List Ref) → LeavesOf (N.forest n.old) root.0 l → IsBad e → ⊥) }
@@ -211,7 +217,8 @@ fn cut_tree<N: Sets>(
 /// references. A node that lies wholly past the size goes without being made writable, and one of which nothing goes, nor
 /// below it, stays as it is: only the root, which has the size, is written in any case. The room is at least 62, and is
 /// lowered by the number of nodes that are copied. Trouble only where a node on the path of the size isn't loaded,
-/// and never a bad block where the file's references are known; nothing but loads took place then.
+/// and never a bad block where the file's references are known; nothing but loads took place then. A bad block is met
+/// only where the answer is Bad.
 pub fn cut_blocks<N: Nodes>(
     alloc: Global,
     n: &mut N,
@@ -230,6 +237,8 @@ pub fn cut_blocks<N: Nodes>(
     ensures inode { OnOk result ((file : IsFileOfRefs (N.forest n.old) (held_by N.fields (N.beside n.old)) inode.0) → HasResized (N.forest n.new) (held_by N.fields (N.beside n.new)) inode.0 file.inode size) }
     ensures walks { OnErr result (Walks (N.forest n.old) (N.forest n.new)) }
     ensures err { IfErr result (HasCause (N.forest n.old) (N.forest n.new)) }
+    ensures none_met { OnOk result (MeetsNone (N.forest n.old) (N.forest n.new)) }
+    ensures none_met_refused { IfErr result (λ e. (IsBad e → ⊥) → MeetsNone (N.forest n.old) (N.forest n.new)) }
     ensures touched { OnErr result (LoadsIn (N.forest n.old) (N.forest n.new) inode.0 size size) }
     ensures unloaded { OnErr result (PathUnloaded (N.forest n.old) inode.0 size) }
     ensures good { IfErr result (λ e. (l : List Ref) → LeavesOf (N.forest n.old) inode.0 l → IsBad e → ⊥) }

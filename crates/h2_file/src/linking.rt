@@ -2,7 +2,7 @@ ghost use Rattle.std.specs.Prelude.{◌≡◌, ◌<◌, ◌≤◌, ◌⊎◌, �
 ghost use Rattle.h2_num.specs.Places.{Places};
 ghost use Rattle.h2_ref.specs.declared.reference.Ref.{Ref};
 ghost use Rattle.h2_set.specs.RefSet.{RefSet};
-ghost use Rattle.h2_set.specs.Forest.{Forest, IsSound, Walks, Reaches, HasCause, IsBad, LeavesOf, KeepsBeside};
+ghost use Rattle.h2_set.specs.Forest.{Forest, IsSound, Walks, Reaches, HasCause, IsBad, MeetsNone, LeavesOf, KeepsBeside};
 ghost use Rattle.h2_tree.specs.Changes.{Prepares};
 ghost use Rattle.h2_inode.specs.declared.inode.Body.{Body};
 ghost use Rattle.h2_inode.specs.declared.inode.Body.TheVariants.{Refs, Bytes};
@@ -33,6 +33,8 @@ fn load_paths<N: Sets>(alloc: Global, n: &mut N, root: NodeId, refs: &[Ref]) -> 
     ensures touched { LoadsEach (N.forest n.old) (N.forest n.new) root.0 refs.now }
     ensures apart { KeepsOthers (N.forest n.old) (N.forest n.new) root.0 }
     ensures err { IfErr result (HasCause (N.forest n.old) (N.forest n.new)) }
+    ensures none_met { OnOk result (MeetsNone (N.forest n.old) (N.forest n.new)) }
+    ensures none_met_refused { IfErr result (λ e. (IsBad e → ⊥) → MeetsNone (N.forest n.old) (N.forest n.new)) }
     ensures unloaded { OnErr result (PathMissing (N.forest n.old) root.0 refs.now) }
     ensures good { IfErr result (λ e. (l : List Ref) → LeavesOf (N.forest n.old) root.0 l → IsBad e → ⊥) }
     ensures beside { KeepsBeside (N.forest n.old) (N.forest n.new) (N.beside n.old) (N.beside n.new) }
@@ -56,6 +58,8 @@ fn prepare<N: Sets>(alloc: Global, n: &mut N, root: NodeId, refs: &[Ref]) -> Res
     ensures touched { LoadsEach (N.forest n.old) (N.forest n.new) root.0 refs.now }
     ensures apart { KeepsOthers (N.forest n.old) (N.forest n.new) root.0 }
     ensures err { IfErr result (HasCause (N.forest n.old) (N.forest n.new)) }
+    ensures none_met { OnOk result (MeetsNone (N.forest n.old) (N.forest n.new)) }
+    ensures none_met_refused { IfErr result (λ e. (IsBad e → ⊥) → MeetsNone (N.forest n.old) (N.forest n.new)) }
     ensures unloaded { OnErr result (let f = N.forest n.old in PathMissing f root.0 refs.now ⊎ (f.spare < length refs.now)) }
     ensures good { IfErr result (λ e. (l : List Ref) → LeavesOf (N.forest n.old) root.0 l → IsBad e → ⊥) }
     ensures beside { KeepsBeside (N.forest n.old) (N.forest n.new) (N.beside n.old) (N.beside n.new) }
@@ -84,6 +88,7 @@ fn open_body<N: Nodes>(n: &mut N, at: NodeId)
     requires sound { IsSound (N.forest n.old) }
     requires file { IsFile (N.forest n.old) (held_by N.fields (N.beside n.old)) at.0 }
     ensures opens { Opens (N.forest n.old) at.0 (N.forest n.new) }
+    ensures none_met { MeetsNone (N.forest n.old) (N.forest n.new) }
     ensures file { IsFileOfRefs (N.forest n.new) (held_by N.fields (N.beside n.new)) at.0 }
     ensures inode { (i : Inode) → HasInode (N.forest n.old) (held_by N.fields (N.beside n.old)) at.0 i → HasResized (N.forest n.new) (held_by N.fields (N.beside n.new)) at.0 i i.size }
     ensures beside { KeepsOthersBeside (N.forest n.old) (N.forest n.new) at.0 (N.beside n.old) (N.beside n.new) }
@@ -108,6 +113,7 @@ fn put_block<N: Sets>(alloc: Global, n: &mut N, at: NodeId, r: Ref)
     requires block { IsBlock r }
     requires loaded { (o : Option Ref) × Reaches (N.forest n.old) r.key at.0 o }
     ensures puts { Puts (N.forest n.old) (N.forest n.new) at.0 r }
+    ensures none_met { MeetsNone (N.forest n.old) (N.forest n.new) }
     ensures beside { KeepsBeside (N.forest n.old) (N.forest n.new) (N.beside n.old) (N.beside n.new) }
     ensures later { N.later n.old n.new }
 {
@@ -127,6 +133,7 @@ fn put_blocks<N: Sets>(alloc: Global, n: &mut N, at: NodeId, refs: &[Ref])
     requires blocks { AreBlocks refs.now }
     requires loaded { PathsLoaded (N.forest n.old) at.0 refs.now }
     ensures puts { PutsEach at.0 (N.forest n.old) refs.now (N.forest n.new) }
+    ensures none_met { MeetsNone (N.forest n.old) (N.forest n.new) }
     ensures beside { KeepsBeside (N.forest n.old) (N.forest n.new) (N.beside n.old) (N.beside n.new) }
     ensures later { N.later n.old n.new }
 {
@@ -142,7 +149,8 @@ fn put_blocks<N: Sets>(alloc: Global, n: &mut N, at: NodeId, refs: &[Ref])
 /// is a node of 64 blocks or more on the path of block 0, the first block or the last one, of which each path has at
 /// most 43, or one of at most 6 smaller nodes on the path of the block itself; and a split takes one new block. Trouble
 /// only where a node on the path of one of the keys isn't loaded, or fewer nodes are spare than there are references,
-/// and never a bad block where the file's references are known; nothing but loads took place then.
+/// and never a bad block where the file's references are known; nothing but loads took place then. A bad block is met
+/// only where the answer is Bad.
 pub fn link_blocks<N: Nodes>(
     alloc: Global,
     n: &mut N,
@@ -162,6 +170,8 @@ pub fn link_blocks<N: Nodes>(
     ensures inode { OnOk result ((i : Inode) → HasInode (N.forest n.old) (held_by N.fields (N.beside n.old)) inode.0 i → HasResized (N.forest n.new) (held_by N.fields (N.beside n.new)) inode.0 i size) }
     ensures walks { OnErr result (Walks (N.forest n.old) (N.forest n.new)) }
     ensures err { IfErr result (HasCause (N.forest n.old) (N.forest n.new)) }
+    ensures none_met { OnOk result (MeetsNone (N.forest n.old) (N.forest n.new)) }
+    ensures none_met_refused { IfErr result (λ e. (IsBad e → ⊥) → MeetsNone (N.forest n.old) (N.forest n.new)) }
     ensures touched { OnErr result (LoadsEach (N.forest n.old) (N.forest n.new) inode.0 refs.now) }
     ensures unloaded { OnErr result (let f = N.forest n.old in PathMissing f inode.0 refs.now ⊎ (f.spare < length refs.now)) }
     ensures good { IfErr result (λ e. (l : List Ref) → LeavesOf (N.forest n.old) inode.0 l → IsBad e → ⊥) }

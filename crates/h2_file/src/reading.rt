@@ -1,7 +1,7 @@
-ghost use Rattle.std.specs.Prelude.{◌≡◌, ℕ, true, List, Option, IfOk, IfErr, OnErr};
+ghost use Rattle.std.specs.Prelude.{◌≡◌, ℕ, true, List, Option, IfOk, IfErr, OnErr, OnOk};
 ghost use Rattle.h2_ref.specs.declared.reference.Ref.{Ref};
 ghost use Rattle.h2_set.specs.Ranges.{find};
-ghost use Rattle.h2_set.specs.Forest.{IsSound, Walks, HasCause, IsBad, LeavesOf, Reaches, KeepsBeside};
+ghost use Rattle.h2_set.specs.Forest.{IsSound, Walks, HasCause, IsBad, MeetsNone, LeavesOf, Reaches, KeepsBeside};
 ghost use Rattle.h2_tree.specs.Changes.{LoadsIn, PathUnloaded};
 ghost use Rattle.h2_inode.specs.Nodes.{held_by};
 ghost use Rattle.h2_file.specs.Blocks.{IsFileOfRefs};
@@ -17,7 +17,7 @@ use std::alloc::Global;
 /// The content reference of the file's block that holds the byte `start`; None exactly at a hole, where the whole block
 /// that would hold it is zeros. The file's body is references. Afterwards every node on the path of `start` is loaded,
 /// and no other was, in no tree. Trouble only where one wasn't, and never a bad block where the file's references are
-/// known. Nothing but loads takes place.
+/// known; a bad block is met only where the answer is Bad. Nothing but loads takes place.
 pub fn read_block<N: Nodes>(
     alloc: Global,
     n: &mut N,
@@ -32,6 +32,8 @@ pub fn read_block<N: Nodes>(
     ensures walks { Walks (N.forest n.old) (N.forest n.new) }
     ensures touched { LoadsIn (N.forest n.old) (N.forest n.new) inode.0 start start }
     ensures err { IfErr result (HasCause (N.forest n.old) (N.forest n.new)) }
+    ensures none_met { OnOk result (MeetsNone (N.forest n.old) (N.forest n.new)) }
+    ensures none_met_refused { IfErr result (λ e. (IsBad e → ⊥) → MeetsNone (N.forest n.old) (N.forest n.new)) }
     ensures unloaded { OnErr result (PathUnloaded (N.forest n.old) inode.0 start) }
     ensures good { IfErr result (λ e. (l : List Ref) → LeavesOf (N.forest n.old) inode.0 l → IsBad e → ⊥) }
     ensures beside { KeepsBeside (N.forest n.old) (N.forest n.new) (N.beside n.old) (N.beside n.new) }

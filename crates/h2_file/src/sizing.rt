@@ -1,5 +1,5 @@
 ghost use Rattle.std.specs.Prelude.{◌≡◌, true};
-ghost use Rattle.h2_set.specs.Forest.{IsSound};
+ghost use Rattle.h2_set.specs.Forest.{IsSound, MeetsNone};
 ghost use Rattle.h2_inode.specs.Nodes.{held_by, KeepsOthersBeside};
 ghost use Rattle.h2_file.specs.Blocks.{IsFileOfRefs};
 ghost use Rattle.h2_file.specs.Sizing.{IsResized, HasResized, Sizes};
@@ -38,6 +38,7 @@ pub(crate) fn set_size<N: Nodes>(n: &mut N, at: NodeId, size: u64)
     requires file { IsFileOfRefs (N.forest n.old) (held_by N.fields (N.beside n.old)) at.0 }
     requires writable { let f = N.forest n.old in f.writable at.0 ≡ true }
     ensures sizes { Sizes (N.forest n.old) (N.forest n.new) at.0 }
+    ensures none_met { MeetsNone (N.forest n.old) (N.forest n.new) }
     ensures inode { (file : IsFileOfRefs (N.forest n.old) (held_by N.fields (N.beside n.old)) at.0) → HasResized (N.forest n.new) (held_by N.fields (N.beside n.new)) at.0 file.inode size }
     ensures beside { KeepsOthersBeside (N.forest n.old) (N.forest n.new) at.0 (N.beside n.old) (N.beside n.new) }
     ensures later { N.later n.old n.new }

@@ -52,6 +52,14 @@ IsAddFault f g holds top name id Full = (h : HasId g holds top name None) × (64
 IsAddFault f g holds top name id (InUse handles) = ⊥
 IsAddFault f g holds top name id (Troubled t) = IsTrouble f g top t ⊎ (HasCause f g t × PathUnloaded f top id)
 
+-- a block wasn't what it should be
+abbrev pub IsBadBlock : PfsFault → Type 0
+IsBadBlock NoPfs = ⊥
+IsBadBlock Exists = ⊥
+IsBadBlock Full = ⊥
+IsBadBlock (InUse handles) = ⊥
+IsBadBlock (Troubled t) = IsBad t
+
 -- what a refusal says of the list of PFSs that the tree stood for; trouble is no bad block then
 abbrev pub IsFaultIn : List ℕ → List ListedPfs → PfsFault → Type 0
 IsFaultIn name pfss NoPfs = id_of name pfss ≡ None

@@ -1,5 +1,5 @@
-ghost use Rattle.std.specs.Prelude.{◌≡◌, ◌⊎◌, ℕ, List, map, IfOk, IfErr};
-ghost use Rattle.h2_set.specs.Forest.{IsBad, IsSound, KeepsBeside};
+ghost use Rattle.std.specs.Prelude.{◌≡◌, ◌⊎◌, ℕ, List, map, IfOk, IfErr, OnOk};
+ghost use Rattle.h2_set.specs.Forest.{IsBad, IsSound, MeetsNone, KeepsBeside};
 ghost use Rattle.h2_inode.specs.Nodes.{held_by, Visits};
 ghost use Rattle.h2_inode.specs.Loaded.{StandsAlike, view_of};
 ghost use Rattle.h2_inode.specs.PfsList.{ListedPfs};
@@ -30,13 +30,16 @@ fn names_of(alloc: Global, pfss: &[Met]) -> Result<Names, NoMemory>
 
 /// The names of the PFSs, in order of their ids. Afterwards all leaves of the super-root's tree are loaded, and the
 /// inodes that they name. Trouble only where one of them wasn't, or for want of memory, and never a bad block where the
-/// list is known. Nothing but such loads takes place, whatever is answered, and all trees stand for what they stood for.
+/// list is known; a bad block is met only where the answer is Bad. Nothing but such loads takes place, whatever is
+/// answered, and all trees stand for what they stood for.
 pub fn pfs_names<N: Nodes>(alloc: Global, n: &mut N, root: NodeId) -> Result<Names, Trouble>
     requires sound { IsSound (N.forest n.old) }
     requires super_root { IsSuperRoot (N.forest n.old) root.0 }
     ensures names { IfOk result (λ names. (pfss : List ListedPfs) × Meets (N.forest n.new) (held_by N.fields (N.beside n.new)) root.0 pfss × (names ≡ map name_of pfss)) }
     ensures listed { IfOk result (λ names. (next : ℕ) (pfss : List ListedPfs) → HasPfss (N.forest n.old) (held_by N.fields (N.beside n.old)) (N.told n.old) root.0 next pfss → names ≡ map name_of pfss) }
     ensures err { IfErr result (IsTrouble (N.forest n.old) (N.forest n.new) root.0) }
+    ensures none_met { OnOk result (MeetsNone (N.forest n.old) (N.forest n.new)) }
+    ensures none_met_refused { IfErr result (λ e. (IsBad e → ⊥) → MeetsNone (N.forest n.old) (N.forest n.new)) }
     ensures good { IfErr result (λ e. (next : ℕ) (pfss : List ListedPfs) → HasPfss (N.forest n.old) (held_by N.fields (N.beside n.old)) (N.told n.old) root.0 next pfss → IsBad e → ⊥) }
     ensures visits { Visits (N.forest n.old) (N.forest n.new) }
     ensures loads { LoadsPfss (N.forest n.old) (N.forest n.new) root.0 }

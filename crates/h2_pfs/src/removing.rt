@@ -1,5 +1,5 @@
 ghost use Rattle.std.specs.Prelude.{◌≡◌, ◌≤◌, ℕ, List, OnOk, IfErr, OnErr};
-ghost use Rattle.h2_set.specs.Forest.{IsSound, KeepsBeside};
+ghost use Rattle.h2_set.specs.Forest.{IsSound, MeetsNone, KeepsBeside};
 ghost use Rattle.h2_inode.specs.Nodes.{held_by, NamesOne, Visits};
 ghost use Rattle.h2_inode.specs.Loaded.{StandsAlike, view_of};
 ghost use Rattle.h2_inode.specs.PfsList.{ListedPfs};
@@ -7,7 +7,7 @@ ghost use Rattle.h2_pfs.specs.SuperRoot.{IsSuperRoot};
 ghost use Rattle.h2_pfs.specs.Listing.{HasPfss};
 ghost use Rattle.h2_pfs.specs.Meets.{LoadsPfss};
 ghost use Rattle.h2_pfs.specs.Removal.{NoneHeld, RemovesPfs, DropsPfs};
-ghost use Rattle.h2_pfs.specs.Faults.{IsRemoveFault, IsFaultIn};
+ghost use Rattle.h2_pfs.specs.Faults.{IsRemoveFault, IsBadBlock, IsFaultIn};
 
 use crate::fault::PfsFault;
 use crate::met::id_in;
@@ -21,9 +21,9 @@ use std::alloc::Global;
 /// PFS has the name, and otherwise InUse with the number of handles exactly where there are some. Without handles the
 /// room is at least 62, and nothing of the PFS is held. The room is lowered by the number of nodes that are copied, at
 /// most 62. Trouble only where a leaf of the super-root's tree wasn't loaded, or an inode that one names, or for want
-/// of memory, and never a bad block where the list of PFSs is known. After a refusal nothing but such loads took place,
-/// and all trees stand for what they stood for; so it is before the removal too, and after it the trees of other roots
-/// stay, but for those that belong to the PFS.
+/// of memory, and never a bad block where the list of PFSs is known; a bad block is met only where the answer tells one.
+/// After a refusal nothing but such loads took place, and all trees stand for what they stood for; so it is before the
+/// removal too, and after it the trees of other roots stay, but for those that belong to the PFS.
 pub fn pfs_remove<N: Nodes>(
     alloc: Global,
     n: &mut N,
@@ -41,6 +41,8 @@ pub fn pfs_remove<N: Nodes>(
     ensures unused { OnOk result (handles ≡ 0) }
     ensures fault { IfErr result (IsRemoveFault (N.forest n.old) (N.forest n.new) (held_by N.fields (N.beside n.new)) root.0 name.now handles) }
     ensures refused { IfErr result (λ e. (next : ℕ) (pfss : List ListedPfs) → HasPfss (N.forest n.old) (held_by N.fields (N.beside n.old)) (N.told n.old) root.0 next pfss → IsFaultIn name.now pfss e) }
+    ensures none_met { OnOk result (MeetsNone (N.forest n.old) (N.forest n.new)) }
+    ensures none_met_refused { IfErr result (λ e. (IsBadBlock e → ⊥) → MeetsNone (N.forest n.old) (N.forest n.new)) }
     ensures visits { OnErr result (Visits (N.forest n.old) (N.forest n.new)) }
     ensures loads { OnErr result (LoadsPfss (N.forest n.old) (N.forest n.new) root.0) }
     ensures alike { OnErr result (StandsAlike (view_of N.fields (N.forest n.old) (N.beside n.old) (N.told n.old)) (view_of N.fields (N.forest n.new) (N.beside n.new) (N.told n.new))) }

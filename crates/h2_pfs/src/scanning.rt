@@ -1,6 +1,6 @@
-ghost use Rattle.std.specs.Prelude.{◌≡◌, ◌⊎◌, ◌-◌, ◌^◌, ℕ, List, map, slice_get, Some, IfOk, IfErr, OnErr};
+ghost use Rattle.std.specs.Prelude.{◌≡◌, ◌⊎◌, ◌-◌, ◌^◌, ℕ, List, map, slice_get, Some, IfOk, IfErr, OnErr, OnOk};
 ghost use Rattle.h2_ref.specs.declared.reference.Ref.{Ref};
-ghost use Rattle.h2_set.specs.Forest.{IsBad, IsSound, HasCause, KeepsBeside};
+ghost use Rattle.h2_set.specs.Forest.{IsBad, IsSound, HasCause, MeetsNone, KeepsBeside};
 ghost use Rattle.h2_inode.specs.Nodes.{held_by, IsInodeLeaf, IsUnloaded, Seeks, Visits};
 ghost use Rattle.h2_inode.specs.Access.{OneByOne};
 ghost use Rattle.h2_inode.specs.declared.inode.Inode.{Inode};
@@ -30,6 +30,8 @@ fn meet<N: Nodes>(alloc: Global, n: &mut N, root: NodeId, leaf: &Ref) -> Result<
     ensures loads { LoadsPfss (N.forest n.old) (N.forest n.new) root.0 }
     ensures alike { StandsAlike (view_of N.fields (N.forest n.old) (N.beside n.old) (N.told n.old)) (view_of N.fields (N.forest n.new) (N.beside n.new) (N.told n.new)) }
     ensures err { IfErr result (HasCause (N.forest n.old) (N.forest n.new)) }
+    ensures none_met { OnOk result (MeetsNone (N.forest n.old) (N.forest n.new)) }
+    ensures none_met_refused { IfErr result (λ e. (IsBad e → ⊥) → MeetsNone (N.forest n.old) (N.forest n.new)) }
     ensures unloaded { IfErr result (λ e. (e ≡ Trouble.NoMemory) ⊎ (let r : Ref = leaf.now in IsUnloaded (N.forest n.old) root.0 r.key)) }
     ensures good { IfErr result (λ e. (i : Inode) (t : Tree) → NamesInode (N.forest n.old) (held_by N.fields (N.beside n.old)) (N.told n.old) (at_root root.0) leaf.now i t → IsBad e → ⊥) }
     ensures beside { KeepsBeside (N.forest n.old) (N.forest n.new) (N.beside n.old) (N.beside n.new) }
@@ -56,6 +58,8 @@ fn meet_all<N: Nodes>(
     ensures loads { LoadsPfss (N.forest n.old) (N.forest n.new) root.0 }
     ensures alike { StandsAlike (view_of N.fields (N.forest n.old) (N.beside n.old) (N.told n.old)) (view_of N.fields (N.forest n.new) (N.beside n.new) (N.told n.new)) }
     ensures err { IfErr result (HasCause (N.forest n.old) (N.forest n.new)) }
+    ensures none_met { OnOk result (MeetsNone (N.forest n.old) (N.forest n.new)) }
+    ensures none_met_refused { IfErr result (λ e. (IsBad e → ⊥) → MeetsNone (N.forest n.old) (N.forest n.new)) }
     ensures unloaded { IfErr result (λ e. (e ≡ Trouble.NoMemory) ⊎ InodeMissing (N.forest n.old) (N.forest n.old) root.0) }
     ensures good { IfErr result (λ e. AreKnown (N.forest n.old) (held_by N.fields (N.beside n.old)) (N.told n.old) root.0 leaves.now → IsBad e → ⊥) }
     ensures beside { KeepsBeside (N.forest n.old) (N.forest n.new) (N.beside n.old) (N.beside n.new) }
@@ -82,6 +86,8 @@ pub(crate) fn scan<N: Nodes>(alloc: Global, n: &mut N, root: NodeId) -> Result<V
     ensures loads { LoadsPfss (N.forest n.old) (N.forest n.new) root.0 }
     ensures alike { StandsAlike (view_of N.fields (N.forest n.old) (N.beside n.old) (N.told n.old)) (view_of N.fields (N.forest n.new) (N.beside n.new) (N.told n.new)) }
     ensures err { IfErr result (IsTrouble (N.forest n.old) (N.forest n.new) root.0) }
+    ensures none_met { OnOk result (MeetsNone (N.forest n.old) (N.forest n.new)) }
+    ensures none_met_refused { IfErr result (λ e. (IsBad e → ⊥) → MeetsNone (N.forest n.old) (N.forest n.new)) }
     ensures good { IfErr result (λ e. (next : ℕ) (pfss : List ListedPfs) → HasPfss (N.forest n.old) (held_by N.fields (N.beside n.old)) (N.told n.old) root.0 next pfss → IsBad e → ⊥) }
     ensures beside { KeepsBeside (N.forest n.old) (N.forest n.new) (N.beside n.old) (N.beside n.new) }
     ensures later { N.later n.old n.new }

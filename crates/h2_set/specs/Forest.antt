@@ -407,8 +407,9 @@ IsBad (Bad place why) = Unit {0}
 IsBad NoMemory = ⊥
 
 -- no bad block was met
-abbrev pub MeetsNone : Forest → Forest → Type 0
-MeetsNone f g = (g.bad ≡ f.bad) × (g.met ≡ f.met)
+pub record MeetsNone (f g : Forest) : Type 0 where
+  pub bad : g.bad ≡ f.bad
+  pub met : g.met ≡ f.met
 
 -- the reference at place i leads further down
 pub record IsIndirectAt (rs : List Ref) (i : ℕ) : Type 0 where

@@ -5,10 +5,10 @@ use Rattle.h2_ref.specs.declared.faults.Trouble.{Trouble}
 use Rattle.h2_set.specs.Forest.{Forest, IsBad, MeetsNone}
 
 pub MeetsNone-refl : (f : Forest) → MeetsNone f f
-MeetsNone-refl f = (refl, refl)
+MeetsNone-refl f = record { bad = refl; met = refl }
 
 pub MeetsNone-trans : (f g h : Forest) → MeetsNone f g → MeetsNone g h → MeetsNone f h
-MeetsNone-trans f g h a b = (b.0 ∙ a.0, b.1 ∙ a.1)
+MeetsNone-trans f g h a b = record { bad = b.bad ∙ a.bad; met = b.met ∙ a.met }
 
 -- where none was met before the last call, what that call says of itself is said of all of them
 pub ok_none_met : {T E : Type 0} (f g h : Forest) (r : Result T E) → MeetsNone f g → OnOk r (MeetsNone g h) → OnOk r (MeetsNone f h)

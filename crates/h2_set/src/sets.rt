@@ -67,13 +67,14 @@ pub trait Sets {
         ensures beside { KeepsBeside (forest self.old) (forest self.new) (beside self.old) (beside self.new) }
         ensures later { later self.old self.new };
 
-    /// Makes the number of spare nodes at least `n`. It isn't refused where it is so already, and after a refusal
-    /// nothing has changed.
+    /// Makes the number of spare nodes at least `n`. Where it is so already it isn't refused, and nothing changes; after
+    /// a refusal nothing has changed either.
     fn ready(&mut self, alloc: Global, n: u32) -> Result<(), NoMemory>
         requires sound { IsSound (forest self.old) }
         ensures ok { let g = forest self.new in OnOk result (n ≤ g.spare) }
         ensures same { ReadiesOnly (forest self.old) (forest self.new) }
         ensures enough { let f = forest self.old in n ≤ f.spare → IsOk result }
+        ensures still { let f = forest self.old in let g = forest self.new in n ≤ f.spare → g.spare ≡ f.spare }
         ensures err { let f = forest self.old in let g = forest self.new in OnErr result (g.spare ≡ f.spare) }
         ensures beside { KeepsBeside (forest self.old) (forest self.new) (beside self.old) (beside self.new) }
         ensures later { later self.old self.new };

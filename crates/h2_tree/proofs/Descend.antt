@@ -137,6 +137,7 @@ module _ (f h : Forest) (at i c : ℕ) (leaf q : Ref) (sound : IsSound f) (stand
           only = it.only;
           room = omega (arith, it.room, walks.room);
           spare = it.spare;
+          grown = λ one. it.grown (omega (arith, one, walks.spare)) ∙ walks.spare;
         });
         filled = ins.filled;
         room = omega (arith, ins.room, walks.room);

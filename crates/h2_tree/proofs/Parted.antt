@@ -123,6 +123,7 @@ module _ (f h g : Forest) (at c : ℕ) (leaf : Ref) (set : RefSet) (s : Split) (
           only = changes_only f h g at (λ m. ⊥) alters makes.place (λ m st ne not_gone. makes.others m st ne);
           room = omega (arith, alters.room, makes.room);
           spare = omega (arith, alters.spare, makes.spare);
+          grown = λ one. refl;
         };
         filled = none_empty g makes.sound;
         room_falls = omega (arith, alters.room, makes.room);

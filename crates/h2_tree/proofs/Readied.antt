@@ -31,8 +31,8 @@ module _ (f h : Forest) (at : ℕ) (leaf : Ref) (stands : f.stands at ≡ true) 
   pub none_after : NoneHolds leaf.key (refs f at) → NoneHolds leaf.key (refs h at)
   none_after miss = subst (λ (s : RefSet). NoneHolds leaf.key s.refs) (sym (ready.same at stands).set) miss
 
-  pub inserts_after : (g : Forest) (old : Option Ref) → IsSound f → Inserts h g at leaf old → Inserts f g at leaf old
-  inserts_after g old sound ins =
+  pub inserts_after : (1 ≤ f.spare → h.spare ≡ f.spare) → (g : Forest) (old : Option Ref) → IsSound f → Inserts h g at leaf old → Inserts f g at leaf old
+  inserts_after still g old sound ins =
       let keeps = λ (m : ℕ) (st : f.stands m ≡ true). Same-Keeps f h m (ready.same m st) in
       let place = (ready.same at stands).place in
       record {
@@ -59,6 +59,7 @@ module _ (f h : Forest) (at : ℕ) (leaf : Ref) (stands : f.stands at ≡ true) 
           only = it.only;
           room = omega (arith, it.room, ready.room);
           spare = it.spare;
+          grown = λ one. it.grown (omega (arith, one, still one)) ∙ still one;
         });
         filled = ins.filled;
         room = omega (arith, ins.room, ready.room);

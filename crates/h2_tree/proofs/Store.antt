@@ -113,6 +113,7 @@ module _ (f h : Forest) (at : ℕ) (leaf : Ref) (s : RefSet) (sound : IsSound f)
           only = changes_only f h g at (λ m. ⊥) alters stores.place (λ m st ne not_gone. same m st ne);
           room = omega (arith, alters.room, stores.room);
           spare = omega (arith, alters.spare, stores.spare);
+          grown = λ one. refl;
         };
         filled = none_empty g stores.sound;
         room = (let slope = (sound.node at stands).slope in omega (arith, enough, slope, alters.room, stores.room));

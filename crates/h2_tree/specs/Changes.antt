@@ -141,6 +141,8 @@ pub record GoesIn (f g : Forest) (at : ℕ) (leaf : Ref) (old : Option Ref) : Ty
   pub only : ChangesOnly then g node (λ m. ⊥)
   pub room : g.room + then.copies node + blocks ≡ f.room
   pub spare : g.spare + blocks ≡ then.spare
+  -- where a node was spare, no other was made ready
+  pub grown : 1 ≤ f.spare → then.spare ≡ f.spare
 
 -- no indirect block is left empty
 abbrev pub NoneEmpty : Forest → Type 0

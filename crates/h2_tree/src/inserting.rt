@@ -1,7 +1,7 @@
 ghost use Rattle.std.specs.Prelude.{◌≡◌, ◌<◌, ◌≤◌, ◌⊎◌, true, false, ℕ, List, Some, None, slice_get, length, IfOk, IfErr, OnOk, OnErr};
 ghost use Rattle.h2_ref.specs.declared.reference.Ref.{Ref};
 ghost use Rattle.h2_set.specs.Ranges.{find, is_indirect, NoneHolds};
-ghost use Rattle.h2_set.specs.Forest.{Forest, refs, IsSound, Walks, HasCause, IsBad, LeavesOf, Reaches, KeepsBeside, ReadiesOnly};
+ghost use Rattle.h2_set.specs.Forest.{Forest, refs, IsSound, Walks, HasCause, IsBad, MeetsNone, LeavesOf, Reaches, KeepsBeside, ReadiesOnly};
 ghost use Rattle.h2_tree.specs.Changes.{Takes, Inserts, KeepsPaths, LoadsTouched, LoadsIn, PathUnloaded};
 
 use crate::loading::load_child;
@@ -20,6 +20,7 @@ fn replace<N: Sets>(n: &mut N, at: NodeId, i: usize, leaf: Ref) -> Ref
     requires same { (q : Ref) → slice_get (refs (N.forest n.old) at.0) i ≡ Some q → (is_indirect q ≡ false) × (q.key ≡ leaf.key) × (q.keybits ≡ leaf.keybits) }
     ensures inserts { Inserts (N.forest n.old) (N.forest n.new) at.0 leaf (Some result) }
     ensures old { slice_get (refs (N.forest n.old) at.0) i ≡ Some result }
+    ensures none_met { MeetsNone (N.forest n.old) (N.forest n.new) }
     ensures beside { KeepsBeside (N.forest n.old) (N.forest n.new) (N.beside n.old) (N.beside n.new) }
     ensures later { N.later n.old n.new }
 {
@@ -39,6 +40,7 @@ fn place<N: Sets>(n: &mut N, at: NodeId, leaf: Ref)
     requires none { NoneHolds leaf.key (refs (N.forest n.old) at.0) }
     requires space { let f = N.forest n.old in let s = f.set at.0 in length s.refs < s.capacity }
     ensures inserts { Inserts (N.forest n.old) (N.forest n.new) at.0 leaf None }
+    ensures none_met { MeetsNone (N.forest n.old) (N.forest n.new) }
     ensures beside { KeepsBeside (N.forest n.old) (N.forest n.new) (N.beside n.old) (N.beside n.new) }
     ensures later { N.later n.old n.new }
 {
@@ -60,6 +62,7 @@ fn part<N: Sets>(n: &mut N, at: NodeId, leaf: Ref)
     requires none { NoneHolds leaf.key (refs (N.forest n.old) at.0) }
     requires full { let f = N.forest n.old in let s = f.set at.0 in length s.refs ≡ s.capacity }
     ensures inserts { Inserts (N.forest n.old) (N.forest n.new) at.0 leaf None }
+    ensures none_met { MeetsNone (N.forest n.old) (N.forest n.new) }
     ensures beside { KeepsBeside (N.forest n.old) (N.forest n.new) (N.beside n.old) (N.beside n.new) }
     ensures later { N.later n.old n.new }
 {
@@ -80,6 +83,7 @@ fn add<N: Sets>(alloc: Global, n: &mut N, at: NodeId, leaf: Ref) -> Result<(), N
     ensures walks { OnErr result (Walks (N.forest n.old) (N.forest n.new)) }
     ensures touched { OnErr result (LoadsIn (N.forest n.old) (N.forest n.new) at.0 leaf.key leaf.key) }
     ensures spare { let f = N.forest n.old in OnErr result (f.spare ≡ 0) }
+    ensures none_met { MeetsNone (N.forest n.old) (N.forest n.new) }
     ensures beside { KeepsBeside (N.forest n.old) (N.forest n.new) (N.beside n.old) (N.beside n.new) }
     ensures later { N.later n.old n.new }
 {
@@ -97,7 +101,7 @@ fn add<N: Sets>(alloc: Global, n: &mut N, at: NodeId, leaf: Ref) -> Result<(), N
 /// The room is at least 63, and is lowered by the number of nodes that are copied and by one for a split, as spare is.
 /// No node is unloaded, none off the path of its key is loaded, and paths to all keys stay loaded. Trouble only where
 /// a node on the path of its key isn't loaded, or no node is spare, and never a bad block where the tree's leaves are
-/// known; nothing but loads took place then.
+/// known; nothing but loads took place then. A bad block is met only where the answer is Bad.
 pub fn insert<N: Sets>(
     alloc: Global,
     n: &mut N,
@@ -114,6 +118,8 @@ pub fn insert<N: Sets>(
     ensures path { IfOk result (λ o. Reaches (N.forest n.new) leaf.key root.0 (Some leaf)) }
     ensures walks { OnErr result (Walks (N.forest n.old) (N.forest n.new)) }
     ensures err { IfErr result (HasCause (N.forest n.old) (N.forest n.new)) }
+    ensures none_met { OnOk result (MeetsNone (N.forest n.old) (N.forest n.new)) }
+    ensures none_met_refused { IfErr result (λ e. (IsBad e → ⊥) → MeetsNone (N.forest n.old) (N.forest n.new)) }
     ensures touched { OnErr result (LoadsTouched (N.forest n.old) (N.forest n.new) leaf.key leaf.key) }
     ensures tree { OnErr result (LoadsIn (N.forest n.old) (N.forest n.new) root.0 leaf.key leaf.key) }
     ensures unloaded { let f = N.forest n.old in OnErr result (PathUnloaded f root.0 leaf.key ⊎ (f.spare ≡ 0)) }

@@ -1,6 +1,6 @@
 ghost use Rattle.std.specs.Prelude.{◌≡◌, ◌⊎◌, ℕ, [], ◌∷◌, ◌++◌, true, List, IfOk, IfErr, OnOk, filter};
 ghost use Rattle.h2_ref.specs.declared.reference.Ref.{Ref};
-ghost use Rattle.h2_set.specs.Forest.{Forest, refs, IsSound, Walks, HasCause, IsBad, LeavesOf, KeepsBeside};
+ghost use Rattle.h2_set.specs.Forest.{Forest, refs, IsSound, Walks, HasCause, IsBad, MeetsNone, LeavesOf, KeepsBeside};
 ghost use Rattle.h2_tree.specs.Changes.{is_between, touches, RangeUnloaded, LoadsTouched, LoadsIn, Lists};
 ghost use Rattle.h2_tree.specs.Listing.{Adds};
 
@@ -53,6 +53,8 @@ fn collect<N: Sets>(
     ensures gathers { OnOk result (Adds (N.forest n.new) from to at.0 (refs (N.forest n.new) at.0) out.old.items out.new.items) }
     ensures walks { Walks (N.forest n.old) (N.forest n.new) }
     ensures err { IfErr result (HasCause (N.forest n.old) (N.forest n.new)) }
+    ensures none_met { OnOk result (MeetsNone (N.forest n.old) (N.forest n.new)) }
+    ensures none_met_refused { IfErr result (λ e. (IsBad e → ⊥) → MeetsNone (N.forest n.old) (N.forest n.new)) }
     ensures touched { LoadsIn (N.forest n.old) (N.forest n.new) at.0 from to }
     ensures unloaded { IfErr result (λ e. (e ≡ Trouble.NoMemory) ⊎ RangeUnloaded (N.forest n.old) from to at.0) }
     ensures good { IfErr result (λ e. (l : List Ref) → LeavesOf (N.forest n.old) at.0 l → IsBad e → ⊥) }
@@ -77,7 +79,7 @@ fn collect<N: Sets>(
 /// The leaves with keys from `from` to `to`, in order: exactly those that loaded nodes lead to, and every node whose
 /// range has such a key is loaded then. No other node is loaded, in no tree; so none is where `from` is above `to`, and
 /// there are no such leaves. Trouble only where one of them wasn't loaded, or for want of memory; never a bad block
-/// where the tree's leaves are known.
+/// where the tree's leaves are known. A bad block is met only where the answer is Bad.
 pub fn range<N: Sets>(
     alloc: Global,
     n: &mut N,
@@ -91,6 +93,8 @@ pub fn range<N: Sets>(
     ensures lists { IfOk result (λ v. Lists (N.forest n.new) root.0 from to v.items) }
     ensures walks { Walks (N.forest n.old) (N.forest n.new) }
     ensures err { IfErr result (HasCause (N.forest n.old) (N.forest n.new)) }
+    ensures none_met { OnOk result (MeetsNone (N.forest n.old) (N.forest n.new)) }
+    ensures none_met_refused { IfErr result (λ e. (IsBad e → ⊥) → MeetsNone (N.forest n.old) (N.forest n.new)) }
     ensures touched { LoadsTouched (N.forest n.old) (N.forest n.new) from to }
     ensures tree { LoadsIn (N.forest n.old) (N.forest n.new) root.0 from to }
     ensures unloaded { IfErr result (λ e. (e ≡ Trouble.NoMemory) ⊎ RangeUnloaded (N.forest n.old) from to root.0) }

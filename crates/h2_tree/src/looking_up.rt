@@ -1,7 +1,7 @@
-ghost use Rattle.std.specs.Prelude.{◌≡◌, ℕ, true, List, Option, IfOk, IfErr, OnErr};
+ghost use Rattle.std.specs.Prelude.{◌≡◌, ℕ, true, List, Option, IfOk, IfErr, OnErr, OnOk};
 ghost use Rattle.h2_ref.specs.declared.reference.Ref.{Ref};
 ghost use Rattle.h2_set.specs.Ranges.{find};
-ghost use Rattle.h2_set.specs.Forest.{Forest, refs, loaded, IsSound, Walks, HasCause, IsBad, LeavesOf, Reaches, KeepsBeside};
+ghost use Rattle.h2_set.specs.Forest.{Forest, refs, loaded, IsSound, Walks, HasCause, IsBad, MeetsNone, LeavesOf, Reaches, KeepsBeside};
 ghost use Rattle.h2_tree.specs.Changes.{WalksUnder, LoadsTouched, LoadsIn, PathUnloaded};
 
 use h2_ref::{Ref, Trouble};
@@ -10,7 +10,8 @@ use std::alloc::Global;
 
 /// The leaf whose range holds the key; None exactly where there is none. Afterwards every node on the key's path is
 /// loaded, and no other was, in no tree; nodes of other trees, or out of the root's range, stay as they were. Trouble
-/// only where one on the path wasn't loaded, and never a bad block where the leaves are known.
+/// only where one on the path wasn't loaded, and never a bad block where the leaves are known. A bad block is met only
+/// where the answer is Bad.
 pub fn lookup<N: Sets>(
     alloc: Global,
     n: &mut N,
@@ -24,6 +25,8 @@ pub fn lookup<N: Sets>(
     ensures found { IfOk result (λ o. (l : List Ref) → LeavesOf (N.forest n.old) root.0 l → o ≡ find key l) }
     ensures path { IfOk result (Reaches (N.forest n.new) key root.0) }
     ensures err { IfErr result (HasCause (N.forest n.old) (N.forest n.new)) }
+    ensures none_met { OnOk result (MeetsNone (N.forest n.old) (N.forest n.new)) }
+    ensures none_met_refused { IfErr result (λ e. (IsBad e → ⊥) → MeetsNone (N.forest n.old) (N.forest n.new)) }
     ensures touched { LoadsTouched (N.forest n.old) (N.forest n.new) key key }
     ensures tree { LoadsIn (N.forest n.old) (N.forest n.new) root.0 key key }
     ensures unloaded { OnErr result (PathUnloaded (N.forest n.old) root.0 key) }

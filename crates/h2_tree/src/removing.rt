@@ -1,7 +1,7 @@
 ghost use Rattle.std.specs.Prelude.{◌≡◌, ◌<◌, ◌≤◌, ◌⊎◌, true, false, ℕ, List, Some, None, slice_get, length, IfOk, IfErr, IfSome, IfNone, OnOk, OnErr};
 ghost use Rattle.h2_ref.specs.declared.reference.Ref.{Ref};
 ghost use Rattle.h2_set.specs.Ranges.{at_key, is_indirect};
-ghost use Rattle.h2_set.specs.Forest.{Forest, refs, IsSound, Walks, HasCause, IsBad, LeavesOf, Reaches, KeepsBeside};
+ghost use Rattle.h2_set.specs.Forest.{Forest, refs, IsSound, Walks, HasCause, IsBad, MeetsNone, LeavesOf, Reaches, KeepsBeside};
 ghost use Rattle.h2_tree.specs.Changes.{IsFree, LeadsOnly, Removes, KeepsPaths, TakesOut, LacksLeaf, LoadsTouched, LoadsIn, PathUnloaded};
 
 use crate::loading::load_child;
@@ -28,6 +28,7 @@ fn cut_at<N: Sets>(n: &mut N, at: NodeId, i: usize)
     requires more { let f = N.forest n.old in (f.root at.0 ≡ at.0) ⊎ (2 ≤ length (refs f at.0)) }
     requires only { let f = N.forest n.old in (leaf : Ref) × LeadsOnly f at.0 i leaf × IsFree f (f.root at.0) leaf.key }
     ensures removes { let f = N.forest n.old in (leaf : Ref) → LeadsOnly f at.0 i leaf → IsFree f (f.root at.0) leaf.key → Removes f (N.forest n.new) at.0 leaf }
+    ensures none_met { MeetsNone (N.forest n.old) (N.forest n.new) }
     ensures beside { KeepsBeside (N.forest n.old) (N.forest n.new) (N.beside n.old) (N.beside n.new) }
     ensures later { N.later n.old n.new }
 {
@@ -45,6 +46,7 @@ fn cut_unless_sole<N: Sets>(n: &mut N, at: NodeId, i: usize, leaf: Ref) -> Taken
     requires only { LeadsOnly (N.forest n.old) at.0 i leaf }
     requires free { let f = N.forest n.old in IsFree f (f.root at.0) leaf.key }
     ensures taken { TakesOut (N.forest n.old) (N.forest n.new) at.0 leaf.key result }
+    ensures none_met { MeetsNone (N.forest n.old) (N.forest n.new) }
     ensures beside { KeepsBeside (N.forest n.old) (N.forest n.new) (N.beside n.old) (N.beside n.new) }
     ensures later { N.later n.old n.new }
 {
@@ -64,6 +66,8 @@ fn take<N: Sets>(alloc: Global, n: &mut N, at: NodeId, key: u64) -> Result<Taken
     ensures taken { IfOk result (TakesOut (N.forest n.old) (N.forest n.new) at.0 key) }
     ensures walks { OnErr result (Walks (N.forest n.old) (N.forest n.new)) }
     ensures err { IfErr result (HasCause (N.forest n.old) (N.forest n.new)) }
+    ensures none_met { OnOk result (MeetsNone (N.forest n.old) (N.forest n.new)) }
+    ensures none_met_refused { IfErr result (λ e. (IsBad e → ⊥) → MeetsNone (N.forest n.old) (N.forest n.new)) }
     ensures touched { OnErr result (LoadsIn (N.forest n.old) (N.forest n.new) at.0 key key) }
     ensures unloaded { OnErr result (PathUnloaded (N.forest n.old) at.0 key) }
     ensures good { IfErr result (λ e. (l : List Ref) → LeavesOf (N.forest n.old) at.0 l → IsBad e → ⊥) }
@@ -94,7 +98,8 @@ fn take<N: Sets>(alloc: Global, n: &mut N, at: NodeId, key: u64) -> Result<Taken
 /// that belongs to what the leaf names is held, and the room is at least 62; it is lowered by the number of nodes that
 /// are copied. Of the tree nothing goes but indirect blocks that would be left empty: the reference to the uppermost of
 /// them is cut. Paths to other keys stay loaded. Trouble only where a node on the key's path isn't loaded, and never a
-/// bad block where the tree's leaves are known; nothing but loads took place then.
+/// bad block where the tree's leaves are known; nothing but loads took place then. A bad block is met only where the
+/// answer is Bad.
 pub fn remove<N: Sets>(
     alloc: Global,
     n: &mut N,
@@ -114,6 +119,8 @@ pub fn remove<N: Sets>(
     ensures absent { IfOk result (λ o. IfNone o (Walks (N.forest n.old) (N.forest n.new))) }
     ensures walks { OnErr result (Walks (N.forest n.old) (N.forest n.new)) }
     ensures err { IfErr result (HasCause (N.forest n.old) (N.forest n.new)) }
+    ensures none_met { OnOk result (MeetsNone (N.forest n.old) (N.forest n.new)) }
+    ensures none_met_refused { IfErr result (λ e. (IsBad e → ⊥) → MeetsNone (N.forest n.old) (N.forest n.new)) }
     ensures none { IfOk result (λ o. IfNone o (LacksLeaf (N.forest n.new) root.0 key)) }
     ensures touched { OnErr result (LoadsTouched (N.forest n.old) (N.forest n.new) key key) }
     ensures tree { OnErr result (LoadsIn (N.forest n.old) (N.forest n.new) root.0 key key) }

@@ -15,6 +15,7 @@ use Rattle.h2_dir.proofs.Renewed.{keeps_tree, renews_tree}
 use Rattle.h2_dir.proofs.Others.{inserted_renews, inserted_exact}
 use Rattle.h2_dir.proofs.Entries.{tree_rising, tells_later, new_entry, entries_same, entries_more}
 use Rattle.h2_dir.proofs.RootLaws.{added_roots, added_place, added_one}
+use Rattle.h2_set.specs.MetLaws.{MeetsNone-trans}
 use Rattle.h2_dir.proofs.adding.add_at.Goals as goal
 
 pub inode-requires : goal.inode-requires
@@ -167,3 +168,6 @@ returns-clause-spends g c =
 
 pub returns-clause-one : goal.returns-clause-one
 returns-clause-one g c = added_one _ _ c.args.dir.0 _ c.requires.sound c.requires.directory.has.stands (returns-clause-adds g c)
+
+pub returns-clause-none_met : goal.returns-clause-none_met
+returns-clause-none_met g c = MeetsNone-trans _ _ _ c.put_in.ensures.none_met (record { bad = c.resize.ensures.replaces.bad; met = c.resize.ensures.replaces.met })

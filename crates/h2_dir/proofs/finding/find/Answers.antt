@@ -9,6 +9,7 @@ use Rattle.h2_dir.specs.declared.fault.DirFault.TheVariants as fault
 use Rattle.h2_dir.specs.Finding.{IsBadBlock}
 use Rattle.h2_dir.proofs.Known.{entries_named}
 use Rattle.h2_dir.proofs.Searched.{found_there, missing_there, scanned_stays, loads_none}
+use Rattle.h2_set.specs.Forest.{MeetsNone}
 use Rattle.h2_dir.proofs.finding.find.Goals as goal
 
 pub returns-then-not-is_directory-clause-walks : goal.returns-then-not-is_directory-clause-walks
@@ -75,4 +76,9 @@ returns-clause-none g c i h not = absurd (not ((c.is_directory.ensures i h).0 c.
 pub returns-in_err-candidates-clause-good : goal.returns-in_err-candidates-clause-good
 returns-in_err-candidates-clause-good g c may size entries h =
     let good : IsBadBlock (fault.Trouble c.in_err-candidates.field-0.0) → ⊥ = c.in_err-candidates.ensures.good h.leaves h.has.read (entries_named _ _ _ _ _ _ _ h) in
+    search (good, rules)
+
+pub returns-in_err-candidates-clause-none_met_refused : goal.returns-in_err-candidates-clause-none_met_refused
+returns-in_err-candidates-clause-none_met_refused g c =
+    let good : (IsBadBlock (fault.Trouble c.in_err-candidates.field-0.0) → ⊥) → MeetsNone (g.N.Sets.forest c.args.n.now) (g.N.Sets.forest c.search.new.n) = c.in_err-candidates.ensures.none_met_refused in
     search (good, rules)

@@ -8,6 +8,7 @@ use Rattle.h2_dir.proofs.Known.{named_at}
 use Rattle.h2_dir.proofs.Told.{any_long}
 use Rattle.h2_dir.proofs.Unchanging.{unchanged_trans, beside_unchanged}
 use Rattle.h2_dir.proofs.Listed.{each_more, each_all, says_stays}
+use Rattle.h2_set.specs.MetLaws.{MeetsNone-trans, handed_none_met}
 use Rattle.h2_dir.proofs.listing.all_named.Goals as goal
 
 pub returns-in_err-named-clause-same : goal.returns-in_err-named-clause-same
@@ -29,6 +30,7 @@ loop-i-preserved g c =
       same = unchanged_trans _ _ _ before.same now.same;
       beside = beside_unchanged _ _ _ _ _ _ before.same before.beside now.beside;
       later = g.met.N.Sets.later_later _ _ _ before.later now.later;
+      none_met = MeetsNone-trans _ _ _ before.none_met now.none_met;
       each = each_more _ _ _ _ _ _ _ c.loop-i-test.true before.each (says_stays _ _ _ _ (λ r. sym (before.same.fixed.name r)) now.says) c.in-Ok.ensures.items;
     }
 
@@ -42,3 +44,9 @@ returns-in_err-named-clause-good g c =
     let f = g.N.Sets.forest c.args.n.now in
     let good : AllNamed f c.args.leaves.now → IsBad c.in_err-named.field-0.0 → ⊥ = λ all bad. let own = named_at f _ _ _ _ c.loop-i.invariant.same.fixed.name c.loop-i-test.true all in c.in_err-named.ensures.good own.0 own.1 bad in
     search (good, rules)
+
+pub returns-in_err-named-clause-none_met_refused : goal.returns-in_err-named-clause-none_met_refused
+returns-in_err-named-clause-none_met_refused g c = handed_none_met _ _ _ c.from_residual.result c.in_err-named.field-0.0 c.from_residual.ensures.1 c.loop-i.invariant.none_met c.in_err-named.ensures.none_met_refused
+
+pub returns-in-Err-clause-none_met_refused : goal.returns-in-Err-clause-none_met_refused
+returns-in-Err-clause-none_met_refused g c = λ good. MeetsNone-trans _ _ _ c.loop-i.invariant.none_met c.in_ok-named.ensures.none_met

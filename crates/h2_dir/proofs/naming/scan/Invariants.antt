@@ -1,7 +1,7 @@
 use Rattle.std.proofs.Common.{◌≡◌, ℕ, ◌<◌, Some}
 use Rattle.std.specs.Prelude.{slice_get}
 use Rattle.h2_ref.specs.declared.reference.Ref.{Ref}
-use Rattle.h2_set.specs.Forest.{Unchanged, KeepsBeside}
+use Rattle.h2_set.specs.Forest.{Unchanged, MeetsNone, KeepsBeside}
 use Rattle.h2_dir.specs.Names.{IsNamed}
 use Rattle.h2_dir.proofs.naming.scan.Given as goal
 
@@ -12,5 +12,6 @@ invariant-loop-i g l =
       same : Unchanged f (g.N.Sets.forest l.n);
       beside : KeepsBeside f (g.N.Sets.forest l.n) (g.N.Sets.beside l.fn.n) (g.N.Sets.beside l.n);
       later : g.N.Sets.later l.fn.n l.n;
+      none_met : MeetsNone f (g.N.Sets.forest l.n);
       none : (i : ℕ) (leaf : Ref) → i < l.i → slice_get l.leaves i ≡ Some leaf → IsNamed f leaf l.name → ⊥;
     }

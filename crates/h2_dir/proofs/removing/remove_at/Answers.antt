@@ -18,6 +18,7 @@ use Rattle.h2_dir.proofs.Renewed.{keeps_tree, renews_tree}
 use Rattle.h2_dir.proofs.Others.{removed_renews, removed_exact}
 use Rattle.h2_dir.proofs.Entries.{tree_rising, entries_same, entries_less, entry_number}
 use Rattle.h2_dir.proofs.RootLaws.{taken_roots, taken_place, taken_one}
+use Rattle.h2_set.specs.MetLaws.{MeetsNone-trans}
 use Rattle.h2_dir.proofs.removing.remove_at.Goals as goal
 
 pub inode-requires : goal.inode-requires
@@ -174,3 +175,6 @@ returns-clause-spends g c =
 
 pub returns-clause-one : goal.returns-clause-one
 returns-clause-one g c = taken_one _ _ c.args.dir.0 _ (returns-clause-takes g c c.requires.there.0 c.requires.there.1)
+
+pub returns-clause-none_met : goal.returns-clause-none_met
+returns-clause-none_met g c = MeetsNone-trans _ _ _ c.take_out-leaf.ensures.none_met (record { bad = c.resize.ensures.replaces.bad; met = c.resize.ensures.replaces.met })

@@ -12,6 +12,7 @@ use Rattle.h2_dir.proofs.Stepping.{IsOnTheWay, way_begins, way_goes_on}
 use Rattle.h2_tree.specs.AnswerLaws.{beside_same}
 use Rattle.h2_dir.proofs.Unchanging.{beside_visits, visits_refl}
 use Rattle.h2_dir.proofs.Walked.{names_at, names_end, ends_err}
+use Rattle.h2_set.specs.MetLaws.{MeetsNone-refl, MeetsNone-trans}
 use Rattle.h2_dir.proofs.walking.walk.Goals as goal
 
 pub loop-i-init : goal.loop-i-init
@@ -23,6 +24,7 @@ loop-i-init g c = record {
   alike = as_before;
   beside = beside_same _ _;
   later = g.met.N.Sets.same_later _;
+  none_met = MeetsNone-refl _;
 }
 
 pub returns-in-Err-clause-visits : goal.returns-in-Err-clause-visits
@@ -93,6 +95,7 @@ loop-i-preserved g c =
       alike = alike_trans inv.alike step.alike;
       beside = beside_visits _ _ _ _ _ _ inv.visits inv.beside step.beside;
       later = g.met.N.Sets.later_later _ _ _ inv.later step.later;
+      none_met = MeetsNone-trans _ _ _ inv.none_met step.none_met;
     }
 
 pub returns-clause-ends : goal.returns-clause-ends
@@ -127,3 +130,6 @@ returns-clause-agrees g c may l has way =
     let was : View = view_of g.N.Nodes.fields (g.N.Sets.forest c.args.n.now) (g.N.Sets.beside c.args.n.now) (g.N.Nodes.told c.args.n.now) in
     let end : drop c.loop-i.i c.args.names.now ≡ [] = subst (λ (xs : List (List ℕ)). drop c.loop-i.i xs ≡ []) c.items-items.ensures (names_end c.items-items.result.now c.loop-i.i c.loop-i-test.false) in
     (c.loop-i.invariant.agrees may l has way).leads (Ok c.loop-i.number) (subst (λ (xs : List (List ℕ)). LeadsBy was may c.args.pfs.0 l c.loop-i.number xs (Ok c.loop-i.number)) (sym end) ended)
+
+pub returns-in-Err-clause-none_met_refused : goal.returns-in-Err-clause-none_met_refused
+returns-in-Err-clause-none_met_refused g c = λ good. MeetsNone-trans _ _ _ c.loop-i.invariant.none_met (c.in-Err.ensures.none_met_refused good)

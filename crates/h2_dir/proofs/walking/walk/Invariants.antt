@@ -1,7 +1,7 @@
 use Rattle.std.proofs.Common.{ℕ, Bool, List}
 use Rattle.std.specs.Prelude.{drop}
 use Rattle.h2_ref.specs.declared.reference.Ref.{Ref}
-use Rattle.h2_set.specs.Forest.{LeavesOf, KeepsBeside}
+use Rattle.h2_set.specs.Forest.{LeavesOf, MeetsNone, KeepsBeside}
 use Rattle.h2_inode.specs.Nodes.{Visits}
 use Rattle.h2_inode.specs.Loaded.{StandsAlike, view_of}
 use Rattle.h2_dir.specs.Knowing.{KnowsWay}
@@ -23,4 +23,5 @@ invariant-loop-i g l =
       alike : StandsAlike was now;
       beside : KeepsBeside f h (g.N.Sets.beside l.fn.n) (g.N.Sets.beside l.n);
       later : g.N.Sets.later l.fn.n l.n;
+      none_met : MeetsNone f h;
     }

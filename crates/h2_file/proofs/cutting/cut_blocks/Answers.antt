@@ -2,6 +2,7 @@ use Rattle.h2_inode.specs.NamesOneLaws.{rootless_one, walks_one}
 use Rattle.h2_file.proofs.Held.{cut_has}
 use Rattle.h2_file.proofs.Sized.{cuts_file, kept_file, kept_resized, others_beside}
 use Rattle.h2_file.proofs.Others.{cut_others}
+use Rattle.h2_set.specs.MetLaws.{MeetsNone-trans}
 use Rattle.h2_file.proofs.cutting.cut_blocks.Goals as goal
 
 pub set_size-requires-clause-file : goal.set_size-requires-clause-file
@@ -30,3 +31,6 @@ returns-in_err-cut_tree-clause-one g c names = walks_one _ _ names c.in_err-cut_
 
 pub returns-clause-one : goal.returns-clause-one
 returns-clause-one g c names = let cuts = returns-clause-cuts g c in rootless_one _ _ names cuts.sound cuts.roots cuts.still
+
+pub returns-clause-none_met : goal.returns-clause-none_met
+returns-clause-none_met g c = MeetsNone-trans _ _ _ c.in_ok-cut_tree.ensures.none_met c.set_size.ensures.none_met

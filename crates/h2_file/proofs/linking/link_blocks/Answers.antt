@@ -10,6 +10,7 @@ use Rattle.h2_file.proofs.Linked.{file_kept, inode_kept, links_file, linked_inod
 use Rattle.h2_file.proofs.Loaded.{loaded_on}
 use Rattle.h2_file.proofs.LinkHeld.{link_has, link_lifted}
 use Rattle.h2_file.proofs.Others.{linked_others}
+use Rattle.h2_set.specs.MetLaws.{MeetsNone-trans}
 use Rattle.h2_file.proofs.linking.link_blocks.Goals as goal
 
 pub prepare-requires-clause-few : goal.prepare-requires-clause-few
@@ -67,7 +68,7 @@ set_size-requires-clause-writable g c =
 pub returns-clause-links : goal.returns-clause-links
 returns-clause-links g c =
     let ready = c.in_ok-prepare.ensures in
-    links_file _ _ _ _ _ _ _ c.requires.sound c.requires.file.has.stands c.requires.file.has.root ready.prepares ready.touched ready.apart ready.loaded c.open_body.ensures.opens c.put_blocks.ensures.puts c.set_size.ensures.sizes c.requires.blocks (file_contents _ _ _ c.open_body.ensures.file)
+    links_file _ _ _ _ _ _ _ c.requires.sound c.requires.file.has.stands c.requires.file.has.root ready.prepares ready.touched ready.apart ready.loaded ready.spare c.open_body.ensures.opens c.put_blocks.ensures.puts c.set_size.ensures.sizes c.requires.blocks (file_contents _ _ _ c.open_body.ensures.file)
 
 pub returns-clause-contents : goal.returns-clause-contents
 returns-clause-contents g c = λ blocks old bytes new has is. link_has _ _ _ _ _ _ blocks _ old c.args.size _ bytes new c.requires.blocks (returns-clause-links g c) is c.requires.sound c.requires.file.has.stands c.requires.file.has.root has
@@ -103,3 +104,6 @@ returns-in_err-prepare-clause-one g c names = walks_one _ _ names c.in_err-prepa
 
 pub returns-clause-one : goal.returns-clause-one
 returns-clause-one g c names = let links = returns-clause-links g c in rootless_one _ _ names links.sound links.roots (λ m stood now. links.still m stood)
+
+pub returns-clause-none_met : goal.returns-clause-none_met
+returns-clause-none_met g c = MeetsNone-trans _ _ _ (MeetsNone-trans _ _ _ (MeetsNone-trans _ _ _ c.in_ok-prepare.ensures.none_met c.open_body.ensures.none_met) c.put_blocks.ensures.none_met) c.set_size.ensures.none_met

@@ -4,6 +4,7 @@ use Rattle.h2_set.specs.StayLaws.{Walks-refl, Walks-trans}
 use Rattle.h2_tree.specs.AnswerLaws.{always_err, beside_on, beside_same}
 use Rattle.h2_file.proofs.Loaded.{apart_refl, apart_on, Each-refl, each_on, one_loaded, unloaded_before, at_place, loaded_more}
 use Rattle.h2_file.proofs.Known.{good_before, carried_good}
+use Rattle.h2_set.specs.MetLaws.{MeetsNone-refl, MeetsNone-trans, handed_none_met}
 use Rattle.h2_file.proofs.linking.load_paths.Goals as goal
 
 pub loop-at-init : goal.loop-at-init
@@ -13,6 +14,7 @@ loop-at-init g c = record {
   apart = apart_refl _ _;
   beside = beside_same _ _;
   later = g.met.N.Sets.same_later _;
+  none_met = MeetsNone-refl _;
   loaded = λ j r read lt. absurd (omega (arith, lt));
 }
 
@@ -30,6 +32,7 @@ loop-at-preserved g c =
       apart = apart_on _ _ _ c.args.root.0 (inv.walks.stays c.args.root.0 c.requires.stands).place.root inv.apart step.under;
       beside = beside_on _ _ _ _ _ _ (λ m st. (inv.walks.stays m st).place.stands) inv.beside step.beside;
       later = g.met.N.Sets.later_later _ _ _ inv.later step.later;
+      none_met = MeetsNone-trans _ _ _ inv.none_met step.none_met;
       loaded = loaded_more _ _ _ c.args.refs.now c.loop-at.at _ _ inv.walks.sound (inv.walks.stays c.args.root.0 c.requires.stands).place.stands step.walks read step.path inv.loaded;
     }
 
@@ -58,3 +61,6 @@ returns-clause-loaded g c = λ i r read. c.loop-at.invariant.loaded i r read (le
 
 pub returns-in_err-lookup-clause-good : goal.returns-in_err-lookup-clause-good
 returns-in_err-lookup-clause-good g c = carried_good _ _ c.from_residual.result c.in_err-lookup.field-0.0 c.from_residual.ensures.1 (good_before _ _ c.args.root.0 c.in_err-lookup.field-0.0 c.requires.sound c.loop-at.invariant.walks c.requires.stands c.in_err-lookup.ensures.good)
+
+pub returns-in_err-lookup-clause-none_met_refused : goal.returns-in_err-lookup-clause-none_met_refused
+returns-in_err-lookup-clause-none_met_refused g c = handed_none_met _ _ _ c.from_residual.result c.in_err-lookup.field-0.0 c.from_residual.ensures.1 c.loop-at.invariant.none_met c.in_err-lookup.ensures.none_met_refused

@@ -1,6 +1,6 @@
 use Rattle.std.proofs.Common.{◌≡◌, ◌<◌, ℕ, Option, Some, slice_get}
 use Rattle.h2_ref.specs.declared.reference.Ref.{Ref}
-use Rattle.h2_set.specs.Forest.{Walks, Reaches, KeepsBeside}
+use Rattle.h2_set.specs.Forest.{Walks, Reaches, MeetsNone, KeepsBeside}
 use Rattle.h2_file.specs.Linking.{LoadsEach, KeepsOthers}
 use Rattle.h2_file.proofs.linking.load_paths.Given as goal
 
@@ -14,5 +14,6 @@ invariant-loop-at g l =
       apart : KeepsOthers f now l.root.0;
       beside : KeepsBeside f now (g.N.Sets.beside l.fn.n) (g.N.Sets.beside l.n);
       later : g.N.Sets.later l.fn.n l.n;
+      none_met : MeetsNone f now;
       loaded : (j : ℕ) (r : Ref) → slice_get l.refs j ≡ Some r → j < l.at → (o : Option Ref) × Reaches now r.key l.root.0 o;
     }

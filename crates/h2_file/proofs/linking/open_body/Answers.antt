@@ -20,3 +20,9 @@ returns-clause-opens g c =
     let bare = c.inode.ensures.set ∙ ap set_of was.1 in
     let now = ap set_of c.resized-emptied.ensures.body ∙ c.new.ensures in
     body_of_bytes c.alter.ensures.alters bare (subst (Replaces (g.N.Sets.forest c.alter.new.self) (g.N.Sets.forest c.set_inode.new.self) c.args.at.0) now c.set_inode.ensures.replaces)
+
+pub returns-then-has_refs-clause-none_met : goal.returns-then-has_refs-clause-none_met
+returns-then-has_refs-clause-none_met g c = record { bad = c.alter.ensures.alters.bad; met = c.alter.ensures.alters.met }
+
+pub returns-clause-none_met : goal.returns-clause-none_met
+returns-clause-none_met g c = record { bad = c.set_inode.ensures.replaces.bad ∙ c.alter.ensures.alters.bad; met = c.set_inode.ensures.replaces.met ∙ c.alter.ensures.alters.met }

@@ -2,6 +2,7 @@ use Rattle.h2_set.specs.StayLaws.{Readies-unchanged, Unchanged-walks, Walks-tran
 use Rattle.h2_tree.specs.AnswerLaws.{beside_on}
 use Rattle.h2_file.proofs.Linked.{walked_readied}
 use Rattle.h2_file.proofs.Loaded.{apart_readied, each_on, none_loaded, loaded_on, readied_paths}
+use Rattle.h2_set.specs.MetLaws.{MeetsNone-trans}
 use Rattle.h2_file.proofs.linking.prepare.Goals as goal
 
 pub returns-in-Ok-clause-prepares : goal.returns-in-Ok-clause-prepares
@@ -32,3 +33,9 @@ returns-in-Ok-clause-apart g c = apart_readied _ _ _ c.args.root.0 c.in_ok-load_
 
 pub returns-in-Err-clause-apart : goal.returns-in-Err-clause-apart
 returns-in-Err-clause-apart g c = apart_readied _ _ _ c.args.root.0 c.in_ok-load_paths.ensures.apart c.ready.ensures.same
+
+pub returns-in-Ok-clause-none_met : goal.returns-in-Ok-clause-none_met
+returns-in-Ok-clause-none_met g c = MeetsNone-trans _ _ _ c.in_ok-load_paths.ensures.none_met (record { bad = c.ready.ensures.same.bad; met = c.ready.ensures.same.met })
+
+pub returns-in-Err-clause-none_met_refused : goal.returns-in-Err-clause-none_met_refused
+returns-in-Err-clause-none_met_refused g c = λ good. MeetsNone-trans _ _ _ c.in_ok-load_paths.ensures.none_met (record { bad = c.ready.ensures.same.bad; met = c.ready.ensures.same.met })

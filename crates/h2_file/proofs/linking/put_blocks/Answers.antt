@@ -7,10 +7,11 @@ use Rattle.h2_file.proofs.Loaded.{at_place}
 use Rattle.h2_file.proofs.Chained.{blocks_ordered, puts_all, puts_more, front_none, front_more, taken_length}
 use Rattle.h2_file.proofs.Parts.{take_from}
 use Rattle.h2_file.proofs.SpentAll.{puts_spent}
+use Rattle.h2_set.specs.MetLaws.{MeetsNone-refl, MeetsNone-trans}
 use Rattle.h2_file.proofs.linking.put_blocks.Goals as goal
 
 pub loop-i-init : goal.loop-i-init
-loop-i-init g c = record { puts = none; beside = beside_same _ _; later = g.met.N.Sets.same_later _ }
+loop-i-init g c = record { puts = none; beside = beside_same _ _; later = g.met.N.Sets.same_later _; none_met = MeetsNone-refl _ }
 
 pub put_block-requires-clause-sound : goal.put_block-requires-clause-sound
 put_block-requires-clause-sound g c = (puts_all c.loop-i.invariant.puts c.requires.sound c.requires.root.0).sound
@@ -59,6 +60,7 @@ loop-i-preserved g c =
       puts = subst (λ z. PutsEach c.args.at.0 f z (g.N.Sets.forest c.put_block.new.n)) (sym (front_more c.args.refs.now c.loop-i.i _ read)) (puts_more inv.puts c.put_block.ensures.puts);
       beside = beside_on _ _ _ _ _ _ (λ m st. (all.still m st).stands) inv.beside c.put_block.ensures.beside;
       later = g.met.N.Sets.later_later _ _ _ inv.later c.put_block.ensures.later;
+      none_met = MeetsNone-trans _ _ _ inv.none_met c.put_block.ensures.none_met;
     }
 
 pub returns-clause-puts : goal.returns-clause-puts

@@ -1,5 +1,5 @@
 use Rattle.std.proofs.Common.{take}
-use Rattle.h2_set.specs.Forest.{KeepsBeside}
+use Rattle.h2_set.specs.Forest.{MeetsNone, KeepsBeside}
 use Rattle.h2_file.specs.Linking.{PutsEach}
 use Rattle.h2_file.proofs.linking.put_blocks.Given as goal
 
@@ -11,4 +11,5 @@ invariant-loop-i g l =
       puts : PutsEach l.at.0 f (take l.i l.refs) now;
       beside : KeepsBeside f now (g.N.Sets.beside l.fn.n) (g.N.Sets.beside l.n);
       later : g.N.Sets.later l.fn.n l.n;
+      none_met : MeetsNone f now;
     }

@@ -9,6 +9,8 @@ use Rattle.h2_pfs.specs.Meets.{LoadsPfss}
 use Rattle.h2_pfs.proofs.Loading.{none_loads}
 use Rattle.h2_tree.specs.AnswerLaws.{always_err, beside_on}
 use Rattle.h2_pfs.proofs.Planted.{ready_path, ready_takes, none_before, new_unloaded, founds}
+use Rattle.h2_set.specs.Forest.{MeetsNone}
+use Rattle.h2_set.specs.MetLaws.{MeetsNone-trans}
 use Rattle.h2_pfs.proofs.adding.found.Goals as goal
 
 pub returns-in_err-ready-clause-visits : goal.returns-in_err-ready-clause-visits
@@ -85,3 +87,21 @@ returns-clause-beside g c =
 
 pub returns-clause-later : goal.returns-clause-later
 returns-clause-later g c = g.met.N.Sets.later_later _ _ _ (g.met.N.Sets.later_later _ _ _ c.in_ok-ready.ensures.later c.in-Ok.ensures.later) c.plant.ensures.later
+
+pub returns-in_err-ready-clause-none_met : goal.returns-in_err-ready-clause-none_met
+returns-in_err-ready-clause-none_met g c = record { bad = c.in_err-ready.ensures.same.bad; met = c.in_err-ready.ensures.same.met }
+
+pub returns-in-Err-clause-none_met : goal.returns-in-Err-clause-none_met
+returns-in-Err-clause-none_met g c =
+    let ready = c.in_ok-ready.ensures in
+    let path = ready_path _ _ c.args.leaf.key c.args.root.0 None c.requires.sound c.requires.super_root.stands ready.same c.requires.path in
+    elim c.in-Err.ensures.unloaded as (λ _. MeetsNone (g.N.Sets.forest c.args.n.now) (g.N.Sets.forest c.insert.new.n)) [
+      | inl none ↦ absurd (none None path)
+      | inr spent ↦ absurd (omega (arith, spent, ready.ok))
+    ]
+
+pub returns-clause-none_met : goal.returns-clause-none_met
+returns-clause-none_met g c =
+    let ready = c.in_ok-ready.ensures.same in
+    let plants = c.plant.ensures.plants in
+    MeetsNone-trans _ _ _ (MeetsNone-trans _ _ _ (record { bad = ready.bad; met = ready.met }) c.in-Ok.ensures.none_met) (record { bad = plants.bad; met = plants.met })

@@ -4,9 +4,10 @@ use Rattle.h2_inode.specs.PfsList.{ListedPfs}
 use Rattle.h2_pfs.specs.declared.fault.PfsFault.{PfsFault}
 use Rattle.h2_pfs.specs.declared.fault.PfsFault.TheVariants.{Trouble as Troubled}
 use Rattle.h2_pfs.specs.Listing.{HasPfss}
-use Rattle.h2_pfs.specs.Faults.{IsFaultIn}
+use Rattle.h2_pfs.specs.Faults.{IsBadBlock, IsFaultIn}
 use Rattle.h2_pfs.proofs.Answering.{carried_err}
 use Rattle.h2_pfs.proofs.Kept.{kept_id, kept_length, found_as, some_of, none_of}
+use Rattle.h2_set.specs.Forest.{MeetsNone}
 use Rattle.h2_pfs.proofs.adding.make_space.Goals as goal
 
 pub returns-in_err-pfss-clause-refused : goal.returns-in_err-pfss-clause-refused
@@ -58,3 +59,14 @@ returns-clause-space g c =
     let count = kept_length _ _ met.0 c.deref.ensures.value met.2 in
     let few : length met.0 < 64 = omega (arith, count, c.deref.ensures.len, c.len.ensures, c.if-len-ge-PFSS.false) in
     (record { pfss = met.0; meets = met.1; absent = id_is ∙ none; few = few }, met.3)
+
+pub returns-in_err-pfss-clause-none_met_refused : goal.returns-in_err-pfss-clause-none_met_refused
+returns-in_err-pfss-clause-none_met_refused g c =
+    let Unmet = λ (x : PfsFault). (IsBadBlock x → ⊥) → MeetsNone (g.N.Sets.forest c.args.n.now) (g.N.Sets.forest c.scan.new.n) in
+    carried_err Unmet c.from_residual.result (Troubled c.in_err-pfss.field-0.0) c.from_residual.ensures.1 c.in_err-pfss.ensures.none_met_refused
+
+pub returns-then-is_some-clause-none_met_refused : goal.returns-then-is_some-clause-none_met_refused
+returns-then-is_some-clause-none_met_refused g c = λ good. c.in_ok-pfss.ensures.none_met
+
+pub returns-then-len-ge-PFSS-clause-none_met_refused : goal.returns-then-len-ge-PFSS-clause-none_met_refused
+returns-then-len-ge-PFSS-clause-none_met_refused g c = λ good. c.in_ok-pfss.ensures.none_met

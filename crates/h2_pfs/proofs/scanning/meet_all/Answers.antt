@@ -17,6 +17,7 @@ use Rattle.h2_pfs.proofs.Members.{whole_front, at_place, map_more}
 use Rattle.h2_pfs.proofs.Growing.{front_met, named_no_more}
 use Rattle.h2_pfs.proofs.Loading.{none_loads, leaves_stand, loads_trans}
 use Rattle.h2_pfs.proofs.Visiting.{visits_same, visits_unloaded, known_stays}
+use Rattle.h2_set.specs.MetLaws.{MeetsNone-refl, MeetsNone-trans, handed_none_met}
 use Rattle.h2_pfs.proofs.scanning.meet_all.Goals as goal
 
 pub loop-i-init : goal.loop-i-init
@@ -26,6 +27,7 @@ loop-i-init g c = record {
   alike = as_before;
   beside = beside_same _ _;
   later = g.met.N.Sets.same_later _;
+  none_met = MeetsNone-refl _;
   met = ([], tt, c.new-out.ensures.items);
   named = λ j d r le read named. named;
 }
@@ -107,6 +109,7 @@ loop-i-preserved g c =
       alike = alike_trans inv.alike met.alike;
       beside = beside_on _ _ _ _ _ _ (λ m st. (inv.visits.stays m st).place.stands) inv.beside met.beside;
       later = g.met.N.Sets.later_later _ _ _ inv.later met.later;
+      none_met = MeetsNone-trans _ _ _ inv.none_met met.none_met;
       met = (pfss ++ p ∷ [], all, items);
       named = named_no_more _ _ _ c.args.root.0 c.loop-i.i met.seeks.0 c.args.leaves.now _ rising read leaf inv.visits met.seeks.1 inv.named;
     }
@@ -117,3 +120,9 @@ returns-clause-met g c =
     let all : c.loop-i.i ≡ length c.args.leaves.now = omega (arith, c.loop-i-test.false, c.loop-i.auto.i-end) in
     let rest = subst (λ k. OneByOne (MetBy (g.N.Sets.forest c.args.n.now) (g.N.Sets.forest c.loop-i.n) (held_by g.N.Nodes.fields (g.N.Sets.beside c.args.n.now)) (held_by g.N.Nodes.fields (g.N.Sets.beside c.loop-i.n)) (g.N.Nodes.told c.args.n.now) c.args.root.0) (take k c.args.leaves.now) met.0) all met.1 in
     (met.0, whole_front _ c.args.leaves.now met.0 rest, met.2)
+
+pub returns-in_err-met-clause-none_met_refused : goal.returns-in_err-met-clause-none_met_refused
+returns-in_err-met-clause-none_met_refused g c = handed_none_met _ _ _ c.from_residual.result c.in_err-met.field-0.0 c.from_residual.ensures.1 c.loop-i.invariant.none_met c.in_err-met.ensures.none_met_refused
+
+pub returns-in-Err-clause-none_met_refused : goal.returns-in-Err-clause-none_met_refused
+returns-in-Err-clause-none_met_refused g c = λ good. MeetsNone-trans _ _ _ c.loop-i.invariant.none_met c.in_ok-met.ensures.none_met

@@ -1,7 +1,7 @@
 use Rattle.std.proofs.Common.{◌≡◌, ◌≤◌, ℕ, List, Some, take, slice_get}
 use Rattle.std.specs.Prelude.{map}
 use Rattle.h2_ref.specs.declared.reference.Ref.{Ref}
-use Rattle.h2_set.specs.Forest.{KeepsBeside}
+use Rattle.h2_set.specs.Forest.{MeetsNone, KeepsBeside}
 use Rattle.h2_inode.specs.Nodes.{held_by, IsNamed, Visits}
 use Rattle.h2_inode.specs.Access.{OneByOne}
 use Rattle.h2_inode.specs.Loaded.{StandsAlike, view_of}
@@ -20,6 +20,7 @@ invariant-loop-i g l =
       alike : StandsAlike (view_of g.N.Nodes.fields f (g.N.Sets.beside l.fn.n) (g.N.Nodes.told l.fn.n)) (view_of g.N.Nodes.fields now (g.N.Sets.beside l.n) (g.N.Nodes.told l.n));
       beside : KeepsBeside f now (g.N.Sets.beside l.fn.n) (g.N.Sets.beside l.n);
       later : g.N.Sets.later l.fn.n l.n;
+      none_met : MeetsNone f now;
       met : (pfss : List ListedPfs) × OneByOne (MetBy f now (held_by g.N.Nodes.fields (g.N.Sets.beside l.fn.n)) (held_by g.N.Nodes.fields (g.N.Sets.beside l.n)) (g.N.Nodes.told l.fn.n) l.root.0) (take l.i l.leaves) pfss × (l.out.items ≡ map met_of pfss);
       named : (j c : ℕ) (r : Ref) → l.i ≤ j → slice_get l.leaves j ≡ Some r → IsNamed now l.root.0 r.key c → IsNamed f l.root.0 r.key c;
     }

@@ -1,4 +1,4 @@
-use Rattle.std.proofs.Common.{ap}
+use Rattle.std.proofs.Common.{◌∙◌, ap}
 use Rattle.h2_set.specs.RefSet.{RefSet}
 use Rattle.h2_tree.proofs.Store.{alters_still, enough_room}
 use Rattle.h2_tree.proofs.Parted.{parted, leaf_small, copy_apart, copy_full, copy_aligned, copy_class, made_from, part_space}
@@ -34,3 +34,6 @@ returns-clause-inserts g c = parted _ _ _ _ _ _ _ _ c.requires.sound c.requires.
 
 pub returns-clause-beside : goal.returns-clause-beside
 returns-clause-beside g c = beside_on _ _ _ _ _ _ (alters_still _ _ _ c.alter.ensures.alters) c.alter.ensures.beside c.make.ensures.beside
+
+pub returns-clause-none_met : goal.returns-clause-none_met
+returns-clause-none_met g c = record { bad = c.make.ensures.makes.bad ∙ c.alter.ensures.alters.bad; met = c.make.ensures.makes.met ∙ c.alter.ensures.alters.met }

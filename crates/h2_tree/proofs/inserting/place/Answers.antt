@@ -1,4 +1,4 @@
-use Rattle.std.proofs.Common.{arith, refl}
+use Rattle.std.proofs.Common.{◌∙◌, arith, refl}
 use Rattle.h2_tree.proofs.Store.{storable, inserts, alters_still, enough_room}
 use Rattle.h2_tree.proofs.Edit.{apart_altered, room_altered, put_copy, places}
 use Rattle.h2_tree.proofs.Parted.{leaf_small}
@@ -28,3 +28,6 @@ returns-clause-inserts g c = inserts _ _ _ _ _ c.requires.sound c.requires.stand
 
 pub returns-clause-beside : goal.returns-clause-beside
 returns-clause-beside g c = beside_on _ _ _ _ _ _ (alters_still _ _ _ c.alter.ensures.alters) c.alter.ensures.beside c.store.ensures.beside
+
+pub returns-clause-none_met : goal.returns-clause-none_met
+returns-clause-none_met g c = record { bad = c.store.ensures.stores.bad ∙ c.alter.ensures.alters.bad; met = c.store.ensures.stores.met ∙ c.alter.ensures.alters.met }

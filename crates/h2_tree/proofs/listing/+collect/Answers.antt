@@ -16,6 +16,7 @@ use Rattle.h2_tree.specs.AnswerLaws.{beside_same, beside_on}
 use Rattle.h2_tree.proofs.Collect.{no_leaves, collected_more, leaf_step, child_step}
 use Rattle.h2_tree.proofs.Known.{child_good, good_above, good_before, no_memory_good, carried_good}
 use Rattle.h2_tree.proofs.listing.+collect.Goals as goal
+use Rattle.h2_set.specs.MetLaws.{MeetsNone-refl, MeetsNone-trans, handed_none_met}
 use Rattle.h2_tree.proofs.listing.+collect.Goals.{then-touches+then-is_indirect+in_ok-child+in_ok-collect, then-touches+else-is_indirect+in_ok-take_leaf, else-touches}
 
 pub loop-i-init : goal.loop-i-init
@@ -24,6 +25,7 @@ loop-i-init g t c = record {
   touched = In-refl _ _ _ _;
   beside = beside_same _ _;
   later = g.met.N.Sets.same_later _;
+  none_met = MeetsNone-refl _;
   gathered = adds_none _ _ _ _ _;
   told = λ front h.
       let none = no_leaves h refl in
@@ -76,6 +78,7 @@ loop-i-preserved g t c =
             touched = inv.touched;
             beside = inv.beside;
             later = inv.later;
+            none_met = inv.none_met;
             gathered = adds_more f f c.args.from c.args.to at i (refs f0 at) c.args.out.now.items c.loop-i.out.items c.loop-i.out.items r inv.walks.sound (Walks-refl f inv.walks.sound) there inv.gathered read0 (adds_skipped f c.args.from c.args.to at c.loop-i.out.items r off);
             told = collected_more f0 at i p c.args.out.now.items c.loop-i.out.items c.loop-i.out.items r inv.told read0 (skip_step f0 at c.args.from c.args.to c.loop-i.out.items r off);
           })
@@ -86,6 +89,7 @@ loop-i-preserved g t c =
             touched = inv.touched;
             beside = inv.beside;
             later = inv.later;
+            none_met = inv.none_met;
             gathered = adds_more f f c.args.from c.args.to at i (refs f0 at) c.args.out.now.items c.loop-i.out.items w.take_leaf.new.out.items r inv.walks.sound (Walks-refl f inv.walks.sound) there inv.gathered read0 (adds_taken f c.args.from c.args.to at c.loop-i.out.items w.take_leaf.new.out.items r leaf w.in_ok-take_leaf.ensures.ok);
             told = collected_more f0 at i p c.args.out.now.items c.loop-i.out.items w.take_leaf.new.out.items r inv.told read0 (leaf_step f0 at p c.loop-i.out.items w.take_leaf.new.out.items r leaf w.in_ok-take_leaf.ensures.ok);
           })
@@ -103,6 +107,7 @@ loop-i-preserved g t c =
             touched = In-trans _ _ _ at w.in_ok-child.child.0 _ _ root_child rest.walks loaded_touched rest.touched;
             beside = beside_on _ _ _ _ _ _ (λ m st. (loaded_walk.stays m st).place.stands) (beside_on _ _ _ _ _ _ (λ m st. (inv.walks.stays m st).place.stands) inv.beside child.beside) rest.beside;
             later = g.met.N.Sets.later_later _ _ _ (g.met.N.Sets.later_later _ _ _ inv.later child.later) rest.later;
+            none_met = MeetsNone-trans _ _ _ (MeetsNone-trans _ _ _ inv.none_met child.none_met) rest.none_met;
             gathered = (let mid = (child.walks.stays at there).place.stands in let link = (rest.walks.stays at mid).near r.key w.in_ok-child.child.0 (child.ok _ read) in adds_more f _ c.args.from c.args.to at i (refs f0 at) c.args.out.now.items c.loop-i.out.items w.collect.new.out.items r inv.walks.sound (Walks-trans _ _ _ child.walks rest.walks) there inv.gathered read0 (adds_entered _ c.args.from c.args.to at w.in_ok-child.child.0 c.loop-i.out.items w.collect.new.out.items r ind link rest.gathers));
             told = collected_more f0 at i p c.args.out.now.items c.loop-i.out.items w.collect.new.out.items r inv.told read0 (child_step f0 _ at _ p c.loop-i.out.items w.collect.new.out.items r c.requires.sound loaded_walk c.requires.stands ind (child.ok _ read) rest.ok);
           })
@@ -201,3 +206,12 @@ returns-in_err-collect-clause-unloaded g t c =
       | inl none ↦ inl none
       | inr u ↦ inr (unloaded_back c.requires.sound loaded_walk c.requires.stands (deeper c.loop-i.i read_h ind on (child.ok c.at.result.now read) u))
     ])
+
+pub returns-in_err-child-clause-none_met_refused : goal.returns-in_err-child-clause-none_met_refused
+returns-in_err-child-clause-none_met_refused g t c = handed_none_met _ _ _ c.from_residual.result c.in_err-child.field-0.0 c.from_residual.ensures.1 c.loop-i.invariant.none_met c.in_err-child.ensures.none_met_refused
+
+pub returns-in_err-collect-clause-none_met_refused : goal.returns-in_err-collect-clause-none_met_refused
+returns-in_err-collect-clause-none_met_refused g t c = handed_none_met _ _ _ c.from_residual-in_err-collect.result c.in_err-collect.field-0.0 c.from_residual-in_err-collect.ensures.1 (MeetsNone-trans _ _ _ c.loop-i.invariant.none_met c.in_ok-child.ensures.none_met) c.in_err-collect.ensures.none_met_refused
+
+pub returns-in_err-take_leaf-clause-none_met_refused : goal.returns-in_err-take_leaf-clause-none_met_refused
+returns-in_err-take_leaf-clause-none_met_refused g t c = handed_none_met _ _ _ c.from_residual-in_err-take_leaf.result c.in_err-take_leaf.field-0.0 c.from_residual-in_err-take_leaf.ensures.1 c.loop-i.invariant.none_met (λ good. MeetsNone-refl _)

@@ -8,6 +8,7 @@ use Rattle.h2_tree.proofs.Taking.{itself_under, under_refl}
 use Rattle.h2_tree.proofs.TakeBelow.{under_step, under_next}
 use Rattle.h2_tree.specs.AnswerLaws.{always_err, beside_same, beside_on}
 use Rattle.h2_tree.proofs.Known.{child_known, child_good, carried_good}
+use Rattle.h2_set.specs.MetLaws.{MeetsNone-refl, MeetsNone-trans, handed_none_met}
 use Rattle.h2_tree.proofs.looking_up.lookup.Goals as goal
 
 pub loop-i-init : goal.loop-i-init
@@ -23,6 +24,7 @@ loop-i-init g c = record {
   led = led_start _ _ _ c.requires.stands;
   beside = beside_same _ _;
   later = g.met.N.Sets.same_later _;
+  none_met = MeetsNone-refl _;
 }
 
 pub returns-in_default-clause-path : goal.returns-in_default-clause-path
@@ -116,4 +118,8 @@ loop-i-preserved g c =
       led = led_on _ _ _ _ _ c.in-Some.i c.at.result.now c.requires.sound now.walks now.led read (c.in-Some.ensures.found.holds _ c.at.ensures) ind _ _ child.walks (child.ok _ read);
       beside = beside_on _ _ _ _ _ _ (λ m st. (now.walks.stays m st).place.stands) now.beside child.beside;
       later = g.met.N.Sets.later_later _ _ _ now.later child.later;
+      none_met = MeetsNone-trans _ _ _ now.none_met child.none_met;
     }
+
+pub returns-in_err-at-clause-none_met_refused : goal.returns-in_err-at-clause-none_met_refused
+returns-in_err-at-clause-none_met_refused g c = handed_none_met _ _ _ c.from_residual.result c.in_err-at.field-0.0 c.from_residual.ensures.1 c.loop-i.invariant.none_met c.in_err-at.ensures.none_met_refused

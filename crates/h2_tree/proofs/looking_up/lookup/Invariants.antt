@@ -1,6 +1,6 @@
 use Rattle.std.proofs.Common.{◌≡◌, true, List}
 use Rattle.h2_ref.specs.declared.reference.Ref.{Ref}
-use Rattle.h2_set.specs.Forest.{LeavesOf, Walks, KeepsBeside}
+use Rattle.h2_set.specs.Forest.{LeavesOf, Walks, MeetsNone, KeepsBeside}
 use Rattle.h2_tree.specs.Changes.{Under, WalksUnder, LoadsIn}
 use Rattle.h2_tree.proofs.Climb.{LeadsTo, LedBack}
 use Rattle.h2_tree.proofs.Known.{Known}
@@ -21,6 +21,7 @@ invariant-loop-i g l =
       led : LedBack (g.N.Sets.forest l.fn.n) l.key l.fn.root.0 l.at.0;
       beside : KeepsBeside (g.N.Sets.forest l.fn.n) f (g.N.Sets.beside l.fn.n) (g.N.Sets.beside l.n);
       later : g.N.Sets.later l.fn.n l.n;
+      none_met : MeetsNone (g.N.Sets.forest l.fn.n) f;
     }
 
 abbrev pub decreases-loop-i : goal.decreases-loop-i

@@ -1,4 +1,4 @@
-use Rattle.std.proofs.Common.{arith}
+use Rattle.std.proofs.Common.{◌∙◌, arith}
 use Rattle.h2_tree.proofs.Removal.{cut_within, storable_copy, removes_copy}
 use Rattle.h2_tree.proofs.Store.{alters_still}
 use Rattle.h2_tree.specs.AnswerLaws.{beside_on}
@@ -18,3 +18,6 @@ returns-clause-removes g c = λ leaf only free. removes_copy _ _ _ c.args.i leaf
 
 pub returns-clause-beside : goal.returns-clause-beside
 returns-clause-beside g c = beside_on _ _ _ _ _ _ (alters_still _ _ _ c.alter.ensures.alters) c.alter.ensures.beside c.store.ensures.beside
+
+pub returns-clause-none_met : goal.returns-clause-none_met
+returns-clause-none_met g c = record { bad = c.store.ensures.stores.bad ∙ c.alter.ensures.alters.bad; met = c.store.ensures.stores.met ∙ c.alter.ensures.alters.met }

@@ -4,6 +4,7 @@ use Rattle.h2_tree.specs.declared.removing.Taken.TheVariants.{Nothing, Out, Sole
 use Rattle.h2_tree.specs.AnswerLaws.{always_err, beside_on}
 use Rattle.h2_tree.proofs.TakeBelow.{root_free, root_room, root_answer, root_removes}
 use Rattle.h2_tree.proofs.Leaving.{removes_paths, removes_path}
+use Rattle.h2_set.specs.MetLaws.{MeetsNone-trans}
 use Rattle.h2_tree.proofs.removing.remove.Goals as goal
 
 pub returns-in-Out-clause-paths : goal.returns-in-Out-clause-paths
@@ -88,3 +89,6 @@ returns-in-Sole-clause-paths g c = removes_paths _ _ _ c.in-Sole.leaf c.requires
 
 pub returns-in-Sole-clause-path : goal.returns-in-Sole-clause-path
 returns-in-Sole-clause-path g c = removes_path _ _ _ c.in-Sole.leaf c.requires.stands (returns-in-Sole-clause-removes g c)
+
+pub returns-in-Sole-clause-none_met : goal.returns-in-Sole-clause-none_met
+returns-in-Sole-clause-none_met g c = MeetsNone-trans _ _ _ c.in_ok-take.ensures.none_met c.cut_at.ensures.none_met
