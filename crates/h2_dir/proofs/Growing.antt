@@ -7,7 +7,8 @@ use Rattle.h2_ref.specs.declared.reference.Ref.{Ref}
 use Rattle.h2_set.specs.Ranges.{holds, limit}
 use Rattle.h2_set.specs.LeafLaws.{holds_inside, place_above}
 use Rattle.h2_set.specs.SplitLaws.{below_high}
-use Rattle.h2_set.specs.Forest.{Forest, refs, IsSound, InPlace, Fixed, Walks, KeepsBeside, Reaches, here, below}
+use Rattle.h2_set.specs.Forest.{Forest, refs, IsSound, Reaches, here, below}
+use Rattle.h2_set.specs.Calls.{InPlace, Fixed, Walks, KeepsBeside}
 use Rattle.h2_set.specs.StayLaws.{stands_below, Reaches-walks}
 use Rattle.h2_set.specs.PathLaws.{in_holds, reaches_one, reaches_stay}
 use Rattle.h2_tree.specs.Changes.{Descends, arrived, onward, TakesIn, replaced, placed, parted, Inserts, Removes, LeadsOnly, itself, down, LacksLeaf, KeepsPaths, GoesAway, below_it, named}

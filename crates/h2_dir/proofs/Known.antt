@@ -6,7 +6,8 @@ use Rattle.h2_ref.specs.declared.faults.Trouble.{Trouble}
 use Rattle.h2_ref.specs.declared.faults.Trouble.TheVariants.{NoMemory}
 use Rattle.h2_ref.specs.declared.reference.Dirent.{Dirent}
 use Rattle.h2_ref.specs.declared.reference.Ref.{Ref}
-use Rattle.h2_set.specs.Forest.{Forest, LeavesOf, IsBad}
+use Rattle.h2_set.specs.Forest.{Forest, LeavesOf}
+use Rattle.h2_set.specs.Calls.{IsBad}
 use Rattle.h2_inode.specs.Nodes.{Fields, Told}
 use Rattle.h2_inode.specs.Loaded.{at_root, loaded_nodes, no_content}
 use Rattle.h2_inode.specs.Directory.{Entries}

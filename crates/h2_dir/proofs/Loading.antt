@@ -1,7 +1,8 @@
 -- Which nodes a walk loads.
 use Rattle.std.proofs.Common.{◌≡◌, ◌⊎◌, ◌<◌, ◌≤◌, ◌+◌, ◌^◌, ℕ, true, false, sym, ◌∙◌, subst, inl, inr, List, ◌∷◌, Option, Ok}
 use Rattle.std.proofs.lemmas.Bool.{cases_Bool}
-use Rattle.h2_set.specs.Forest.{Forest, IsSound, InPlace, KeepsBeside}
+use Rattle.h2_set.specs.Forest.{Forest, IsSound}
+use Rattle.h2_set.specs.Calls.{InPlace, KeepsBeside}
 use Rattle.h2_tree.specs.Changes.{LoadsTouched, LoadsIn}
 use Rattle.h2_dirkey.specs.Key.{least_key}
 use Rattle.h2_inode.specs.declared.inode.Inode.{Inode}

@@ -3,7 +3,8 @@ use Rattle.std.specs.Prelude.{◌≡◌, ℕ, true, Option, None, Some, slice_ge
 use Rattle.std.proofs.Common.{ap, sym, ◌∙◌, subst}
 use Rattle.h2_ref.specs.declared.reference.Ref.{Ref}
 use Rattle.h2_set.specs.RefSet.{RefSet}
-use Rattle.h2_set.specs.Forest.{Forest, refs, IsSound, InPlace, Fixed, Renews, OnWay, inside, across}
+use Rattle.h2_set.specs.Forest.{Forest, refs, IsSound}
+use Rattle.h2_set.specs.Calls.{InPlace, Fixed, Renews, OnWay, inside, across}
 use Rattle.h2_tree.specs.Changes.{Inserts, Removes, GoesAway, below_it, named}
 use Rattle.h2_inode.specs.declared.inode.Inode.{Inode}
 use Rattle.h2_inode.specs.declared.kind.InodeKind.TheVariants.{Directory}

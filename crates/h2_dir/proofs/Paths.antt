@@ -6,7 +6,8 @@ use Rattle.h2_ref.specs.declared.reference.Ref.{Ref}
 use Rattle.h2_ref.specs.Ref.{IsValid}
 use Rattle.h2_set.specs.Ranges.{is_indirect}
 use Rattle.h2_set.specs.RefSet.{RefSet}
-use Rattle.h2_set.specs.Forest.{Forest, loaded, IsSound, Fits, Unchanged, Reaches, nowhere, here, below}
+use Rattle.h2_set.specs.Forest.{Forest, loaded, IsSound, Fits, Reaches, nowhere, here, below}
+use Rattle.h2_set.specs.Calls.{Unchanged}
 use Rattle.h2_set.specs.StayLaws.{stands_below, Reaches-walks, Unchanged-walks}
 use Rattle.h2_tree.specs.Changes.{Lists, RangeUnloaded, missing, deeper}
 use Rattle.h2_inode.specs.declared.kind.InodeKind.{InodeKind}

@@ -5,7 +5,8 @@ use Rattle.std.proofs.lemmas.Option.{same_Some}
 use Rattle.h2_ref.specs.declared.reference.Kind.TheVariants as kinds
 use Rattle.h2_ref.specs.declared.reference.Ref.{Ref}
 use Rattle.h2_set.specs.RefSet.{RefSet}
-use Rattle.h2_set.specs.Forest.{Forest, refs, loaded, IsSound, InPlace, Fixed, Alike, AllRenewed, Renews, Same, Stays}
+use Rattle.h2_set.specs.Forest.{Forest, refs, loaded, IsSound}
+use Rattle.h2_set.specs.Calls.{InPlace, Fixed, Alike, AllRenewed, Renews, Same, Stays}
 use Rattle.h2_set.specs.StayLaws.{Alike-refl, InPlace-trans, leaves_stay}
 use Rattle.h2_set.specs.ChangeLaws.{same_or_not}
 use Rattle.h2_set.specs.RenewLaws.{Keeps-Renews, Renews-trans, trees_renewed}

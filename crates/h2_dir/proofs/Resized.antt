@@ -7,7 +7,8 @@ use Rattle.h2_ref.specs.declared.reference.Ref.{Ref}
 use Rattle.h2_set.specs.Ranges.{is_indirect, Rising}
 use Rattle.h2_set.specs.RefSet.{RefSet}
 use Rattle.h2_set.specs.SetBytes.{IsHeld}
-use Rattle.h2_set.specs.Forest.{Forest, loaded, refs, IsSound, Fits, Loses, Same, Stays, Alike, KeepsLeaves, Reaches, nowhere, here, below}
+use Rattle.h2_set.specs.Forest.{Forest, loaded, refs, IsSound, Fits, KeepsLeaves, Reaches, nowhere, here, below}
+use Rattle.h2_set.specs.Calls.{Loses, Same, Stays, Alike}
 use Rattle.h2_set.specs.StayLaws.{Alike-refl, leaves_stay, Same-Stays}
 use Rattle.h2_set.specs.ChangeLaws.{leaves_move}
 use Rattle.h2_set.specs.PathLaws.{reaches_stay}

@@ -3,7 +3,8 @@
 use Rattle.std.specs.Prelude.{◌≡◌, ℕ, true, None}
 use Rattle.std.proofs.Common.{sym, ◌∙◌}
 use Rattle.h2_ref.specs.declared.reference.Ref.{Ref}
-use Rattle.h2_set.specs.Forest.{Forest, IsSound, InPlace}
+use Rattle.h2_set.specs.Forest.{Forest, IsSound}
+use Rattle.h2_set.specs.Calls.{InPlace}
 use Rattle.h2_set.specs.StayLaws.{InPlace-trans}
 use Rattle.h2_tree.specs.RootLaws.{inserted_roots, removed_roots, removed_place}
 use Rattle.h2_inode.specs.Nodes.{NamesOne}

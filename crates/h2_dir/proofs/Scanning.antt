@@ -4,7 +4,8 @@ use Rattle.std.specs.Prelude.{slice_get}
 use Rattle.std.proofs.lemmas.Option.{slice_get-get_or, get_or_from_slice_get}
 use Rattle.std.proofs.lemmas.Bool.{cases_lt}
 use Rattle.h2_ref.specs.declared.reference.Ref.{Ref}
-use Rattle.h2_set.specs.Forest.{Forest, Unchanged}
+use Rattle.h2_set.specs.Forest.{Forest}
+use Rattle.h2_set.specs.Calls.{Unchanged}
 use Rattle.h2_dir.specs.Names.{IsNamed, MayBeNamed, IsPlaceOfName}
 use Rattle.h2_dir.proofs.Unchanging.{named_stays, may_stays}
 

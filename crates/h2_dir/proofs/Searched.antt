@@ -6,7 +6,8 @@ use Rattle.h2_ref.specs.declared.faults.Trouble.{Trouble}
 use Rattle.h2_ref.specs.declared.faults.Trouble.TheVariants.{NoMemory}
 use Rattle.h2_ref.specs.declared.reference.Dirent.{Dirent}
 use Rattle.h2_ref.specs.declared.reference.Ref.{Ref}
-use Rattle.h2_set.specs.Forest.{Forest, Reaches, Unchanged}
+use Rattle.h2_set.specs.Forest.{Forest, Reaches}
+use Rattle.h2_set.specs.Calls.{Unchanged}
 use Rattle.h2_tree.specs.Changes.{is_between, LoadsTouched, LoadsIn, Lists}
 use Rattle.h2_dirkey.specs.Name.{IsName}
 use Rattle.h2_dirkey.specs.Key.{upper_bits, least_key}

@@ -1,6 +1,7 @@
 -- A walk, one step after the other.
 use Rattle.std.specs.Prelude.{◌≡◌, ℕ, true, List, ◌∷◌, Option, Result, Ok}
-use Rattle.h2_set.specs.Forest.{Forest, IsSound, KeepsBeside}
+use Rattle.h2_set.specs.Forest.{Forest, IsSound}
+use Rattle.h2_set.specs.Calls.{KeepsBeside}
 use Rattle.h2_inode.specs.Nodes.{Fields, held_by, Visits}
 use Rattle.h2_inode.specs.VisitLaws.{visits_trans}
 use Rattle.h2_dir.specs.declared.fault.DirFault.{DirFault}

@@ -1,7 +1,8 @@
 -- Nothing has changed, one call after the other.
 use Rattle.std.proofs.Common.{◌≡◌, ℕ, ◌∙◌, sym, refl, true, List, inl, inr}
 use Rattle.h2_ref.specs.declared.reference.Ref.{Ref}
-use Rattle.h2_set.specs.Forest.{Forest, IsSound, Same, Unchanged, Walks, KeepsBeside}
+use Rattle.h2_set.specs.Forest.{Forest, IsSound}
+use Rattle.h2_set.specs.Calls.{Same, Unchanged, Walks, KeepsBeside}
 use Rattle.h2_set.specs.StayLaws.{Fixed-refl, Fixed-trans, InPlace-refl, InPlace-trans}
 use Rattle.h2_set.specs.StayLaws.{Walks-refl}
 use Rattle.h2_tree.specs.AnswerLaws.{beside_on}

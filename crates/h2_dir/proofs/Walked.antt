@@ -11,7 +11,8 @@ use Rattle.h2_ref.specs.declared.reference.Dirent.{Dirent}
 use Rattle.h2_ref.specs.declared.reference.Ref.{Ref}
 use Rattle.h2_set.specs.LeafLaws.{holds_inside}
 use Rattle.h2_set.specs.RefSet.{RefSet}
-use Rattle.h2_set.specs.Forest.{Forest, loaded, refs, IsSound, Reaches, HasCause, KeepsBeside}
+use Rattle.h2_set.specs.Forest.{Forest, loaded, refs, IsSound, Reaches}
+use Rattle.h2_set.specs.Calls.{HasCause, KeepsBeside}
 use Rattle.h2_set.specs.StayLaws.{stands_below}
 use Rattle.h2_tree.specs.Changes.{PathUnloaded, RangeUnloaded, missing as missing_node, deeper}
 use Rattle.h2_dirkey.specs.Key.{least_key}

@@ -4,7 +4,8 @@ use Rattle.std.specs.FinMap.{get}
 use Rattle.std.proofs.Common.{sym, ◌∙◌, subst, inl, inr}
 use Rattle.h2_ref.specs.declared.faults.Trouble.{Trouble}
 use Rattle.h2_ref.specs.declared.reference.Ref.{Ref}
-use Rattle.h2_set.specs.Forest.{Forest, LeavesOf, Reaches, IsBad}
+use Rattle.h2_set.specs.Forest.{Forest, LeavesOf, Reaches}
+use Rattle.h2_set.specs.Calls.{IsBad}
 use Rattle.h2_inode.specs.declared.inode.Inode.{Inode}
 use Rattle.h2_inode.specs.declared.kind.InodeKind.TheVariants.{Directory}
 use Rattle.h2_inode.specs.Nodes.{Told, HasInode, IsUnloaded, Seeks}

@@ -3,7 +3,8 @@ use Rattle.std.specs.Prelude.{◌≡◌, ◌≤◌, ◌<◌, ℕ, List, Some, No
 use Rattle.std.specs.FinMap.{get}
 use Rattle.h2_ref.specs.declared.reference.Dirent.{Dirent}
 use Rattle.h2_ref.specs.declared.reference.Ref.{Ref}
-use Rattle.h2_set.specs.Forest.{Forest, Reaches, HasCause}
+use Rattle.h2_set.specs.Forest.{Forest, Reaches}
+use Rattle.h2_set.specs.Calls.{HasCause}
 use Rattle.h2_dirkey.specs.Key.{least_key, IsNameUnder}
 use Rattle.h2_inode.specs.declared.kind.InodeKind.{InodeKind}
 use Rattle.h2_inode.specs.declared.kind.InodeKind.TheVariants.{Directory}

@@ -3,7 +3,8 @@ use Rattle.std.specs.Prelude.{◌≡◌, ◌⊎◌, ◌≤◌, ◌<◌, ◌+◌,
 use Rattle.h2_ref.specs.declared.reference.Dirent.{Dirent}
 use Rattle.h2_ref.specs.declared.reference.Ref.{Ref}
 use Rattle.h2_ref.specs.declared.faults.Trouble.TheVariants.{NoMemory}
-use Rattle.h2_set.specs.Forest.{Forest, Reaches, HasCause}
+use Rattle.h2_set.specs.Forest.{Forest, Reaches}
+use Rattle.h2_set.specs.Calls.{HasCause}
 use Rattle.h2_tree.specs.Changes.{PathUnloaded, RangeUnloaded}
 use Rattle.h2_dirkey.specs.Key.{least_key}
 use Rattle.h2_inode.specs.declared.inode.Inode.{Inode}

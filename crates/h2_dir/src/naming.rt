@@ -1,7 +1,8 @@
 ghost use Rattle.std.specs.Prelude.{◌≡◌, ◌≤◌, ◌⊎◌, ℕ, List, true, false, Some, IfOk, IfErr, OnOk, All, take, length};
 ghost use Rattle.h2_ref.specs.Ref.{IsValid};
 ghost use Rattle.h2_ref.specs.declared.reference.Ref.{Ref};
-ghost use Rattle.h2_set.specs.Forest.{IsBad, IsSound, Unchanged, HasCause, MeetsNone, KeepsBeside};
+ghost use Rattle.h2_set.specs.Forest.{IsSound};
+ghost use Rattle.h2_set.specs.Calls.{IsBad, Unchanged, HasCause, MeetsNone, KeepsBeside};
 ghost use Rattle.h2_dir.specs.Names.{IsNamed, MayBeNamed, AllNamed, IsLongCandidate, AnyLongCandidate, Scanned};
 
 use h2_ref::{Dirent, Ref, Trouble};

@@ -1,6 +1,7 @@
 ghost use Rattle.std.specs.Prelude.{◌≡◌, IfOk, IfErr, OnOk, List, filter};
 ghost use Rattle.h2_ref.specs.declared.reference.Ref.{Ref};
-ghost use Rattle.h2_set.specs.Forest.{IsBad, IsSound, Walks, HasCause, MeetsNone, KeepsBeside, LeavesOf};
+ghost use Rattle.h2_set.specs.Forest.{IsSound, LeavesOf};
+ghost use Rattle.h2_set.specs.Calls.{IsBad, Walks, HasCause, MeetsNone, KeepsBeside};
 ghost use Rattle.h2_tree.specs.Changes.{LoadsIn, Lists, is_between};
 ghost use Rattle.h2_dirkey.specs.Key.{least_key};
 ghost use Rattle.h2_inode.specs.declared.inode.Inode.{Inode};

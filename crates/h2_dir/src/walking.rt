@@ -1,7 +1,8 @@
 ghost use Rattle.std.specs.Prelude.{◌≡◌, ℕ, Bool, true, List, ◌∷◌, IfOk, IfErr, OnOk, OnErr};
 ghost use Rattle.h2_set.specs.Ranges.{find as leaf_with};
 ghost use Rattle.h2_ref.specs.declared.reference.Ref.{Ref};
-ghost use Rattle.h2_set.specs.Forest.{IsBad, IsSound, Walks, HasCause, LeavesOf, Reaches, MeetsNone, KeepsBeside};
+ghost use Rattle.h2_set.specs.Forest.{IsSound, LeavesOf, Reaches};
+ghost use Rattle.h2_set.specs.Calls.{IsBad, Walks, HasCause, MeetsNone, KeepsBeside};
 ghost use Rattle.h2_tree.specs.Changes.{LoadsIn, PathUnloaded};
 ghost use Rattle.h2_inode.specs.Nodes.{held_by, Visits};
 ghost use Rattle.h2_inode.specs.Loaded.{View, StandsAlike, view_of};

@@ -2,7 +2,8 @@
 use Rattle.std.proofs.Common.{◌≡◌, ℕ, true, false, Option, Some, None, [], sym, ◌∙◌, ap, subst, refl, inl, arith}
 use Rattle.h2_ref.specs.declared.reference.Kind.TheVariants.{Inode as Inode_kind}
 use Rattle.h2_ref.specs.declared.reference.Ref.{Ref}
-use Rattle.h2_set.specs.Forest.{Forest, Walks, Reaches, KeepsBeside}
+use Rattle.h2_set.specs.Forest.{Forest, Reaches}
+use Rattle.h2_set.specs.Calls.{Walks, KeepsBeside}
 use Rattle.h2_set.specs.Ranges.{leads_on}
 use Rattle.h2_tree.specs.Changes.{Removes, Takes}
 use Rattle.h2_inode.specs.declared.inode.Inode.{Inode}

@@ -4,7 +4,8 @@ use Rattle.std.proofs.lemmas.Option.{none-some}
 use Rattle.h2_ref.specs.declared.reference.Ref.{Ref}
 use Rattle.h2_ref.specs.declared.reference.Kind.TheVariants.{Inode, Content}
 use Rattle.h2_set.specs.RefSet.{RefSet}
-use Rattle.h2_set.specs.Forest.{Forest, refs, IsSoundNode, IsSound, InPlace, Fixed, Alters, AllRenewed, GoesWith, OnWay, inside, across, IsAbove, by, Reaches, nowhere, here, below}
+use Rattle.h2_set.specs.Forest.{Forest, refs, IsSoundNode, IsSound, Reaches, nowhere, here, below}
+use Rattle.h2_set.specs.Calls.{InPlace, Fixed, Alters, AllRenewed, GoesWith, OnWay, inside, across, IsAbove, by}
 use Rattle.h2_set.specs.ChangeLaws.{same_or_not}
 use Rattle.h2_set.specs.RenewLaws.{Alike-length}
 use Rattle.h2_file.specs.Blocks.{HasContents}

@@ -1,7 +1,8 @@
 -- What is kept beside sets over three changes, and what is loaded by calls one after the other.
 use Rattle.std.proofs.Common.{◌≡◌, ℕ, ◌+◌, ◌<◌, ◌≤◌, ◌^◌, true, false, arith, sym, ◌∙◌, ap, ◌⊎◌, inl, inr}
 use Rattle.std.proofs.lemmas.Bool.{cases_Bool}
-use Rattle.h2_set.specs.Forest.{Forest, InPlace, KeepsBeside}
+use Rattle.h2_set.specs.Forest.{Forest}
+use Rattle.h2_set.specs.Calls.{InPlace, KeepsBeside}
 use Rattle.h2_tree.specs.Changes.{LoadsTouched, LoadsIn}
 
 Touched-on : (f g h : Forest) (from to : ℕ) → ((m : ℕ) → g.stands m ≡ true → h.stands m ≡ true → InPlace g h m) → LoadsTouched f g from to → LoadsTouched g h from to → LoadsTouched f h from to

@@ -4,7 +4,8 @@ use Rattle.std.proofs.lemmas.Option.{none-some}
 use Rattle.std.proofs.lemmas.Bool.{cases_Bool}
 use Rattle.h2_ref.specs.declared.reference.Ref.{Ref}
 use Rattle.h2_set.specs.Ranges.{limit, holds, NoneHolds, put}
-use Rattle.h2_set.specs.Forest.{Forest, IsSound, LeavesOf, Fixed, InPlace, Renews, Reaches}
+use Rattle.h2_set.specs.Forest.{Forest, IsSound, LeavesOf, Reaches}
+use Rattle.h2_set.specs.Calls.{Fixed, InPlace, Renews}
 use Rattle.h2_set.specs.StayLaws.{Fixed-refl, Fixed-trans, InPlace-refl, InPlace-trans}
 use Rattle.h2_set.specs.LeafLaws.{outside_holds}
 use Rattle.h2_set.specs.ChangeLaws.{Keeps-refl}

@@ -8,7 +8,8 @@ use Rattle.std.proofs.lemmas.List.{append-nil}
 use Rattle.h2_ref.specs.declared.reference.Ref.{Ref}
 use Rattle.h2_set.specs.Ranges.{Rising, limit, holds, is_indirect, leads_on}
 use Rattle.h2_set.specs.RefSet.{RefSet}
-use Rattle.h2_set.specs.Forest.{Forest, refs, loaded, HasLeaves, done, near, LeavesOf, KeepsLeaves, IsChild, IsSoundNode, IsSound, InPlace, Stays, Keeps, Renews, Fixed, Walks, Loads, Reaches, nowhere, here, below}
+use Rattle.h2_set.specs.Forest.{Forest, refs, loaded, HasLeaves, done, near, LeavesOf, KeepsLeaves, IsChild, IsSoundNode, IsSound, Reaches, nowhere, here, below}
+use Rattle.h2_set.specs.Calls.{InPlace, Stays, Keeps, Renews, Fixed, Walks, Loads}
 use Rattle.h2_set.specs.StayLaws.{Alike-refl, Fixed-trans, InPlace-trans, Walks-trans, Walks-leaves, Reaches-walks, leaves_stay, stands_below}
 use Rattle.h2_set.specs.LeafLaws.{holds_inside, leaves_rising, outside_holds}
 use Rattle.h2_set.specs.ChangeLaws.{Keeps-Stays, Keeps-trans, leaves_move, same_or_not}

@@ -7,7 +7,8 @@ use Rattle.std.proofs.lemmas.Option.{none-some}
 use Rattle.std.proofs.lemmas.List.{append-nil}
 use Rattle.h2_ref.specs.declared.reference.Ref.{Ref}
 use Rattle.h2_set.specs.Ranges.{Rising, limit, holds, NoneHolds, is_indirect, leads_on}
-use Rattle.h2_set.specs.Forest.{Forest, refs, loaded, told, HasLeaves, done, one, near, far, LeavesOf, Fits, IsSoundNode, IsSound, InPlace, Keeps, Renews, Fixed, Reaches, nowhere, here, below}
+use Rattle.h2_set.specs.Forest.{Forest, refs, loaded, told, HasLeaves, done, one, near, far, LeavesOf, Fits, IsSoundNode, IsSound, Reaches, nowhere, here, below}
+use Rattle.h2_set.specs.Calls.{InPlace, Keeps, Renews, Fixed}
 use Rattle.h2_set.specs.StayLaws.{Fixed-refl, Fixed-trans, InPlace-refl, InPlace-trans, Walks-refl}
 use Rattle.h2_set.specs.LeafLaws.{holds_inside, holds_outside, outside_holds}
 use Rattle.h2_set.specs.ChangeLaws.{Keeps-refl, Keeps-trans, same_or_not}

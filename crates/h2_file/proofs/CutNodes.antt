@@ -7,7 +7,8 @@ use Rattle.std.proofs.lemmas.List.{take_all}
 use Rattle.h2_ref.specs.declared.reference.Ref.{Ref}
 use Rattle.h2_set.specs.Ranges.{limit, holds, is_indirect}
 use Rattle.h2_set.specs.RefSet.{RefSet}
-use Rattle.h2_set.specs.Forest.{Forest, refs, loaded, IsSound, Alike, Walks}
+use Rattle.h2_set.specs.Forest.{Forest, refs, loaded, IsSound}
+use Rattle.h2_set.specs.Calls.{Alike, Walks}
 use Rattle.h2_set.specs.LeafLaws.{holds_inside}
 use Rattle.h2_set.specs.PathLaws.{in_holds, same_holder}
 use Rattle.h2_set.specs.ChangeLaws.{same_or_not}

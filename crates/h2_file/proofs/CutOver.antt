@@ -7,7 +7,8 @@ use Rattle.std.proofs.lemmas.List.{length-take}
 use Rattle.h2_ref.specs.declared.reference.Ref.{Ref}
 use Rattle.h2_set.specs.Ranges.{limit, holds, is_indirect, leads_on}
 use Rattle.h2_set.specs.RefSet.{RefSet}
-use Rattle.h2_set.specs.Forest.{Forest, refs, loaded, IsChild, IsSoundNode, IsSound, Alike, InPlace, Keeps, Renews, Walks, OnWay, inside, across, IsAbove, IsRootOf, itself, by}
+use Rattle.h2_set.specs.Forest.{Forest, refs, loaded, IsChild, IsSoundNode, IsSound, IsRootOf}
+use Rattle.h2_set.specs.Calls.{Alike, InPlace, Keeps, Renews, Walks, OnWay, inside, across, IsAbove, itself, by}
 use Rattle.h2_set.specs.StayLaws.{Alike-trans, InPlace-trans, Walks-trans}
 use Rattle.h2_set.specs.LeafLaws.{holds_inside, place_above}
 use Rattle.h2_set.specs.PathLaws.{in_holds}

@@ -6,7 +6,8 @@ use Rattle.std.proofs.lemmas.List.{take_all}
 use Rattle.h2_ref.specs.declared.reference.Ref.{Ref}
 use Rattle.h2_set.specs.Ranges.{limit, is_indirect}
 use Rattle.h2_set.specs.RefSet.{RefSet}
-use Rattle.h2_set.specs.Forest.{Forest, refs, HasLeaves, LeavesOf, IsSound, InPlace, Alike, Reaches, nowhere, here, below}
+use Rattle.h2_set.specs.Forest.{Forest, refs, HasLeaves, LeavesOf, IsSound, Reaches, nowhere, here, below}
+use Rattle.h2_set.specs.Calls.{InPlace, Alike}
 use Rattle.h2_set.specs.StayLaws.{InPlace-trans}
 use Rattle.h2_set.specs.ChangeLaws.{Same-Keeps, same_or_not}
 use Rattle.h2_set.specs.RenewLaws.{Keeps-Renews, Renews-trans}

@@ -10,7 +10,8 @@ use Rattle.h2_ref.specs.declared.reference.Kind.{Kind}
 use Rattle.h2_ref.specs.declared.reference.Kind.TheVariants.{Content}
 use Rattle.h2_set.specs.Ranges.{Rising, limit, holds, is_indirect, leads_on}
 use Rattle.h2_set.specs.RefSet.{RefSet}
-use Rattle.h2_set.specs.Forest.{Forest, refs, loaded, HasLeaves, KeepsLeaves, Fits, IsSoundNode, IsSound, InPlace, Stays, Keeps, IsAlike, Alike, Alters, Stores, Storable, Same, GoesBelow, itself, Reaches, nowhere, here, below}
+use Rattle.h2_set.specs.Forest.{Forest, refs, loaded, HasLeaves, KeepsLeaves, Fits, IsSoundNode, IsSound, Reaches, nowhere, here, below}
+use Rattle.h2_set.specs.Calls.{InPlace, Stays, Keeps, IsAlike, Alike, Alters, Stores, Storable, Same, GoesBelow, itself}
 use Rattle.h2_set.specs.StayLaws.{Alike-refl, Fixed-trans, InPlace-trans, leaves_stay}
 use Rattle.h2_set.specs.LeafLaws.{holds_inside, place_above}
 use Rattle.h2_set.specs.EditLaws.{Rising-set, length-slice_set}

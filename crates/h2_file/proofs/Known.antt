@@ -6,7 +6,8 @@ use Rattle.h2_ref.specs.declared.reference.Ref.{Ref}
 use Rattle.h2_ref.specs.declared.faults.Trouble.{Trouble}
 use Rattle.h2_set.specs.RefSet.{RefSet}
 use Rattle.h2_set.specs.Ranges.{is_indirect}
-use Rattle.h2_set.specs.Forest.{Forest, refs, loaded, told, HasLeaves, done, one, near, far, LeavesOf, IsSound, Walks, IsBad}
+use Rattle.h2_set.specs.Forest.{Forest, refs, loaded, told, HasLeaves, done, one, near, far, LeavesOf, IsSound}
+use Rattle.h2_set.specs.Calls.{Walks, IsBad}
 use Rattle.h2_set.specs.StayLaws.{Walks-leaves}
 
 -- what is below a reference of such a node: a loaded node whose leaves are known, or a block that is told

@@ -5,7 +5,8 @@ use Rattle.h2_ref.specs.declared.reference.Kind.{Kind}
 use Rattle.h2_ref.specs.declared.reference.Kind.TheVariants.{Content}
 use Rattle.h2_set.specs.RefSet.{RefSet}
 use Rattle.h2_set.specs.Ranges.{leads_on}
-use Rattle.h2_set.specs.Forest.{Forest, IsSound, InPlace, Fixed, Walks, ReadiesOnly, KeepsBeside}
+use Rattle.h2_set.specs.Forest.{Forest, IsSound}
+use Rattle.h2_set.specs.Calls.{InPlace, Fixed, Walks, ReadiesOnly, KeepsBeside}
 use Rattle.h2_set.specs.StayLaws.{Fixed-trans, InPlace-trans, Stays-trans, Same-Stays, leaves_stay_all, stands_below}
 use Rattle.h2_set.specs.PathLaws.{reaches_stay}
 use Rattle.h2_set.specs.ChangeLaws.{Same-Keeps, same_or_not}

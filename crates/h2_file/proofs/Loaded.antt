@@ -3,7 +3,8 @@ use Rattle.std.proofs.Common.{◌≡◌, ℕ, ◌+◌, ◌<◌, ◌^◌, true, a
 use Rattle.std.specs.Prelude.{slice_index_or}
 use Rattle.std.proofs.lemmas.Bool.{cases_Bool}
 use Rattle.h2_ref.specs.declared.reference.Ref.{Ref}
-use Rattle.h2_set.specs.Forest.{Forest, IsSound, InPlace, Walks, ReadiesOnly, Reaches}
+use Rattle.h2_set.specs.Forest.{Forest, IsSound, Reaches}
+use Rattle.h2_set.specs.Calls.{InPlace, Walks, ReadiesOnly}
 use Rattle.h2_set.specs.StayLaws.{Reaches-walks, Same-Stays, stands_below}
 use Rattle.h2_set.specs.PathLaws.{reaches_stay}
 use Rattle.h2_set.specs.ChangeLaws.{Keeps-refl, Keeps-trans, Same-Keeps, same_or_not}

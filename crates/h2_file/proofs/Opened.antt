@@ -3,7 +3,8 @@ use Rattle.std.proofs.Common.{◌≡◌, ℕ, true, arith, refl, sym, ◌∙◌,
 use Rattle.std.proofs.lemmas.Option.{none-some}
 use Rattle.h2_ref.specs.declared.reference.Ref.{Ref}
 use Rattle.h2_set.specs.RefSet.{RefSet}
-use Rattle.h2_set.specs.Forest.{Forest, refs, loaded, HasLeaves, done, LeavesOf, KeepsLeaves, IsSound, InPlace, Stays, Same, Renews, Alters, Loses, Reaches, nowhere, here, below}
+use Rattle.h2_set.specs.Forest.{Forest, refs, loaded, HasLeaves, done, LeavesOf, KeepsLeaves, IsSound, Reaches, nowhere, here, below}
+use Rattle.h2_set.specs.Calls.{InPlace, Stays, Same, Renews, Alters, Loses}
 use Rattle.h2_set.specs.StayLaws.{InPlace-trans, leaves_stay}
 use Rattle.h2_set.specs.ChangeLaws.{Keeps-Stays, Same-Keeps, same_or_not}
 use Rattle.h2_set.specs.PathLaws.{alters_path}

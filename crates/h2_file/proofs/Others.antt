@@ -3,7 +3,8 @@ use Rattle.std.specs.Prelude.{◌↔◌}
 use Rattle.std.proofs.Common.{◌≡◌, ℕ, true, refl, sym, ◌∙◌, ap, List, [], ◌∷◌, Option, Some, subst, inl, inr}
 use Rattle.h2_ref.specs.declared.reference.Ref.{Ref}
 use Rattle.h2_set.specs.RefSet.{RefSet}
-use Rattle.h2_set.specs.Forest.{Forest, loaded, AllRenewed, IsSound, InPlace, Renews}
+use Rattle.h2_set.specs.Forest.{Forest, loaded, IsSound}
+use Rattle.h2_set.specs.Calls.{AllRenewed, InPlace, Renews}
 use Rattle.h2_set.specs.ChangeLaws.{same_or_not}
 use Rattle.h2_set.specs.RenewLaws.{trees_renewed}
 use Rattle.h2_set.specs.PathLaws.{reaches_renew}

@@ -8,7 +8,8 @@ use Rattle.std.proofs.lemmas.List.{append-nil, append_assoc, map-append}
 use Rattle.std.proofs.lemmas.List.Elements.{filter-append}
 use Rattle.h2_ref.specs.declared.reference.Ref.{Ref}
 use Rattle.h2_set.specs.Ranges.{Rising, limit, IsAligned}
-use Rattle.h2_set.specs.Forest.{Forest, Alike, HasLeaves, done, one, near, far}
+use Rattle.h2_set.specs.Forest.{Forest, HasLeaves, done, one, near, far}
+use Rattle.h2_set.specs.Calls.{Alike}
 use Rattle.h2_set.specs.LeafLaws.{Rising-le, place_above}
 use Rattle.h2_set.specs.ChangeLaws.{multiple_add, lower_power, same_or_not}
 use Rattle.h2_set.specs.RefSet.{RefSet, IsRefSet}

@@ -6,7 +6,8 @@ use Rattle.h2_ref.specs.declared.reference.Kind.TheVariants.{Content}
 use Rattle.h2_set.specs.Ranges.{is_indirect}
 use Rattle.h2_set.specs.RefSet.{RefSet}
 use Rattle.h2_set.specs.SetBytes.{IsHeld}
-use Rattle.h2_set.specs.Forest.{Forest, refs, loaded, HasLeaves, KeepsLeaves, IsSound, InPlace, Fixed, Stays, Same, Loses, Storable, KeepsBeside, Reaches, nowhere, here, below}
+use Rattle.h2_set.specs.Forest.{Forest, refs, loaded, HasLeaves, KeepsLeaves, IsSound, Reaches, nowhere, here, below}
+use Rattle.h2_set.specs.Calls.{InPlace, Fixed, Stays, Same, Loses, Storable, KeepsBeside}
 use Rattle.h2_set.specs.StayLaws.{Alike-refl, InPlace-trans, Same-Stays, leaves_stay}
 use Rattle.h2_set.specs.ChangeLaws.{leaves_move, same_or_not, Same-Keeps}
 use Rattle.h2_set.specs.RenewLaws.{Keeps-Renews, Renews-trans}

@@ -4,7 +4,8 @@ use Rattle.h2_ref.specs.declared.reference.Ref.{Ref}
 use Rattle.h2_ref.specs.declared.reference.Kind.TheVariants.{Content}
 use Rattle.h2_set.specs.Ranges.{limit, holds, NoneHolds, IsAligned, is_indirect}
 use Rattle.h2_set.specs.SetBytes.{IsHeld}
-use Rattle.h2_set.specs.Forest.{Forest, refs, loaded, IsSound, Alike, HasLeaves, LeavesOf, Fixed, InPlace, Keeps, Renews, Reaches, Walks, OnWay, IsAbove, IsRootOf}
+use Rattle.h2_set.specs.Forest.{Forest, refs, loaded, IsSound, HasLeaves, LeavesOf, Reaches, IsRootOf}
+use Rattle.h2_set.specs.Calls.{Alike, Fixed, InPlace, Keeps, Renews, Walks, OnWay, IsAbove}
 use Rattle.h2_tree.specs.Changes.{Under, LoadsIn, WalksUnder, Descends}
 use Rattle.h2_file.specs.declared.cutting.Left.{Left}
 use Rattle.h2_file.specs.declared.cutting.Left.TheVariants.{Nothing, All, Something}

@@ -5,7 +5,8 @@ use Rattle.h2_ref.specs.declared.reference.Kind.TheVariants.{Content}
 use Rattle.h2_set.specs.Ranges.{NoneHolds, IsAligned, put}
 use Rattle.h2_set.specs.RefSet.{RefSet}
 use Rattle.h2_set.specs.SetBytes.{IsHeld}
-use Rattle.h2_set.specs.Forest.{Forest, IsSound, LeavesOf, InPlace, Keeps, Renews, Reaches, Alters}
+use Rattle.h2_set.specs.Forest.{Forest, IsSound, LeavesOf, Reaches}
+use Rattle.h2_set.specs.Calls.{InPlace, Keeps, Renews, Alters}
 use Rattle.h2_tree.specs.Changes.{Inserts, KeepsPaths, Prepares, PathUnloaded}
 use Rattle.h2_inode.specs.Nodes.{Replaces}
 use Rattle.h2_file.specs.Sizing.{Sizes}

@@ -2,7 +2,8 @@ ghost use Rattle.std.specs.Prelude.{◌≡◌, ◌<◌, ◌≤◌, ◌⊎◌, �
 ghost use Rattle.h2_num.specs.Places.{Places};
 ghost use Rattle.h2_ref.specs.declared.reference.Ref.{Ref};
 ghost use Rattle.h2_set.specs.RefSet.{RefSet};
-ghost use Rattle.h2_set.specs.Forest.{Forest, IsSound, Walks, Reaches, HasCause, IsBad, MeetsNone, LeavesOf, KeepsBeside};
+ghost use Rattle.h2_set.specs.Forest.{Forest, IsSound, Reaches, LeavesOf};
+ghost use Rattle.h2_set.specs.Calls.{Walks, HasCause, IsBad, MeetsNone, KeepsBeside};
 ghost use Rattle.h2_tree.specs.Changes.{Prepares};
 ghost use Rattle.h2_inode.specs.declared.inode.Body.{Body};
 ghost use Rattle.h2_inode.specs.declared.inode.Body.TheVariants.{Refs, Bytes};

@@ -1,7 +1,8 @@
 ghost use Rattle.std.specs.Prelude.{◌≡◌, ℕ, true, List, Option, IfOk, IfErr, OnErr, OnOk};
 ghost use Rattle.h2_ref.specs.declared.reference.Ref.{Ref};
 ghost use Rattle.h2_set.specs.Ranges.{find};
-ghost use Rattle.h2_set.specs.Forest.{IsSound, Walks, HasCause, IsBad, MeetsNone, LeavesOf, Reaches, KeepsBeside};
+ghost use Rattle.h2_set.specs.Forest.{IsSound, LeavesOf, Reaches};
+ghost use Rattle.h2_set.specs.Calls.{Walks, HasCause, IsBad, MeetsNone, KeepsBeside};
 ghost use Rattle.h2_tree.specs.Changes.{LoadsIn, PathUnloaded};
 ghost use Rattle.h2_inode.specs.Nodes.{held_by};
 ghost use Rattle.h2_file.specs.Blocks.{IsFileOfRefs};

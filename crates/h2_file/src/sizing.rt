@@ -1,5 +1,6 @@
 ghost use Rattle.std.specs.Prelude.{◌≡◌, true};
-ghost use Rattle.h2_set.specs.Forest.{IsSound, MeetsNone};
+ghost use Rattle.h2_set.specs.Forest.{IsSound};
+ghost use Rattle.h2_set.specs.Calls.{MeetsNone};
 ghost use Rattle.h2_inode.specs.Nodes.{held_by, KeepsOthersBeside};
 ghost use Rattle.h2_file.specs.Blocks.{IsFileOfRefs};
 ghost use Rattle.h2_file.specs.Sizing.{IsResized, HasResized, Sizes};

@@ -1,7 +1,8 @@
 -- All trees stand for what they stood for over loads.
 use Rattle.std.proofs.Common.{◌≡◌, ℕ, false, Option, Some}
 use Rattle.h2_ref.specs.declared.reference.Ref.{Ref}
-use Rattle.h2_set.specs.Forest.{Forest, IsSound, Walks, Unchanged, KeepsBeside}
+use Rattle.h2_set.specs.Forest.{Forest, IsSound}
+use Rattle.h2_set.specs.Calls.{Walks, Unchanged, KeepsBeside}
 use Rattle.h2_inode.specs.Nodes.{Fields, Told, held_by, IsInodeLeaf, IsAsTold, Seeks}
 use Rattle.h2_inode.specs.Loaded.{StandsAlike, view_of}
 use Rattle.h2_inode.specs.LoadedLaws.{alike_one, walks_reread, unchanged_reread, seeks_reread, beside_holds}

@@ -8,7 +8,8 @@ use Rattle.std.proofs.lemmas.Option.{same_Some}
 use Rattle.h2_num.specs.Places.{Places}
 use Rattle.h2_ref.specs.declared.reference.Ref.{Ref}
 use Rattle.h2_set.specs.Ranges.{Rising, find, holds, limit}
-use Rattle.h2_set.specs.Forest.{Forest, LeavesOf, KeepsLeaves, IsSound, Walks, Unchanged, ReadiesOnly, Stays, KeepsBeside}
+use Rattle.h2_set.specs.Forest.{Forest, LeavesOf, KeepsLeaves, IsSound}
+use Rattle.h2_set.specs.Calls.{Walks, Unchanged, ReadiesOnly, Stays, KeepsBeside}
 use Rattle.h2_set.specs.LeafLaws.{outside_holds, leaves_rising, reaches_find}
 use Rattle.h2_set.specs.StayLaws.{leaves_stay_all, Same-Stays, Unchanged-walks}
 use Rattle.h2_inode.specs.declared.inode.Inode.{Inode}

@@ -5,7 +5,8 @@ use Rattle.std.proofs.lemmas.Bool.{cases_Bool, cases_eq}
 use Rattle.std.proofs.lemmas.Option.{none-some, same_Some}
 use Rattle.h2_ref.specs.declared.reference.Ref.{Ref}
 use Rattle.h2_set.specs.RefSet.{RefSet}
-use Rattle.h2_set.specs.Forest.{Forest, IsSound, InPlace, Same, Stays}
+use Rattle.h2_set.specs.Forest.{Forest, IsSound}
+use Rattle.h2_set.specs.Calls.{InPlace, Same, Stays}
 use Rattle.h2_set.specs.StayLaws.{Same-Stays}
 use Rattle.h2_inode.specs.declared.inode.Body.{Body}
 use Rattle.h2_inode.specs.declared.inode.Body.TheVariants.{Refs, Bytes}

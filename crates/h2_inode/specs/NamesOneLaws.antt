@@ -4,7 +4,8 @@ use Rattle.std.proofs.Common.{sym, ◌∙◌, inl, inr, subst}
 use Rattle.std.proofs.lemmas.Bool.{cases_Bool, cases_eq}
 use Rattle.h2_set.specs.RefSet.{RefSet}
 use Rattle.h2_set.specs.declared.set.Split.{Split}
-use Rattle.h2_set.specs.Forest.{Forest, IsSound, InPlace, Walks, ReadiesOnly, Unchanged, Alters, Stores, Makes}
+use Rattle.h2_set.specs.Forest.{Forest, IsSound}
+use Rattle.h2_set.specs.Calls.{InPlace, Walks, ReadiesOnly, Unchanged, Alters, Stores, Makes}
 use Rattle.h2_inode.specs.Nodes.{IsNamed, NamesOne, IsUnloaded, Brings, Seeks, Plants, Replaces}
 use Rattle.h2_inode.specs.NodeLaws.{named_back, replaced_place}
 use Rattle.h2_inode.specs.NamedLaws.{brings_bare}

@@ -6,7 +6,8 @@ use Rattle.h2_ref.specs.declared.reference.Ref.{Ref}
 use Rattle.h2_set.specs.Ranges.{Rising, is_indirect}
 use Rattle.h2_set.specs.RefSet.{RefSet}
 use Rattle.h2_inode.specs.declared.kind.InodeKind.{InodeKind}
-use Rattle.h2_set.specs.Forest.{Forest, refs, HasLeaves, done, LeavesOf, KeepsLeaves, Alike, IsSound, loaded, InPlace, Same, Stays, Fits, Storable, GoesWith, Stores}
+use Rattle.h2_set.specs.Forest.{Forest, refs, HasLeaves, done, LeavesOf, KeepsLeaves, IsSound, loaded, Fits}
+use Rattle.h2_set.specs.Calls.{Alike, InPlace, Same, Stays, Storable, GoesWith, Stores}
 use Rattle.h2_set.specs.StayLaws.{Alike-refl, leaves_stay, leaves_stay_all}
 use Rattle.h2_inode.specs.declared.inode.Body.{Body}
 use Rattle.h2_inode.specs.declared.inode.Body.TheVariants.{Refs, Bytes}

@@ -7,7 +7,8 @@ use Rattle.h2_ref.specs.declared.reference.Ref.{Ref}
 use Rattle.h2_set.specs.Ranges.{Rising, IsAligned, is_indirect}
 use Rattle.h2_set.specs.RefSet.{RefSet, IsRefSet}
 use Rattle.h2_set.specs.SetBytes.{IsHeld}
-use Rattle.h2_set.specs.Forest.{Forest, refs, told, Reaches, IsSound, InPlace, Same, Stays, GoesBelow, GoesWith, LeavesOf, IsRootOf}
+use Rattle.h2_set.specs.Forest.{Forest, refs, told, Reaches, IsSound, LeavesOf, IsRootOf}
+use Rattle.h2_set.specs.Calls.{InPlace, Same, Stays, GoesBelow, GoesWith}
 use Rattle.h2_inode.specs.declared.kind.InodeKind.{InodeKind}
 use Rattle.h2_inode.specs.declared.kind.InodeKind.TheVariants.{Directory, File, Pfs}
 use Rattle.h2_inode.specs.declared.inode.Body.{Body}

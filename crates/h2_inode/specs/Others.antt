@@ -3,7 +3,8 @@ use Rattle.std.specs.Prelude.{◌≡◌, ℕ, true, List, Option, Some}
 use Rattle.h2_num.specs.Places.{Places}
 use Rattle.h2_ref.specs.declared.reference.Ref.{Ref}
 use Rattle.h2_set.specs.RefSet.{RefSet}
-use Rattle.h2_set.specs.Forest.{refs, LeavesOf, KeepsLeaves, Reaches, InPlace}
+use Rattle.h2_set.specs.Forest.{refs, LeavesOf, KeepsLeaves, Reaches}
+use Rattle.h2_set.specs.Calls.{InPlace}
 use Rattle.h2_set.specs.RenewLaws.{RenewsLeaves}
 use Rattle.h2_set.specs.PathLaws.{PathRenewed}
 use Rattle.h2_inode.specs.declared.inode.Body.{Body}

@@ -6,7 +6,8 @@ use Rattle.h2_num.specs.Places.{Places}
 use Rattle.h2_ref.specs.declared.reference.Ref.{Ref}
 use Rattle.h2_ref.specs.declared.reference.Dirent.{Dirent}
 use Rattle.h2_set.specs.RefSet.{RefSet}
-use Rattle.h2_set.specs.Forest.{names_node, IsRenewed, AllRenewed, LeavesOf}
+use Rattle.h2_set.specs.Forest.{LeavesOf}
+use Rattle.h2_set.specs.Calls.{names_node, IsRenewed, AllRenewed}
 use Rattle.h2_set.specs.StayLaws.{Alike-refl, InPlace-refl, InPlace-trans}
 use Rattle.h2_set.specs.RenewLaws.{Alike-renewed, AllRenewed-trans}
 use Rattle.h2_set.specs.PathLaws.{AnswerRenewed, answer_same}

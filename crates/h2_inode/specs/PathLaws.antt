@@ -6,7 +6,8 @@ use Rattle.std.proofs.lemmas.Bool.{cases_eq}
 use Rattle.h2_ref.specs.declared.reference.Ref.{Ref}
 use Rattle.h2_set.specs.Ranges.{is_indirect}
 use Rattle.h2_set.specs.RefSet.{RefSet}
-use Rattle.h2_set.specs.Forest.{Forest, refs, loaded, KeepsLeaves, Alike, IsSound, Reaches, nowhere, here, below, InPlace, Same, Loses, Walks}
+use Rattle.h2_set.specs.Forest.{Forest, refs, loaded, KeepsLeaves, IsSound, Reaches, nowhere, here, below}
+use Rattle.h2_set.specs.Calls.{Alike, InPlace, Same, Loses, Walks}
 use Rattle.h2_set.specs.StayLaws.{Alike-refl}
 use Rattle.h2_set.specs.ChangeLaws.{Same-Keeps, below_keeps, leaves_move}
 use Rattle.h2_inode.specs.Nodes.{IsInodeLeaf, Brings, Replaces, Visits}

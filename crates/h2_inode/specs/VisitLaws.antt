@@ -4,7 +4,8 @@ use Rattle.std.proofs.Common.{ap, sym, ◌∙◌, arith, inl, inr, subst}
 use Rattle.std.proofs.lemmas.Bool.{cases_Bool}
 use Rattle.h2_ref.specs.declared.reference.Ref.{Ref}
 use Rattle.h2_set.specs.RefSet.{RefSet}
-use Rattle.h2_set.specs.Forest.{Forest, KeepsLeaves, IsSound, Walks, Unchanged, KeepsBeside, Reaches, nowhere, here, below}
+use Rattle.h2_set.specs.Forest.{Forest, KeepsLeaves, IsSound, Reaches, nowhere, here, below}
+use Rattle.h2_set.specs.Calls.{Walks, Unchanged, KeepsBeside}
 use Rattle.h2_set.specs.StayLaws.{Stays-trans, leaves_stay_all, stands_below}
 use Rattle.h2_inode.specs.declared.inode.Inode.{Inode}
 use Rattle.h2_inode.specs.Nodes.{Fields, held_by, HasInode, IsInodeLeaf, IsNamed, Seeks, Visits}

@@ -6,7 +6,8 @@ use Rattle.std.proofs.lemmas.Bool.{or_cases, or_left, or_right}
 use Rattle.std.proofs.lemmas.Nat.{pow_pos}
 use Rattle.h2_ref.specs.declared.faults.Why.{Why}
 use Rattle.h2_set.specs.RefSet.{RefSet}
-use Rattle.h2_set.specs.Forest.{Forest, refs, IsSound, Alike, Keeps, Alters, IsAbove, itself, by, inside, across}
+use Rattle.h2_set.specs.Forest.{Forest, refs, IsSound}
+use Rattle.h2_set.specs.Calls.{Alike, Keeps, Alters, IsAbove, itself, by, inside, across}
 use Rattle.h2_set.specs.ChangeLaws.{same_or_not}
 use Rattle.h2_set.specs.LeafLaws.{holds_inside, place_above}
 use Rattle.h2_set.specs.SplitLaws.{below_high}

@@ -2,7 +2,7 @@
 use Rattle.std.proofs.Common.{◌≡◌, ℕ, ◌<◌, ◌≤◌, Bool, true, false, ◌&&◌, arith, sym, ◌∙◌, ap, List, length, Option, Some, None, subst, inl, inr, slice_get}
 use Rattle.std.proofs.lemmas.Option.{none-some}
 use Rattle.h2_ref.specs.declared.faults.Why.{Why}
-use Rattle.h2_set.specs.Forest.{KeepsBeside}
+use Rattle.h2_set.specs.Calls.{KeepsBeside}
 use Rattle.h2_set.specs.ChangeLaws.{same_or_not}
 use Rattle.h2_inode.specs.declared.inode.Inode.{Inode}
 use Rattle.h2_memory_sets.specs.declared.node.Node.{Node}

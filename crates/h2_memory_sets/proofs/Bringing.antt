@@ -9,7 +9,8 @@ use Rattle.h2_ref.specs.declared.faults.Trouble.{Trouble}
 use Rattle.h2_ref.specs.declared.faults.Trouble.TheVariants.{Bad}
 use Rattle.h2_ref.specs.declared.reference.Ref.{Ref}
 use Rattle.h2_set.specs.Ranges.{is_indirect}
-use Rattle.h2_set.specs.Forest.{Link, loaded, told, untold, Forest, Loads, Walks, IsSound}
+use Rattle.h2_set.specs.Forest.{Link, loaded, told, untold, Forest, IsSound}
+use Rattle.h2_set.specs.Calls.{Loads, Walks}
 use Rattle.h2_set.specs.ChangeLaws.{same_or_not}
 use Rattle.h2_set.specs.StayLaws.{Alike-refl}
 use Rattle.h2_memory_sets.specs.declared.node.Node.{Node}

@@ -6,7 +6,8 @@ use Rattle.h2_ref.specs.declared.reference.Kind.TheVariants.{Inode}
 use Rattle.h2_ref.specs.declared.reference.Ref.{Ref}
 use Rattle.h2_set.specs.Ranges.{Rising, limit}
 use Rattle.h2_set.specs.RefSet.{RefSet, IsRefSet}
-use Rattle.h2_set.specs.Forest.{Forest, refs, loaded, untold, IsSound, IsSoundNode, Same, HasParent, HasOwner, Reaches}
+use Rattle.h2_set.specs.Forest.{Forest, refs, loaded, untold, IsSound, IsSoundNode, HasParent, HasOwner, Reaches}
+use Rattle.h2_set.specs.Calls.{Same}
 use Rattle.h2_set.specs.ChangeLaws.{same_or_not}
 use Rattle.h2_set.specs.PathLaws.{reaches_stay}
 use Rattle.h2_set.specs.StayLaws.{stands_below}

@@ -12,7 +12,8 @@ use Rattle.h2_ref.specs.declared.reference.Ref.{Ref}
 use Rattle.h2_set.specs.Ranges.{holds, is_indirect}
 use Rattle.h2_set.specs.RefSet.{RefSet}
 use Rattle.h2_inode.specs.declared.inode.Inode.{Inode}
-use Rattle.h2_set.specs.Forest.{loaded, untold, Loses}
+use Rattle.h2_set.specs.Forest.{loaded, untold}
+use Rattle.h2_set.specs.Calls.{Loses}
 use Rattle.h2_set.specs.ChangeLaws.{same_or_not}
 use Rattle.h2_memory_sets.specs.declared.node.Node.{Node}
 use Rattle.h2_memory_sets.specs.View.{stands_of, set_of, root_of, is_up, is_child, is_top, names, link_to, link_of, forest_with, any_of, names_same, lacks, loses, goes, is_lost, goes_with, lost, dropped, dropped_all, AllRooted}

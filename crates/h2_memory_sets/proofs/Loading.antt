@@ -3,7 +3,8 @@ use Rattle.std.proofs.Common.{◌≡◌, ℕ, ◌+◌, ◌≤◌, ◌^◌, true,
 use Rattle.h2_ref.specs.declared.reference.Ref.{Ref}
 use Rattle.h2_set.specs.Ranges.{Rising, limit, is_indirect}
 use Rattle.h2_set.specs.RefSet.{RefSet, IsRefSet}
-use Rattle.h2_set.specs.Forest.{Forest, refs, loaded, told, untold, IsSound, IsSoundNode, IsChild, NamesBelow, Fits, InPlace, Stays, Keeps, Walks, Loads, Below, Alike, HasParent, HasOwner}
+use Rattle.h2_set.specs.Forest.{Forest, refs, loaded, told, untold, IsSound, IsSoundNode, IsChild, NamesBelow, Fits, HasParent, HasOwner}
+use Rattle.h2_set.specs.Calls.{InPlace, Stays, Keeps, Walks, Loads, Below, Alike}
 use Rattle.h2_set.specs.ChangeLaws.{same_or_not, Keeps-Stays}
 use Rattle.h2_set.specs.LeafLaws.{place_above}
 use Rattle.h2_set.specs.SplitLaws.{below_high}

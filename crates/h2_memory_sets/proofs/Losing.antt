@@ -6,7 +6,8 @@ use Rattle.std.proofs.lemmas.Bool.Decides.{nat_tests}
 use Rattle.std.proofs.lemmas.Option.{slice_get_past}
 use Rattle.h2_ref.specs.declared.faults.Why.{Why}
 use Rattle.h2_set.specs.RefSet.{RefSet}
-use Rattle.h2_set.specs.Forest.{Forest, untold, Loses, GoesBelow, GoesWith, IsSound}
+use Rattle.h2_set.specs.Forest.{Forest, untold, IsSound}
+use Rattle.h2_set.specs.Calls.{Loses, GoesBelow, GoesWith}
 use Rattle.h2_set.specs.PathLaws.{reaches_through}
 use Rattle.h2_inode.specs.declared.inode.Inode.{Inode}
 use Rattle.h2_memory_sets.specs.declared.node.Node.{Node}

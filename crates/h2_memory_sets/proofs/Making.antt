@@ -7,7 +7,8 @@ use Rattle.h2_set.specs.declared.set.Split.{Split}
 use Rattle.h2_set.specs.Ranges.{put, lies, is_indirect}
 use Rattle.h2_set.specs.RefSet.{RefSet}
 use Rattle.h2_set.specs.SetBytes.{IsHeld}
-use Rattle.h2_set.specs.Forest.{Forest, refs, loaded, untold, IsSound, IsSoundNode, IsChild, NamesBelow, Fits, MadeFrom, Makes, HasParent, HasOwner, InPlace, Same}
+use Rattle.h2_set.specs.Forest.{Forest, refs, loaded, untold, IsSound, IsSoundNode, IsChild, NamesBelow, Fits, HasParent, HasOwner}
+use Rattle.h2_set.specs.Calls.{MadeFrom, Makes, InPlace, Same}
 use Rattle.h2_set.specs.ChangeLaws.{same_or_not}
 use Rattle.h2_set.specs.EditPathLaws.{PartsRefs, made_path}
 use Rattle.h2_set.specs.PutLaws.{put_from, put_keeps}

@@ -3,7 +3,8 @@ use Rattle.std.proofs.Common.{◌≡◌, ◌+◌, ◌≤◌, ℕ, List, [], ◌�
 use Rattle.std.proofs.lemmas.List.{length-append}
 use Rattle.h2_ref.specs.declared.faults.Why.{Why}
 use Rattle.h2_ref.specs.declared.reference.Ref.{Ref}
-use Rattle.h2_set.specs.Forest.{IsSound, KeepsBeside}
+use Rattle.h2_set.specs.Forest.{IsSound}
+use Rattle.h2_set.specs.Calls.{KeepsBeside}
 use Rattle.h2_set.specs.RefSet.{IsRefSet}
 use Rattle.h2_inode.specs.declared.inode.Inode.{Inode}
 use Rattle.h2_inode.specs.Nodes.{IsInodeLeaf, IsUnloaded, IsPlantable, Plants, HasInode, held_by, set_of as set_of_body}

@@ -5,7 +5,8 @@ use Rattle.h2_ref.specs.declared.reference.Ref.{Ref}
 use Rattle.h2_ref.specs.declared.reference.Kind.TheVariants.{Inode}
 use Rattle.h2_set.specs.Ranges.{holds, is_indirect}
 use Rattle.h2_set.specs.RefSet.{RefSet}
-use Rattle.h2_set.specs.Forest.{Forest, refs, loaded, IsSound, IsSoundNode, HasOwner, Fixed, Same, GoesBelow, GoesWith, Reaches, nowhere, here, below, Stores}
+use Rattle.h2_set.specs.Forest.{Forest, refs, loaded, IsSound, IsSoundNode, HasOwner, Reaches, nowhere, here, below}
+use Rattle.h2_set.specs.Calls.{Fixed, Same, GoesBelow, GoesWith, Stores}
 use Rattle.h2_set.specs.ChangeLaws.{same_or_not}
 use Rattle.h2_memory_sets.specs.View.{names_same, any_of}
 use Rattle.h2_memory_sets.proofs.Lists.{same_key}

@@ -7,7 +7,8 @@ use Rattle.h2_ref.specs.declared.reference.Kind.TheVariants.{Inode as Inode_kind
 use Rattle.h2_ref.specs.declared.reference.Ref.{Ref}
 use Rattle.h2_set.specs.Ranges.{is_indirect}
 use Rattle.h2_set.specs.RefSet.{RefSet}
-use Rattle.h2_set.specs.Forest.{Forest, IsSound, Fits, GoesBelow}
+use Rattle.h2_set.specs.Forest.{Forest, IsSound, Fits}
+use Rattle.h2_set.specs.Calls.{GoesBelow}
 use Rattle.h2_set.specs.ChangeLaws.{same_or_not}
 use Rattle.h2_inode.specs.declared.inode.Body.{Body}
 use Rattle.h2_inode.specs.declared.inode.Body.TheVariants.{Refs, Bytes}

@@ -3,7 +3,8 @@ use Rattle.std.proofs.Common.{◌≡◌, ℕ, ◌+◌, ◌<◌, ◌≤◌, ◌^�
 use Rattle.h2_ref.specs.declared.reference.Ref.{Ref}
 use Rattle.h2_set.specs.Ranges.{Rising, is_indirect}
 use Rattle.h2_set.specs.RefSet.{RefSet, IsRefSet}
-use Rattle.h2_set.specs.Forest.{Forest, refs, loaded, IsChild, IsSoundNode, IsSound, Fits, NamesBelow, HasParent, HasOwner, Reaches, Fixed, InPlace, Stays, Keeps, Same, Alike, ReadiesOnly, Unchanged}
+use Rattle.h2_set.specs.Forest.{Forest, refs, loaded, IsChild, IsSoundNode, IsSound, Fits, NamesBelow, HasParent, HasOwner, Reaches}
+use Rattle.h2_set.specs.Calls.{Fixed, InPlace, Stays, Keeps, Same, Alike, ReadiesOnly, Unchanged}
 use Rattle.h2_set.specs.StayLaws.{Alike-refl, stands_below}
 use Rattle.h2_set.specs.ChangeLaws.{Keeps-Stays}
 use Rattle.h2_set.specs.PathLaws.{reaches_stay}

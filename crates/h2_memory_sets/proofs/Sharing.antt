@@ -7,7 +7,8 @@ use Rattle.h2_ref.specs.declared.reference.Ref.{Ref}
 use Rattle.h2_set.specs.declared.set.Split.{Split}
 use Rattle.h2_set.specs.Ranges.{Rising, limit, put, lies, is_indirect, IsApart, Apart}
 use Rattle.h2_set.specs.RefSet.{RefSet, IsRefSet, with_rest}
-use Rattle.h2_set.specs.Forest.{Forest, refs, IsSound, IsSoundNode, NamesBelow, Fits, MadeFrom}
+use Rattle.h2_set.specs.Forest.{Forest, refs, IsSound, IsSoundNode, NamesBelow, Fits}
+use Rattle.h2_set.specs.Calls.{MadeFrom}
 use Rattle.h2_set.specs.LeafLaws.{Rising-low}
 use Rattle.h2_set.specs.EditLaws.{Rising-put, length-put}
 use Rattle.h2_set.specs.PutLaws.{Rising-filter, put_from, put_keeps}

@@ -6,7 +6,8 @@ use Rattle.h2_ref.specs.declared.reference.Kind.TheVariants.{Empty, Inode as Ino
 use Rattle.h2_ref.specs.declared.reference.Ref.{Ref}
 use Rattle.h2_set.specs.Ranges.{is_indirect}
 use Rattle.h2_set.specs.RefSet.{RefSet}
-use Rattle.h2_set.specs.Forest.{Forest, Fixed, IsSound, KeepsBeside, Reaches, nowhere, here, below, Storable, Stores}
+use Rattle.h2_set.specs.Forest.{Forest, IsSound, Reaches, nowhere, here, below}
+use Rattle.h2_set.specs.Calls.{Fixed, KeepsBeside, Storable, Stores}
 use Rattle.h2_inode.specs.declared.kind.InodeKind.{InodeKind}
 use Rattle.h2_inode.specs.declared.kind.InodeKind.TheVariants.{Directory, File, Pfs}
 use Rattle.h2_inode.specs.declared.inode.Body.{Body}

@@ -6,7 +6,8 @@ use Rattle.std.proofs.lemmas.Option.{none-some, slice_get_past}
 use Rattle.h2_ref.specs.declared.faults.Why.{Why}
 use Rattle.h2_ref.specs.declared.reference.Kind.{Kind}
 use Rattle.h2_ref.specs.declared.reference.Kind.TheVariants.{Empty, Inode as Inode_kind, Indirect, Content, Dirent, MapNode, MapLeaf}
-use Rattle.h2_set.specs.Forest.{Forest, IsSound, KeepsBeside}
+use Rattle.h2_set.specs.Forest.{Forest, IsSound}
+use Rattle.h2_set.specs.Calls.{KeepsBeside}
 use Rattle.h2_set.specs.SetBytes.{IsHeld}
 use Rattle.h2_inode.specs.declared.kind.InodeKind.TheVariants.{Pfs}
 use Rattle.h2_memory_sets.specs.declared.node.KeyClass.{KeyClass}

@@ -2,7 +2,8 @@
 use Rattle.std.proofs.Common.{◌≡◌, ℕ, ◌+◌, ◌≤◌, Bool, true, false, arith, refl, cond, sym, ◌∙◌, ap, List, Option, Some, None, subst, inl, inr, slice_get, suc, zero}
 use Rattle.std.proofs.lemmas.Nat.{pow_pos}
 use Rattle.h2_ref.specs.declared.faults.Why.{Why}
-use Rattle.h2_set.specs.Forest.{Forest, refs, IsSound, HasParent, Keeps, Alters, IsAbove, itself, by, inside, across}
+use Rattle.h2_set.specs.Forest.{Forest, refs, IsSound, HasParent}
+use Rattle.h2_set.specs.Calls.{Keeps, Alters, IsAbove, itself, by, inside, across}
 use Rattle.h2_set.specs.ChangeLaws.{same_or_not}
 use Rattle.h2_set.specs.StayLaws.{Alike-refl}
 use Rattle.h2_set.specs.RenewLaws.{Keeps-Renews}

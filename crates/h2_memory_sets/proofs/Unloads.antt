@@ -9,7 +9,8 @@ use Rattle.std.proofs.lemmas.List.{length-map}
 use Rattle.std.proofs.lemmas.List.Quantifiers.{position-Some}
 use Rattle.std.proofs.lemmas.Option.{none-some, slice_get-get_or}
 use Rattle.h2_ref.specs.declared.faults.Why.{Why}
-use Rattle.h2_set.specs.Forest.{Forest, loaded, untold, IsSound, InPlace, HasParent}
+use Rattle.h2_set.specs.Forest.{Forest, loaded, untold, IsSound, HasParent}
+use Rattle.h2_set.specs.Calls.{InPlace}
 use Rattle.h2_memory_sets.specs.declared.node.Node.{Node}
 use Rattle.h2_memory_sets.specs.View.{stands_of, set_of, root_of, low_of, bits_of, writable_of, copies_of, leaf_bits_of, is_up, is_bare, is_top, is_child, link_to, link_of, forest_with, Block, block, stays_loaded, unloaded, unloaded_all, AllRooted}
 use Rattle.h2_memory_sets.specs.Roots.{Unloads}

@@ -6,7 +6,8 @@ use Rattle.std.proofs.lemmas.Bool.{or_left}
 use Rattle.std.proofs.lemmas.Bool.Decides.{nat_tests}
 use Rattle.std.proofs.lemmas.List.{length-map}
 use Rattle.h2_ref.specs.declared.faults.Why.{Why}
-use Rattle.h2_set.specs.Forest.{Forest, loaded, IsSound, Same}
+use Rattle.h2_set.specs.Forest.{Forest, loaded, IsSound}
+use Rattle.h2_set.specs.Calls.{Same}
 use Rattle.h2_set.specs.StayLaws.{Fixed-refl}
 use Rattle.h2_memory_sets.specs.declared.node.Node.{Node}
 use Rattle.h2_memory_sets.specs.declared.node.Owner.{Owner}

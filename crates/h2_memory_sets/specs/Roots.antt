@@ -2,7 +2,8 @@
 use Rattle.std.specs.Prelude.{◌≡◌, ℕ, ◌+◌, ◌≤◌, ◌<◌, ◌⊎◌, ◌↔◌, Bool, true, false, []}
 use Rattle.h2_ref.specs.declared.reference.Kind.TheVariants.{Empty, Inode}
 use Rattle.h2_ref.specs.declared.reference.Ref.{Ref}
-use Rattle.h2_set.specs.Forest.{Forest, loaded, untold, IsSound, Fixed, InPlace, Same}
+use Rattle.h2_set.specs.Forest.{Forest, loaded, untold, IsSound}
+use Rattle.h2_set.specs.Calls.{Fixed, InPlace, Same}
 use Rattle.h2_set.specs.SetBytes.{IsHeld}
 use Rattle.h2_memory_sets.specs.declared.node.KeyClass.{KeyClass}
 use Rattle.h2_memory_sets.specs.declared.node.KeyClass.TheVariants.{Low}

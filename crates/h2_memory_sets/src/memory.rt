@@ -56,7 +56,8 @@ impl MemorySets {
     ghost use Rattle.std.specs.Prelude.{OnErr, OnOk, IfErr, ℕ, true, false, Some, None};
     ghost use Rattle.h2_ref.specs.declared.faults.Trouble.{Trouble};
     ghost use Rattle.h2_ref.specs.declared.faults.Why.{Why};
-    ghost use Rattle.h2_set.specs.Forest.{IsSound, IsBad, MeetsNone, Unchanged, HasCause, KeepsBeside};
+    ghost use Rattle.h2_set.specs.Forest.{IsSound};
+    ghost use Rattle.h2_set.specs.Calls.{IsBad, MeetsNone, Unchanged, HasCause, KeepsBeside};
     ghost use Rattle.h2_memory_sets.specs.Seen.{forest_of, beside_seen, blocks_of, name_of, failing_load, spoiled_load, refused_spare};
     ghost use Rattle.h2_memory_sets.specs.Roots.{AddsRoot, AddsSuperRoot, HoldsRoot, BeginsEpoch, Unloads, UnloadsInodes};
 

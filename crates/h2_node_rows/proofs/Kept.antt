@@ -5,7 +5,8 @@ use Rattle.h2_ref.specs.declared.reference.Ref.{Ref}
 use Rattle.h2_set.specs.Ranges.{NoneHolds}
 use Rattle.h2_set.specs.RefSet.{RefSet}
 use Rattle.h2_set.specs.StayLaws.{InPlace-trans}
-use Rattle.h2_set.specs.Forest.{Forest, IsSound, Same, Reaches, nowhere, here, below, Unchanged}
+use Rattle.h2_set.specs.Forest.{Forest, IsSound, Reaches, nowhere, here, below}
+use Rattle.h2_set.specs.Calls.{Same, Unchanged}
 use Rattle.h2_inode.specs.declared.inode.Inode.{Inode}
 use Rattle.h2_inode.specs.Nodes.{Fields, Brings, Replaces, set_of}
 use Rattle.h2_inode.specs.PathLaws.{refit_place, refit_path}

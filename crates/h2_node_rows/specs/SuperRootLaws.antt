@@ -4,7 +4,8 @@ use Rattle.std.proofs.Common.{sym, ◌∙◌, subst, refl, inl, inr}
 use Rattle.h2_ref.specs.declared.reference.Kind.TheVariants.{Inode as Inode_kind}
 use Rattle.h2_ref.specs.declared.reference.Ref.{Ref}
 use Rattle.h2_set.specs.SetBytes.{IsHeld}
-use Rattle.h2_set.specs.Forest.{Forest, IsSound, Fixed, InPlace, ReadiesOnly}
+use Rattle.h2_set.specs.Forest.{Forest, IsSound}
+use Rattle.h2_set.specs.Calls.{Fixed, InPlace, ReadiesOnly}
 use Rattle.h2_tree.specs.Changes.{Inserts}
 use Rattle.h2_inode.specs.Nodes.{IsUnloaded, Visits, Brings}
 use Rattle.h2_memory_sets.specs.Roots.{Unloads, UnloadsInodes}

@@ -8,7 +8,8 @@ use Rattle.h2_dirkey.specs.PfsName.{IsPfsName}
 use Rattle.h2_ref.specs.declared.reference.Kind.TheVariants.{Inode as Inode_kind}
 use Rattle.h2_ref.specs.declared.reference.Ref.{Ref}
 use Rattle.h2_set.specs.Ranges.{put}
-use Rattle.h2_set.specs.Forest.{Forest, IsSound, InPlace, Renews, KeepsBeside}
+use Rattle.h2_set.specs.Forest.{Forest, IsSound}
+use Rattle.h2_set.specs.Calls.{InPlace, Renews, KeepsBeside}
 use Rattle.h2_set.specs.StayLaws.{InPlace-trans}
 use Rattle.h2_set.specs.ChangeLaws.{Same-Keeps}
 use Rattle.h2_set.specs.RenewLaws.{Keeps-Renews, Renews-trans}

@@ -4,7 +4,8 @@ use Rattle.std.specs.Prelude.{IfOk, IfErr}
 use Rattle.std.specs.Result.{IsErrAnd}
 use Rattle.h2_ref.specs.declared.faults.Trouble.{Trouble}
 use Rattle.h2_ref.specs.declared.faults.Trouble.TheVariants.{Failed, Bad, NoMemory}
-use Rattle.h2_set.specs.Forest.{Forest, HasCause}
+use Rattle.h2_set.specs.Forest.{Forest}
+use Rattle.h2_set.specs.Calls.{HasCause}
 use Rattle.h2_inode.specs.Nodes.{Visits}
 
 -- what holds of an error holds where it is handed on

@@ -3,7 +3,8 @@ use Rattle.std.proofs.Common.{◌≡◌, ℕ, true, false, refl, sym, ◌∙◌,
 use Rattle.std.specs.Prelude.{◌⊎◌}
 use Rattle.h2_ref.specs.declared.reference.Ref.{Ref}
 use Rattle.h2_set.specs.RefSet.{RefSet}
-use Rattle.h2_set.specs.Forest.{Forest, refs, loaded, IsSound, AllRenewed, Alike, InPlace, Stays, Renews, KeepsLeaves, KeepsBeside, Reaches, OnWay, inside, across}
+use Rattle.h2_set.specs.Forest.{Forest, refs, loaded, IsSound, KeepsLeaves, Reaches}
+use Rattle.h2_set.specs.Calls.{AllRenewed, Alike, InPlace, Stays, Renews, KeepsBeside, OnWay, inside, across}
 use Rattle.h2_set.specs.StayLaws.{Alike-refl, InPlace-trans, Same-Stays, leaves_stay, leaves_stay_all, stands_below}
 use Rattle.h2_set.specs.PathLaws.{reaches_stay}
 use Rattle.h2_tree.specs.Changes.{Descends, arrived, onward, ChangesOnly, GoesAway, below_it, named, Removes}

@@ -5,7 +5,8 @@ use Rattle.std.specs.Cmp.Lexicographic.{pointwise}
 use Rattle.std.proofs.lemmas.Slice.Eq.{bytes_eq-Decides}
 use Rattle.std.proofs.lemmas.Option.{none-some}
 use Rattle.h2_ref.specs.declared.reference.Ref.{Ref}
-use Rattle.h2_set.specs.Forest.{Forest, IsSound, KeepsBeside, Reaches}
+use Rattle.h2_set.specs.Forest.{Forest, IsSound, Reaches}
+use Rattle.h2_set.specs.Calls.{KeepsBeside}
 use Rattle.h2_tree.specs.Changes.{IsFree}
 use Rattle.h2_inode.specs.Nodes.{Fields, held_by, HasInode, IsNamed, Visits}
 use Rattle.h2_inode.specs.VisitLaws.{visits_name, visits_inode}

@@ -3,7 +3,8 @@ use Rattle.std.proofs.Common.{◌≡◌, ℕ, ◌<◌, ◌≤◌, ◌+◌, ◌-�
 use Rattle.std.specs.Prelude.{IfSome, IfNone}
 use Rattle.h2_ref.specs.declared.reference.Ref.{Ref}
 use Rattle.h2_set.specs.Ranges.{Rising, without}
-use Rattle.h2_set.specs.Forest.{Forest, IsSound, LeavesOf, Reaches, Walks, KeepsBeside}
+use Rattle.h2_set.specs.Forest.{Forest, IsSound, LeavesOf, Reaches}
+use Rattle.h2_set.specs.Calls.{Walks, KeepsBeside}
 use Rattle.h2_set.specs.LeafLaws.{leaves_rising}
 use Rattle.h2_set.specs.StayLaws.{Reaches-walks}
 use Rattle.h2_set.specs.PathLaws.{reaches_one}

@@ -2,7 +2,8 @@
 use Rattle.std.proofs.Common.{◌≡◌, ◌≤◌, ◌+◌, ◌^◌, arith, refl, ◌∙◌, ℕ, List, [], ◌∷◌, ◌++◌, Option, Some, take, slice_get}
 use Rattle.h2_ref.specs.declared.reference.Ref.{Ref}
 use Rattle.h2_set.specs.Ranges.{Rising}
-use Rattle.h2_set.specs.Forest.{Forest, KeepsBeside}
+use Rattle.h2_set.specs.Forest.{Forest}
+use Rattle.h2_set.specs.Calls.{KeepsBeside}
 use Rattle.h2_inode.specs.Nodes.{Fields, Told, fields_of, held_by, IsInodeLeaf, IsNamed, Seeks, Visits}
 use Rattle.h2_inode.specs.Access.{OneByOne}
 use Rattle.h2_inode.specs.PfsList.{ListedPfs}

@@ -4,7 +4,8 @@ use Rattle.std.specs.Prelude.{filter}
 use Rattle.std.proofs.lemmas.Option.{none-some, same_Some}
 use Rattle.h2_ref.specs.declared.faults.Trouble.{Trouble}
 use Rattle.h2_ref.specs.declared.reference.Ref.{Ref}
-use Rattle.h2_set.specs.Forest.{Forest, LeavesOf, IsBad, KeepsBeside, Walks}
+use Rattle.h2_set.specs.Forest.{Forest, LeavesOf}
+use Rattle.h2_set.specs.Calls.{IsBad, KeepsBeside, Walks}
 use Rattle.h2_tree.specs.Changes.{is_between, LoadsTouched}
 use Rattle.h2_inode.specs.declared.inode.Inode.{Inode}
 use Rattle.h2_inode.specs.Nodes.{Fields, Told, held_by, IsUnloaded}

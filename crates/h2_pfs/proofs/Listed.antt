@@ -4,7 +4,8 @@ use Rattle.std.specs.Prelude.{filter}
 use Rattle.h2_ref.specs.declared.faults.Trouble.{Trouble}
 use Rattle.h2_ref.specs.declared.faults.Trouble.TheVariants.{NoMemory}
 use Rattle.h2_ref.specs.declared.reference.Ref.{Ref}
-use Rattle.h2_set.specs.Forest.{Forest, IsSound, LeavesOf, HasCause, KeepsBeside, Walks}
+use Rattle.h2_set.specs.Forest.{Forest, IsSound, LeavesOf}
+use Rattle.h2_set.specs.Calls.{HasCause, KeepsBeside, Walks}
 use Rattle.h2_tree.specs.Changes.{is_between, LoadsTouched, Lists}
 use Rattle.h2_inode.specs.Nodes.{Fields, Told, fields_of, held_by, Visits}
 use Rattle.h2_inode.specs.VisitLaws.{walks_visit, visits_leaf, visits_leaves}

@@ -5,7 +5,8 @@ use Rattle.std.proofs.lemmas.Bool.Decides.{nat_tests}
 use Rattle.std.proofs.lemmas.Option.{none-some}
 use Rattle.h2_ref.specs.declared.reference.Ref.{Ref}
 use Rattle.h2_set.specs.Ranges.{limit, holds, find}
-use Rattle.h2_set.specs.Forest.{Forest, IsSound, LeavesOf, Reaches, here, below, InPlace, ReadiesOnly, Walks, Stays}
+use Rattle.h2_set.specs.Forest.{Forest, IsSound, LeavesOf, Reaches, here, below}
+use Rattle.h2_set.specs.Calls.{InPlace, ReadiesOnly, Walks, Stays}
 use Rattle.h2_set.specs.StayLaws.{Same-Stays, Reaches-walks, stands_below}
 use Rattle.h2_set.specs.PathLaws.{reaches_one, reaches_stay}
 use Rattle.h2_tree.specs.Changes.{Takes, KeepsPaths, Descends, arrived, onward, TakesIn, replaced, placed, parted, Inserts}

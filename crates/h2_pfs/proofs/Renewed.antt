@@ -4,7 +4,8 @@ use Rattle.std.specs.Prelude.{◌↔◌}
 use Rattle.h2_ref.specs.declared.reference.Kind.TheVariants.{Inode as Inode_kind}
 use Rattle.h2_ref.specs.declared.reference.Ref.{Ref}
 use Rattle.h2_set.specs.RefSet.{RefSet}
-use Rattle.h2_set.specs.Forest.{Forest, refs, IsSound, AllRenewed, Fixed, InPlace, Renews, KeepsBeside}
+use Rattle.h2_set.specs.Forest.{Forest, refs, IsSound}
+use Rattle.h2_set.specs.Calls.{AllRenewed, Fixed, InPlace, Renews, KeepsBeside}
 use Rattle.h2_inode.specs.declared.kind.InodeKind.{InodeKind}
 use Rattle.h2_inode.specs.declared.kind.InodeKind.TheVariants.{Pfs as Pfs_kind}
 use Rattle.h2_inode.specs.declared.inode.Body.{Body}

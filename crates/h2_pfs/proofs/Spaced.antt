@@ -3,7 +3,8 @@ use Rattle.std.proofs.Common.{◌≡◌, ◌⊎◌, inl, inr, ℕ, true, List, O
 use Rattle.h2_ref.specs.declared.faults.Trouble.{Trouble}
 use Rattle.h2_ref.specs.declared.faults.Trouble.TheVariants.{NoMemory}
 use Rattle.h2_ref.specs.declared.reference.Ref.{Ref}
-use Rattle.h2_set.specs.Forest.{Forest, IsSound, Walks, KeepsBeside}
+use Rattle.h2_set.specs.Forest.{Forest, IsSound}
+use Rattle.h2_set.specs.Calls.{Walks, KeepsBeside}
 use Rattle.h2_tree.specs.Changes.{LoadsTouched}
 use Rattle.h2_inode.specs.Nodes.{Fields, Told, held_by}
 use Rattle.h2_inode.specs.VisitLaws.{walks_visit, visits_leaves}

@@ -2,7 +2,8 @@
 use Rattle.std.proofs.Common.{◌≡◌, ℕ, ◌⊎◌, inl, inr, Bool, true, false, refl, sym, ◌∙◌, ap, subst, Option, Some}
 use Rattle.std.specs.Prelude.{◌↔◌}
 use Rattle.h2_ref.specs.declared.reference.Ref.{Ref}
-use Rattle.h2_set.specs.Forest.{Forest, IsSound, InPlace, Walks, KeepsBeside}
+use Rattle.h2_set.specs.Forest.{Forest, IsSound}
+use Rattle.h2_set.specs.Calls.{InPlace, Walks, KeepsBeside}
 use Rattle.h2_set.specs.StayLaws.{Walks-refl}
 use Rattle.h2_tree.specs.Changes.{LoadsTouched}
 use Rattle.h2_inode.specs.declared.inode.Inode.{Inode}

@@ -2,7 +2,8 @@
 use Rattle.std.specs.Prelude.{◌≡◌, ◌⊎◌, ◌<◌, ◌≤◌, ℕ, List, length, Option, Some, None}
 use Rattle.h2_ref.specs.declared.reference.Ref.{Ref}
 use Rattle.h2_set.specs.Ranges.{find}
-use Rattle.h2_set.specs.Forest.{Forest, LeavesOf, Reaches, ReadiesOnly, KeepsBeside}
+use Rattle.h2_set.specs.Forest.{Forest, LeavesOf, Reaches}
+use Rattle.h2_set.specs.Calls.{ReadiesOnly, KeepsBeside}
 use Rattle.h2_tree.specs.Changes.{Inserts, KeepsPaths}
 use Rattle.h2_inode.specs.declared.inode.Inode.{Inode}
 use Rattle.h2_inode.specs.Nodes.{Fields, Told, HasInode, Visits, Plants}

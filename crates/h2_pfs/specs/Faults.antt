@@ -2,7 +2,8 @@
 use Rattle.std.specs.Prelude.{◌≡◌, ◌⊎◌, ◌<◌, ◌≤◌, ◌-◌, ◌^◌, ℕ, List, length, Option, Some, None}
 use Rattle.h2_ref.specs.declared.faults.Trouble.{Trouble}
 use Rattle.h2_ref.specs.declared.faults.Trouble.TheVariants.{NoMemory}
-use Rattle.h2_set.specs.Forest.{Forest, HasCause, IsBad}
+use Rattle.h2_set.specs.Forest.{Forest}
+use Rattle.h2_set.specs.Calls.{HasCause, IsBad}
 use Rattle.h2_tree.specs.Changes.{RangeUnloaded, PathUnloaded}
 use Rattle.h2_inode.specs.Nodes.{Fields}
 use Rattle.h2_pfs.specs.declared.fault.PfsFault.{PfsFault}

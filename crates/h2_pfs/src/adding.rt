@@ -1,6 +1,7 @@
 ghost use Rattle.std.specs.Prelude.{◌≡◌, ◌≤◌, ◌+◌, ℕ, List, None, OnOk, IfErr, OnErr};
 ghost use Rattle.h2_ref.specs.declared.reference.Ref.{Ref};
-ghost use Rattle.h2_set.specs.Forest.{IsSound, Reaches, MeetsNone, KeepsBeside};
+ghost use Rattle.h2_set.specs.Forest.{IsSound, Reaches};
+ghost use Rattle.h2_set.specs.Calls.{MeetsNone, KeepsBeside};
 ghost use Rattle.h2_tree.specs.Changes.{Takes};
 ghost use Rattle.h2_inode.specs.declared.inode.Inode.{Inode};
 ghost use Rattle.h2_inode.specs.declared.kind.InodeKind.{InodeKind};

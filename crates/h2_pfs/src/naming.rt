@@ -1,5 +1,6 @@
 ghost use Rattle.std.specs.Prelude.{◌≡◌, ◌⊎◌, ℕ, List, map, IfOk, IfErr, OnOk};
-ghost use Rattle.h2_set.specs.Forest.{IsBad, IsSound, MeetsNone, KeepsBeside};
+ghost use Rattle.h2_set.specs.Forest.{IsSound};
+ghost use Rattle.h2_set.specs.Calls.{IsBad, MeetsNone, KeepsBeside};
 ghost use Rattle.h2_inode.specs.Nodes.{held_by, Visits};
 ghost use Rattle.h2_inode.specs.Loaded.{StandsAlike, view_of};
 ghost use Rattle.h2_inode.specs.PfsList.{ListedPfs};

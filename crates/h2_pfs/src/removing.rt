@@ -1,5 +1,6 @@
 ghost use Rattle.std.specs.Prelude.{◌≡◌, ◌≤◌, ℕ, List, OnOk, IfErr, OnErr};
-ghost use Rattle.h2_set.specs.Forest.{IsSound, MeetsNone, KeepsBeside};
+ghost use Rattle.h2_set.specs.Forest.{IsSound};
+ghost use Rattle.h2_set.specs.Calls.{MeetsNone, KeepsBeside};
 ghost use Rattle.h2_inode.specs.Nodes.{held_by, NamesOne, Visits};
 ghost use Rattle.h2_inode.specs.Loaded.{StandsAlike, view_of};
 ghost use Rattle.h2_inode.specs.PfsList.{ListedPfs};

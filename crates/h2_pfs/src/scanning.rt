@@ -1,6 +1,7 @@
 ghost use Rattle.std.specs.Prelude.{◌≡◌, ◌⊎◌, ◌-◌, ◌^◌, ℕ, List, map, slice_get, Some, IfOk, IfErr, OnErr, OnOk};
 ghost use Rattle.h2_ref.specs.declared.reference.Ref.{Ref};
-ghost use Rattle.h2_set.specs.Forest.{IsBad, IsSound, HasCause, MeetsNone, KeepsBeside};
+ghost use Rattle.h2_set.specs.Forest.{IsSound};
+ghost use Rattle.h2_set.specs.Calls.{IsBad, HasCause, MeetsNone, KeepsBeside};
 ghost use Rattle.h2_inode.specs.Nodes.{held_by, IsInodeLeaf, IsUnloaded, Seeks, Visits};
 ghost use Rattle.h2_inode.specs.Access.{OneByOne};
 ghost use Rattle.h2_inode.specs.declared.inode.Inode.{Inode};

@@ -8,7 +8,8 @@ use Rattle.std.proofs.lemmas.Option.{none-some}
 use Rattle.h2_ref.specs.declared.reference.Ref.{Ref}
 use Rattle.h2_set.specs.Ranges.{leads_on, Rising, limit, holds, put, Apart, IsApart, IsAligned, is_indirect}
 use Rattle.h2_set.specs.RefSet.{RefSet}
-use Rattle.h2_set.specs.Forest.{loaded, told, Forest, refs, HasLeaves, done, one, near, far, LeavesOf, KeepsLeaves, IsSound, Alike, Stays, Keeps, Same}
+use Rattle.h2_set.specs.Forest.{loaded, told, Forest, refs, HasLeaves, done, one, near, far, LeavesOf, KeepsLeaves, IsSound}
+use Rattle.h2_set.specs.Calls.{Alike, Stays, Keeps, Same}
 use Rattle.h2_set.specs.StayLaws.{Alike-refl, Alike-trans, InPlace-refl, InPlace-trans, leaves_stay}
 use Rattle.h2_set.specs.LeafLaws.{Rising-le, Rising-append, leaves_rising, holds_inside, holds_outside, place_above}
 use Rattle.h2_set.specs.EditLaws.{before_apart, behind_apart, apart_tail}

@@ -7,7 +7,8 @@ use Rattle.h2_ref.specs.declared.reference.Ref.{Ref}
 use Rattle.h2_set.specs.declared.set.Split.{Split}
 use Rattle.h2_set.specs.RefSet.{RefSet}
 use Rattle.h2_set.specs.Ranges.{leads_on, limit, holds, lies, put, Apart, IsApart, Sides, NoneHolds, is_indirect}
-use Rattle.h2_set.specs.Forest.{Forest, refs, loaded, IsSound, IsSoundNode, Stays, Same, MadeFrom, Makes, Reaches, nowhere, here, below}
+use Rattle.h2_set.specs.Forest.{Forest, refs, loaded, IsSound, IsSoundNode, Reaches, nowhere, here, below}
+use Rattle.h2_set.specs.Calls.{Stays, Same, MadeFrom, Makes}
 use Rattle.h2_set.specs.LeafLaws.{holds_inside}
 use Rattle.h2_set.specs.EditLaws.{before_apart, behind_apart, apart_tail}
 use Rattle.h2_set.specs.PutLaws.{put_from, put_keeps}

@@ -2,6 +2,7 @@ pub mod Ranges
 pub mod RefSet
 pub mod SetBytes
 pub mod Forest
+pub mod Calls
 pub mod EditLaws
 pub mod LeafLaws
 pub mod StayLaws

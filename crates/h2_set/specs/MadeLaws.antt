@@ -6,7 +6,8 @@ use Rattle.h2_ref.specs.declared.reference.Ref.{Ref}
 use Rattle.h2_set.specs.declared.set.Split.{Split}
 use Rattle.h2_set.specs.Ranges.{Rising, limit, put, lies, is_indirect, IsApart, AllAligned, IsOneClass, Sides}
 use Rattle.h2_set.specs.RefSet.{RefSet, HoldsAll}
-use Rattle.h2_set.specs.Forest.{Forest, refs, Fits, IsSoundNode, MadeFrom}
+use Rattle.h2_set.specs.Forest.{Forest, refs, Fits, IsSoundNode}
+use Rattle.h2_set.specs.Calls.{MadeFrom}
 use Rattle.h2_set.specs.LeafLaws.{place_above}
 use Rattle.h2_set.specs.EditLaws.{Rising-put, length-put}
 use Rattle.h2_set.specs.PutLaws.{put_from}

@@ -2,7 +2,8 @@
 use Rattle.std.proofs.Common.{◌≡◌, refl, sym, ◌∙◌, subst, Result, Ok, Err, IfErr, IsErrAnd}
 use Rattle.std.specs.Prelude.{OnOk}
 use Rattle.h2_ref.specs.declared.faults.Trouble.{Trouble}
-use Rattle.h2_set.specs.Forest.{Forest, IsBad, MeetsNone}
+use Rattle.h2_set.specs.Forest.{Forest}
+use Rattle.h2_set.specs.Calls.{IsBad, MeetsNone}
 
 pub MeetsNone-refl : (f : Forest) → MeetsNone f f
 MeetsNone-refl f = record { bad = refl; met = refl }

@@ -4,7 +4,8 @@ use Rattle.std.proofs.lemmas.Bool.Decides.{nat_tests}
 use Rattle.std.proofs.lemmas.Option.{none-some}
 use Rattle.h2_ref.specs.declared.reference.Ref.{Ref}
 use Rattle.h2_set.specs.Ranges.{leads_on, Rising, limit, holds, is_indirect}
-use Rattle.h2_set.specs.Forest.{Forest, refs, loaded, IsSound, Stays, Renews, AllRenewed, IsRenewed, Alters, Reaches, nowhere, here, below}
+use Rattle.h2_set.specs.Forest.{Forest, refs, loaded, IsSound, Reaches, nowhere, here, below}
+use Rattle.h2_set.specs.Calls.{Stays, Renews, AllRenewed, IsRenewed, Alters}
 use Rattle.h2_set.specs.LeafLaws.{holds_inside, place_above}
 use Rattle.h2_set.specs.SplitLaws.{below_high}
 use Rattle.h2_set.specs.StayLaws.{stands_below}

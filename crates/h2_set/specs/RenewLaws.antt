@@ -5,7 +5,8 @@ use Rattle.h2_ref.specs.declared.reference.Ref.{Ref}
 use Rattle.h2_ref.specs.declared.reference.Kind.{Kind}
 use Rattle.h2_ref.specs.declared.reference.Kind.TheVariants.{Empty, Inode, Indirect, Content, Dirent, MapNode, MapLeaf}
 use Rattle.h2_set.specs.Ranges.{leads_on, IsApart, Apart, Rising, limit}
-use Rattle.h2_set.specs.Forest.{Forest, refs, IsAlike, Alike, names_node, IsRenewed, AllRenewed, IsSound, Keeps, LeavesOf, Renews, loaded, told, HasLeaves, done, one, near, far}
+use Rattle.h2_set.specs.Forest.{Forest, refs, IsSound, LeavesOf, loaded, told, HasLeaves, done, one, near, far}
+use Rattle.h2_set.specs.Calls.{IsAlike, Alike, names_node, IsRenewed, AllRenewed, Keeps, Renews}
 use Rattle.h2_set.specs.StayLaws.{InPlace-trans}
 
 -- what names no node leads to no further references

@@ -6,7 +6,8 @@ use Rattle.h2_ref.specs.declared.faults.Trouble.{Trouble}
 use Rattle.h2_ref.specs.declared.faults.Trouble.TheVariants.{Failed, Bad, NoMemory}
 use Rattle.h2_set.specs.Ranges.{Rising, limit, leads_on}
 use Rattle.h2_set.specs.RefSet.{RefSet}
-use Rattle.h2_set.specs.Forest.{loaded, Forest, refs, HasLeaves, done, one, near, far, KeepsLeaves, IsSound, IsAlike, Alike, Below, Fixed, InPlace, Stays, Same, Walks, Unchanged, ReadiesOnly, HasCause, Reaches, nowhere, here, below}
+use Rattle.h2_set.specs.Forest.{loaded, Forest, refs, HasLeaves, done, one, near, far, KeepsLeaves, IsSound, Reaches, nowhere, here, below}
+use Rattle.h2_set.specs.Calls.{IsAlike, Alike, Below, Fixed, InPlace, Stays, Same, Walks, Unchanged, ReadiesOnly, HasCause}
 
 IsAlike-refl : (r : Ref) → IsAlike r r
 IsAlike-refl r = record { kind = refl; key = refl; keybits = refl; radix = refl; dirent = refl; leaf = λ _. refl }

@@ -4,7 +4,8 @@ ghost use Rattle.h2_ref.specs.declared.reference.Dirent.{Dirent};
 ghost use Rattle.h2_ref.specs.declared.faults.Trouble.{Trouble};
 ghost use Rattle.h2_ref.specs.declared.faults.Why.{Why};
 ghost use Rattle.h2_ref.specs.Ref.{IsValid};
-ghost use Rattle.h2_set.specs.Forest.{Forest, refs, loaded, told, IsBad, IsSound, IsIndirectAt, Walks, HasCause, MeetsNone, Alters, Storable, Stores, Loads, Unchanged, MadeFrom, Makes, ReadiesOnly, KeepsBeside};
+ghost use Rattle.h2_set.specs.Forest.{Forest, refs, loaded, told, IsSound};
+ghost use Rattle.h2_set.specs.Calls.{IsBad, IsIndirectAt, Walks, HasCause, MeetsNone, Alters, Storable, Stores, Loads, Unchanged, MadeFrom, Makes, ReadiesOnly, KeepsBeside};
 
 use crate::set::{Set, Split};
 use h2_num::{Bytes, NoMemory};

@@ -3,7 +3,8 @@ use Rattle.std.proofs.Common.{◌≡◌, ℕ, true, false, List, Option, Some, �
 use Rattle.h2_ref.specs.declared.reference.Ref.{Ref}
 use Rattle.h2_set.specs.RefSet.{RefSet}
 use Rattle.h2_set.specs.Ranges.{holds, find, is_indirect}
-use Rattle.h2_set.specs.Forest.{Forest, refs, loaded, IsSound, Walks, Reaches, nowhere, here, below, LeavesOf}
+use Rattle.h2_set.specs.Forest.{Forest, refs, loaded, IsSound, Reaches, nowhere, here, below, LeavesOf}
+use Rattle.h2_set.specs.Calls.{Walks}
 use Rattle.h2_set.specs.StayLaws.{Walks-trans, Walks-leaves, Reaches-walks}
 use Rattle.h2_set.specs.LeafLaws.{reaches_find}
 use Rattle.h2_set.specs.PathLaws.{same_holder}

@@ -5,7 +5,8 @@ use Rattle.std.proofs.lemmas.Bool.{cases_lt}
 use Rattle.h2_ref.specs.declared.reference.Ref.{Ref}
 use Rattle.h2_set.specs.Ranges.{leads_on, limit, holds, NoneHolds, put, IsApart, is_indirect}
 use Rattle.h2_set.specs.RefSet.{RefSet}
-use Rattle.h2_set.specs.Forest.{Forest, refs, IsSoundNode, IsSound, Fits, Alters, Stores, Keeps}
+use Rattle.h2_set.specs.Forest.{Forest, refs, IsSoundNode, IsSound, Fits}
+use Rattle.h2_set.specs.Calls.{Alters, Stores, Keeps}
 use Rattle.h2_set.specs.EditLaws.{Rising-put, Rising-set, length-put, length-slice_set, set_put, set_swap}
 use Rattle.h2_set.specs.ChangeLaws.{leaves_put, leaves_swap, apart_aligned, step_up}
 use Rattle.h2_set.specs.LeafLaws.{holds_inside}

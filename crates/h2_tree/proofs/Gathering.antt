@@ -7,7 +7,8 @@ use Rattle.std.proofs.lemmas.Option.{none-some, slice_get_within, get_or_from_sl
 use Rattle.h2_ref.specs.declared.reference.Ref.{Ref}
 use Rattle.h2_set.specs.RefSet.{RefSet}
 use Rattle.h2_set.specs.Ranges.{Rising, limit, holds, is_indirect}
-use Rattle.h2_set.specs.Forest.{Forest, refs, loaded, IsSound, Walks, Reaches, here, below}
+use Rattle.h2_set.specs.Forest.{Forest, refs, loaded, IsSound, Reaches, here, below}
+use Rattle.h2_set.specs.Calls.{Walks}
 use Rattle.h2_set.specs.StayLaws.{stands_below}
 use Rattle.h2_set.specs.LeafLaws.{Rising-low, Rising-append, place_above}
 use Rattle.h2_set.specs.SplitLaws.{below_high}

@@ -3,7 +3,8 @@ use Rattle.std.proofs.Common.{◌≡◌, ℕ, Bool, true, false, arith, refl, sy
 use Rattle.h2_ref.specs.declared.reference.Ref.{Ref}
 use Rattle.h2_set.specs.Ranges.{holds, is_indirect}
 use Rattle.h2_set.specs.RefSet.{RefSet}
-use Rattle.h2_set.specs.Forest.{Forest, refs, loaded, IsSoundNode, IsSound, InPlace, Same, Walks, ReadiesOnly, Alters, OnWay, inside, across, itself}
+use Rattle.h2_set.specs.Forest.{Forest, refs, loaded, IsSoundNode, IsSound}
+use Rattle.h2_set.specs.Calls.{InPlace, Same, Walks, ReadiesOnly, Alters, OnWay, inside, across, itself}
 use Rattle.h2_set.specs.StayLaws.{Fixed-refl, Fixed-trans, InPlace-trans, Stays-refl, Stays-trans, Same-Stays}
 use Rattle.h2_set.specs.ChangeLaws.{same_or_not, Keeps-trans, Same-Keeps}
 use Rattle.h2_set.specs.RenewLaws.{Alike-length, Keeps-Renews, Renews-trans}

@@ -7,7 +7,8 @@ use Rattle.h2_ref.specs.declared.faults.Trouble.{Trouble}
 use Rattle.h2_ref.specs.declared.faults.Trouble.TheVariants.{NoMemory}
 use Rattle.h2_set.specs.RefSet.{RefSet}
 use Rattle.h2_set.specs.Ranges.{is_indirect}
-use Rattle.h2_set.specs.Forest.{loaded, told, Forest, refs, HasLeaves, done, one, near, far, LeavesOf, Below, IsSound, Walks, IsBad}
+use Rattle.h2_set.specs.Forest.{loaded, told, Forest, refs, HasLeaves, done, one, near, far, LeavesOf, IsSound}
+use Rattle.h2_set.specs.Calls.{Below, Walks, IsBad}
 use Rattle.h2_set.specs.StayLaws.{Walks-leaves}
 
 -- the leaves of node at are known

@@ -3,7 +3,8 @@ use Rattle.std.proofs.Common.{◌≡◌, ℕ, true, false, arith, refl, sym, ◌
 use Rattle.std.proofs.lemmas.Option.{slice_get_within}
 use Rattle.h2_ref.specs.declared.reference.Ref.{Ref}
 use Rattle.h2_set.specs.Ranges.{leads_on, holds, is_indirect}
-use Rattle.h2_set.specs.Forest.{Forest, refs, loaded, told, LeavesOf, IsSound, Alters, Reaches, here, below}
+use Rattle.h2_set.specs.Forest.{Forest, refs, loaded, told, LeavesOf, IsSound, Reaches, here, below}
+use Rattle.h2_set.specs.Calls.{Alters}
 use Rattle.h2_set.specs.RenewLaws.{like_at, Alike-length}
 use Rattle.h2_tree.specs.Changes.{LeadsOnly, itself, down}
 use Rattle.h2_tree.proofs.Collect.{last_leaf, last_below}

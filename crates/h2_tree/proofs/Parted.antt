@@ -5,7 +5,8 @@ use Rattle.h2_set.specs.declared.set.Split.{Split}
 use Rattle.std.specs.Prelude.{filter, not}
 use Rattle.h2_set.specs.Ranges.{Rising, limit, put, lies, Sides, NoneHolds, IsApart, AllAligned, IsOneClass}
 use Rattle.h2_set.specs.RefSet.{RefSet, IsSplitOf, with_rest}
-use Rattle.h2_set.specs.Forest.{Forest, refs, loaded, HasLeaves, LeavesOf, IsSoundNode, IsSound, Stays, Keeps, Alters, MadeFrom, Makes}
+use Rattle.h2_set.specs.Forest.{Forest, refs, loaded, HasLeaves, LeavesOf, IsSoundNode, IsSound}
+use Rattle.h2_set.specs.Calls.{Stays, Keeps, Alters, MadeFrom, Makes}
 use Rattle.h2_set.specs.StayLaws.{leaves_stay, Fixed-trans, InPlace-trans}
 use Rattle.h2_set.specs.EditLaws.{Rising-put}
 use Rattle.h2_set.specs.ChangeLaws.{Keeps-Stays, Keeps-trans, Same-Keeps, below_keeps, leaves_put}

@@ -7,7 +7,8 @@ use Rattle.h2_ref.specs.declared.reference.Ref.{Ref}
 use Rattle.h2_ref.specs.declared.faults.Trouble.{Trouble}
 use Rattle.h2_set.specs.RefSet.{RefSet}
 use Rattle.h2_set.specs.Ranges.{leads_on, holds, put, NoneHolds, is_indirect}
-use Rattle.h2_set.specs.Forest.{Forest, refs, loaded, IsSound, Stays, Reaches, nowhere, here, below}
+use Rattle.h2_set.specs.Forest.{Forest, refs, loaded, IsSound, Reaches, nowhere, here, below}
+use Rattle.h2_set.specs.Calls.{Stays}
 use Rattle.h2_set.specs.PutLaws.{put_from, put_keeps}
 use Rattle.h2_set.specs.ChangeLaws.{Keeps-Stays, same_or_not}
 use Rattle.h2_set.specs.RenewLaws.{like_at, Alike-sym}

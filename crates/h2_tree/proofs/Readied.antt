@@ -4,7 +4,8 @@ use Rattle.std.proofs.lemmas.Bool.{cases_lt}
 use Rattle.h2_ref.specs.declared.reference.Ref.{Ref}
 use Rattle.h2_set.specs.Ranges.{NoneHolds}
 use Rattle.h2_set.specs.RefSet.{RefSet, IsRefSet}
-use Rattle.h2_set.specs.Forest.{Forest, refs, IsSound, ReadiesOnly}
+use Rattle.h2_set.specs.Forest.{Forest, refs, IsSound}
+use Rattle.h2_set.specs.Calls.{ReadiesOnly}
 use Rattle.h2_set.specs.StayLaws.{Fixed-trans, InPlace-trans, Readies-leaves}
 use Rattle.h2_set.specs.ChangeLaws.{Same-Keeps, Keeps-trans}
 use Rattle.h2_set.specs.RenewLaws.{Keeps-Renews, Renews-trans}

@@ -6,7 +6,8 @@ use Rattle.std.proofs.lemmas.Option.{slice_get_within}
 use Rattle.h2_ref.specs.declared.reference.Ref.{Ref}
 use Rattle.h2_set.specs.Ranges.{limit, holds, without, is_indirect}
 use Rattle.h2_set.specs.RefSet.{RefSet}
-use Rattle.h2_set.specs.Forest.{Forest, refs, loaded, HasLeaves, LeavesOf, KeepsLeaves, IsSoundNode, IsSound, InPlace, Stays, Keeps, Alters, Stores, Storable, Loses, GoesBelow, GoesWith}
+use Rattle.h2_set.specs.Forest.{Forest, refs, loaded, HasLeaves, LeavesOf, KeepsLeaves, IsSoundNode, IsSound}
+use Rattle.h2_set.specs.Calls.{InPlace, Stays, Keeps, Alters, Stores, Storable, Loses, GoesBelow, GoesWith}
 use Rattle.h2_set.specs.StayLaws.{Alike-refl, Fixed-trans, InPlace-trans, Walks-refl, leaves_stay}
 use Rattle.h2_set.specs.LeafLaws.{holds_inside, place_above}
 use Rattle.h2_set.specs.EditLaws.{set_cut, Rising-remove, length-remove_set, remove_from, remove_keeps, remove_lacks}

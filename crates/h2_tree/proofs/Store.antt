@@ -3,7 +3,8 @@ use Rattle.std.proofs.Common.{◌≡◌, ℕ, ◌+◌, ◌<◌, ◌≤◌, ◌^�
 use Rattle.h2_ref.specs.declared.reference.Ref.{Ref}
 use Rattle.h2_set.specs.Ranges.{Rising, put, is_indirect}
 use Rattle.h2_set.specs.RefSet.{RefSet, IsRefSet}
-use Rattle.h2_set.specs.Forest.{Forest, refs, loaded, HasLeaves, LeavesOf, IsSound, InPlace, Stays, Keeps, Same, Alters, Stores, Storable, Loses, Fits}
+use Rattle.h2_set.specs.Forest.{Forest, refs, loaded, HasLeaves, LeavesOf, IsSound, Fits}
+use Rattle.h2_set.specs.Calls.{InPlace, Stays, Keeps, Same, Alters, Stores, Storable, Loses}
 use Rattle.h2_set.specs.StayLaws.{Alike-refl, Fixed-trans, InPlace-trans, leaves_stay}
 use Rattle.h2_set.specs.ChangeLaws.{Keeps-Stays, Keeps-trans, Same-Keeps, below_keeps, leaves_move, same_or_not}
 use Rattle.h2_set.specs.RenewLaws.{Keeps-Renews, Renews-trans}

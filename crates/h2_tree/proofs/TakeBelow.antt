@@ -3,7 +3,8 @@ use Rattle.std.proofs.Common.{◌≡◌, ℕ, ◌≤◌, ◌^◌, true, arith, s
 use Rattle.h2_ref.specs.declared.reference.Ref.{Ref}
 use Rattle.h2_set.specs.RefSet.{RefSet}
 use Rattle.h2_set.specs.Ranges.{holds, at_key, is_indirect}
-use Rattle.h2_set.specs.Forest.{Forest, refs, loaded, LeavesOf, IsSoundNode, IsSound, Walks, Loads, Stays, below}
+use Rattle.h2_set.specs.Forest.{Forest, refs, loaded, LeavesOf, IsSoundNode, IsSound, below}
+use Rattle.h2_set.specs.Calls.{Walks, Loads, Stays}
 use Rattle.h2_set.specs.StayLaws.{Walks-trans, Walks-leaves}
 use Rattle.h2_set.specs.LeafLaws.{leaves_rising, find_below}
 use Rattle.h2_set.specs.ChangeLaws.{Keeps-trans}

@@ -5,7 +5,8 @@ use Rattle.std.proofs.lemmas.Nat.{pow_pos}
 use Rattle.std.proofs.lemmas.Option.{slice_get_within}
 use Rattle.h2_ref.specs.declared.reference.Ref.{Ref}
 use Rattle.h2_set.specs.Ranges.{Rising, limit, holds, find, at_key}
-use Rattle.h2_set.specs.Forest.{Forest, refs, loaded, LeavesOf, IsSound, Walks, Loads}
+use Rattle.h2_set.specs.Forest.{Forest, refs, loaded, LeavesOf, IsSound}
+use Rattle.h2_set.specs.Calls.{Walks, Loads}
 use Rattle.h2_set.specs.StayLaws.{Walks-refl, Walks-trans, Walks-leaves, Fixed-trans, InPlace-trans}
 use Rattle.h2_set.specs.LeafLaws.{leaves_rising, holds_inside, reaches_find}
 use Rattle.h2_set.specs.ChangeLaws.{Keeps-refl, Keeps-trans}

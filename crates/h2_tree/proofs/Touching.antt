@@ -12,7 +12,8 @@ use Rattle.h2_ref.specs.declared.faults.Trouble.TheVariants.{NoMemory}
 use Rattle.h2_set.specs.RefSet.{RefSet}
 use Rattle.h2_set.specs.Ranges.{Rising, limit, holds, is_indirect}
 use Rattle.h2_set.specs.LeafLaws.{Rising-le, holds_inside, leaves_rising}
-use Rattle.h2_set.specs.Forest.{Link, loaded, told, untold, Forest, refs, HasLeaves, IsSound, InPlace, Walks, Loads}
+use Rattle.h2_set.specs.Forest.{Link, loaded, told, untold, Forest, refs, HasLeaves, IsSound}
+use Rattle.h2_set.specs.Calls.{InPlace, Walks, Loads}
 use Rattle.h2_tree.specs.Changes.{is_between, touches, RangeUnloaded, missing, deeper, LoadsTouched, LoadsIn, Prepares}
 
 -- where no node was loaded

@@ -1,7 +1,8 @@
 -- What holds whatever was answered, and what is kept beside sets.
 use Rattle.std.proofs.Common.{◌≡◌, ℕ, ◌∙◌, refl, true, Result, Ok, Err}
 use Rattle.std.specs.Prelude.{OnErr}
-use Rattle.h2_set.specs.Forest.{Forest, KeepsBeside}
+use Rattle.h2_set.specs.Forest.{Forest}
+use Rattle.h2_set.specs.Calls.{KeepsBeside}
 
 -- what holds whatever was answered holds where there was an error
 pub always_err : {T E P : Type 0} (r : Result T E) → P → OnErr r P

@@ -5,7 +5,8 @@ use Rattle.h2_ref.specs.declared.reference.Ref.{Ref}
 use Rattle.h2_set.specs.Ranges.{Rising, limit, holds, lies, NoneHolds, IsApart, Sides, put, without, at_key, is_indirect, IsAligned}
 use Rattle.h2_tree.specs.declared.removing.Taken.{Taken}
 use Rattle.h2_tree.specs.declared.removing.Taken.TheVariants.{Nothing, Out, Sole}
-use Rattle.h2_set.specs.Forest.{Forest, refs, loaded, IsSound, LeavesOf, Walks, Fixed, InPlace, Keeps, Renews, Stays, Reaches, OnWay, IsAbove, IsRootOf}
+use Rattle.h2_set.specs.Forest.{Forest, refs, loaded, IsSound, LeavesOf, Reaches, IsRootOf}
+use Rattle.h2_set.specs.Calls.{Walks, Fixed, InPlace, Keeps, Renews, Stays, OnWay, IsAbove}
 use Rattle.h2_set.specs.RefSet.{IsSplitOf}
 
 -- the range of m lies in that of node at

@@ -2,7 +2,8 @@
 use Rattle.std.proofs.Common.{◌≡◌, ◌<◌, ◌≤◌, ◌+◌, ℕ, true, false, sym, ◌∙◌, arith, inl, inr, subst, Option}
 use Rattle.std.proofs.lemmas.Bool.{cases_Bool}
 use Rattle.h2_ref.specs.declared.reference.Ref.{Ref}
-use Rattle.h2_set.specs.Forest.{Forest, loaded, IsSound, InPlace}
+use Rattle.h2_set.specs.Forest.{Forest, loaded, IsSound}
+use Rattle.h2_set.specs.Calls.{InPlace}
 use Rattle.h2_set.specs.StayLaws.{InPlace-trans}
 use Rattle.h2_tree.specs.Changes.{TakesIn, replaced, placed, parted, Inserts, Removes}
 

@@ -1,6 +1,7 @@
 ghost use Rattle.std.specs.Prelude.{◌≡◌, ℕ, true, List, Some, slice_get, IfOk, IfErr, OnErr, OnOk};
 ghost use Rattle.h2_ref.specs.declared.reference.Ref.{Ref};
-ghost use Rattle.h2_set.specs.Forest.{refs, loaded, told, IsSound, IsIndirectAt, Walks, Loads, Unchanged, HasCause, IsBad, MeetsNone, KeepsBeside};
+ghost use Rattle.h2_set.specs.Forest.{refs, loaded, told, IsSound};
+ghost use Rattle.h2_set.specs.Calls.{IsIndirectAt, Walks, Loads, Unchanged, HasCause, IsBad, MeetsNone, KeepsBeside};
 
 use h2_ref::Trouble;
 use h2_set::{NodeId, Sets};

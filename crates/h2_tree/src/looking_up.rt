@@ -1,7 +1,8 @@
 ghost use Rattle.std.specs.Prelude.{◌≡◌, ℕ, true, List, Option, IfOk, IfErr, OnErr, OnOk};
 ghost use Rattle.h2_ref.specs.declared.reference.Ref.{Ref};
 ghost use Rattle.h2_set.specs.Ranges.{find};
-ghost use Rattle.h2_set.specs.Forest.{Forest, refs, loaded, IsSound, Walks, HasCause, IsBad, MeetsNone, LeavesOf, Reaches, KeepsBeside};
+ghost use Rattle.h2_set.specs.Forest.{Forest, refs, loaded, IsSound, LeavesOf, Reaches};
+ghost use Rattle.h2_set.specs.Calls.{Walks, HasCause, IsBad, MeetsNone, KeepsBeside};
 ghost use Rattle.h2_tree.specs.Changes.{WalksUnder, LoadsTouched, LoadsIn, PathUnloaded};
 
 use h2_ref::{Ref, Trouble};

@@ -6,7 +6,8 @@ use Rattle.h2_ref.specs.declared.reference.Kind.{Kind}
 use Rattle.h2_ref.specs.declared.reference.Kind.TheVariants.{Empty, Inode, Dirent}
 use Rattle.h2_ref.specs.declared.reference.Ref.{Ref}
 use Rattle.h2_set.specs.Ranges.{is_indirect}
-use Rattle.h2_set.specs.Forest.{Forest, IsSound, Fixed, InPlace, Walks}
+use Rattle.h2_set.specs.Forest.{Forest, IsSound}
+use Rattle.h2_set.specs.Calls.{Fixed, InPlace, Walks}
 use Rattle.h2_memory_sets.specs.declared.node.KeyClass.TheVariants.{High}
 use Rattle.h2_memory_sets.specs.Roots.{AddsRoot}
 use Rattle.h2_tree.specs.Changes.{Takes, Inserts}

@@ -3,7 +3,8 @@ use Rattle.std.proofs.Common.{◌≡◌, Bool, true, false, refl, sym, ℕ, ◌�
 use Rattle.std.specs.Prelude.{OnErr, IfSome, IfNone}
 use Rattle.h2_ref.specs.declared.reference.Ref.{Ref}
 use Rattle.h2_ref.specs.declared.faults.Trouble.{Trouble}
-use Rattle.h2_set.specs.Forest.{Forest, IsSound, Fixed, InPlace, Walks}
+use Rattle.h2_set.specs.Forest.{Forest, IsSound}
+use Rattle.h2_set.specs.Calls.{Fixed, InPlace, Walks}
 use Rattle.h2_memory_sets.specs.declared.node.KeyClass.{KeyClass}
 use Rattle.h2_memory_sets.specs.Roots.{AddsRoot, Unloads}
 use Rattle.h2_tree_rows.specs.TreeUnderTest.{IsPlainTree}

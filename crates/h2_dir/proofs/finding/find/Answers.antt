@@ -9,7 +9,7 @@ use Rattle.h2_dir.specs.declared.fault.DirFault.TheVariants as fault
 use Rattle.h2_dir.specs.Finding.{IsBadBlock}
 use Rattle.h2_dir.proofs.Known.{entries_named}
 use Rattle.h2_dir.proofs.Searched.{found_there, missing_there, scanned_stays, loads_none}
-use Rattle.h2_set.specs.Forest.{MeetsNone}
+use Rattle.h2_set.specs.Calls.{MeetsNone}
 use Rattle.h2_dir.proofs.finding.find.Goals as goal
 
 pub returns-then-not-is_directory-clause-walks : goal.returns-then-not-is_directory-clause-walks

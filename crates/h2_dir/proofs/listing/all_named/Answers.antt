@@ -2,7 +2,7 @@ use Rattle.std.proofs.Common.{◌≡◌, sym, arith, length, rules}
 use Rattle.std.specs.Prelude.{◌⊎◌}
 use Rattle.h2_ref.specs.declared.faults.Trouble.TheVariants.{NoMemory}
 use Rattle.h2_dir.specs.Listing.{AnyLongName}
-use Rattle.h2_set.specs.Forest.{IsBad}
+use Rattle.h2_set.specs.Calls.{IsBad}
 use Rattle.h2_dir.specs.Names.{AllNamed}
 use Rattle.h2_dir.proofs.Known.{named_at}
 use Rattle.h2_dir.proofs.Told.{any_long}

@@ -1,5 +1,5 @@
 use Rattle.std.proofs.Common.{take}
-use Rattle.h2_set.specs.Forest.{Unchanged, MeetsNone, KeepsBeside}
+use Rattle.h2_set.specs.Calls.{Unchanged, MeetsNone, KeepsBeside}
 use Rattle.h2_inode.specs.Access.{OneByOne}
 use Rattle.h2_dir.specs.Listing.{SaysEntry}
 use Rattle.h2_dir.proofs.listing.all_named.Given as goal

@@ -1,6 +1,6 @@
 use Rattle.std.proofs.Common.{ℕ, List, sym, ◌∙◌, rules}
 use Rattle.std.proofs.lemmas.Option.{none-some}
-use Rattle.h2_set.specs.Forest.{IsBad}
+use Rattle.h2_set.specs.Calls.{IsBad}
 use Rattle.h2_dir.specs.Names.{IsNamed}
 use Rattle.h2_dir.proofs.Known.{no_bad_name}
 use Rattle.h2_set.specs.MetLaws.{MeetsNone-refl, handed_none_met}

@@ -7,7 +7,7 @@ use Rattle.h2_inode.specs.VisitLaws.{walks_visit, visits_inode}
 use Rattle.h2_inode.specs.Access.{OneByOne}
 use Rattle.h2_dir.specs.Listing.{IsEntryLeaf, SaysEntry, AnyLongName, ListMayLoad, ListFails}
 use Rattle.h2_dir.specs.declared.fault.DirFault.TheVariants as fault
-use Rattle.h2_set.specs.Forest.{HasCause, IsBad, MeetsNone}
+use Rattle.h2_set.specs.Calls.{HasCause, IsBad, MeetsNone}
 use Rattle.h2_dir.specs.Names.{AllNamed}
 use Rattle.h2_dir.specs.Finding.{IsBadBlock}
 use Rattle.h2_dir.proofs.Known.{named_kept, entries_named}

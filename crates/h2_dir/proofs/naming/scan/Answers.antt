@@ -1,7 +1,7 @@
 use Rattle.std.proofs.Common.{◌<◌, ◌≤◌, length, arith, rules}
 use Rattle.std.proofs.lemmas.Option.{slice_get_within}
 use Rattle.h2_dir.proofs.Unchanging.{unchanged_trans, beside_unchanged}
-use Rattle.h2_set.specs.Forest.{IsBad}
+use Rattle.h2_set.specs.Calls.{IsBad}
 use Rattle.h2_dir.specs.Names.{AllNamed}
 use Rattle.h2_dir.proofs.Known.{named_at}
 use Rattle.h2_dir.proofs.Scanning.{place_found, none_more}

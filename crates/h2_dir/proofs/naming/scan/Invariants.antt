@@ -1,7 +1,7 @@
 use Rattle.std.proofs.Common.{◌≡◌, ℕ, ◌<◌, Some}
 use Rattle.std.specs.Prelude.{slice_get}
 use Rattle.h2_ref.specs.declared.reference.Ref.{Ref}
-use Rattle.h2_set.specs.Forest.{Unchanged, MeetsNone, KeepsBeside}
+use Rattle.h2_set.specs.Calls.{Unchanged, MeetsNone, KeepsBeside}
 use Rattle.h2_dir.specs.Names.{IsNamed}
 use Rattle.h2_dir.proofs.naming.scan.Given as goal
 

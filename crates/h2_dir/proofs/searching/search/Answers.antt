@@ -8,7 +8,8 @@ use Rattle.h2_set.specs.StayLaws.{Walks-trans, Unchanged-walks}
 use Rattle.h2_tree.specs.Changes.{LoadsIn, Lists}
 use Rattle.h2_inode.specs.VisitLaws.{walks_visit, visits_inode}
 use Rattle.h2_dir.proofs.Paths.{lists_valid, lists_same}
-use Rattle.h2_set.specs.Forest.{IsBad, LeavesOf}
+use Rattle.h2_set.specs.Forest.{LeavesOf}
+use Rattle.h2_set.specs.Calls.{IsBad}
 use Rattle.h2_dir.specs.Names.{AllNamed, AnyLongCandidate}
 use Rattle.h2_dir.proofs.Known.{carried_err, no_bad_search}
 use Rattle.h2_dir.specs.Finding.{MayLoad}

@@ -17,7 +17,7 @@ use Rattle.h2_dir.proofs.Loading.{path_loads, inode_loads, search_loads, failed_
 use Rattle.h2_dir.proofs.Walked.{cause_earlier, inode_before, pfs_leaf, pfs_stays, step_found, step_fails, step_trouble}
 use Rattle.h2_dir.proofs.Agreed.{trouble_agrees, nothing_agrees, found_agrees_on, failed_agrees_on}
 use Rattle.std.proofs.Common.{rules}
-use Rattle.h2_set.specs.Forest.{MeetsNone}
+use Rattle.h2_set.specs.Calls.{MeetsNone}
 use Rattle.h2_dir.specs.Finding.{IsBadBlock}
 use Rattle.h2_set.specs.MetLaws.{MeetsNone-trans}
 use Rattle.h2_dir.proofs.walking.step.Goals as goal

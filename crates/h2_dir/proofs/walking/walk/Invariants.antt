@@ -1,7 +1,8 @@
 use Rattle.std.proofs.Common.{ℕ, Bool, List}
 use Rattle.std.specs.Prelude.{drop}
 use Rattle.h2_ref.specs.declared.reference.Ref.{Ref}
-use Rattle.h2_set.specs.Forest.{LeavesOf, MeetsNone, KeepsBeside}
+use Rattle.h2_set.specs.Forest.{LeavesOf}
+use Rattle.h2_set.specs.Calls.{MeetsNone, KeepsBeside}
 use Rattle.h2_inode.specs.Nodes.{Visits}
 use Rattle.h2_inode.specs.Loaded.{StandsAlike, view_of}
 use Rattle.h2_dir.specs.Knowing.{KnowsWay}

@@ -1,6 +1,7 @@
 use Rattle.std.proofs.Common.{◌≡◌, ◌<◌, ℕ, Option, Some, slice_get}
 use Rattle.h2_ref.specs.declared.reference.Ref.{Ref}
-use Rattle.h2_set.specs.Forest.{Walks, Reaches, MeetsNone, KeepsBeside}
+use Rattle.h2_set.specs.Forest.{Reaches}
+use Rattle.h2_set.specs.Calls.{Walks, MeetsNone, KeepsBeside}
 use Rattle.h2_file.specs.Linking.{LoadsEach, KeepsOthers}
 use Rattle.h2_file.proofs.linking.load_paths.Given as goal
 

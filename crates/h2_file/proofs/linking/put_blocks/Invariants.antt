@@ -1,5 +1,5 @@
 use Rattle.std.proofs.Common.{take}
-use Rattle.h2_set.specs.Forest.{MeetsNone, KeepsBeside}
+use Rattle.h2_set.specs.Calls.{MeetsNone, KeepsBeside}
 use Rattle.h2_file.specs.Linking.{PutsEach}
 use Rattle.h2_file.proofs.linking.put_blocks.Given as goal
 

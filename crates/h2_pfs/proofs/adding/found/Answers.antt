@@ -9,7 +9,7 @@ use Rattle.h2_pfs.specs.Meets.{LoadsPfss}
 use Rattle.h2_pfs.proofs.Loading.{none_loads}
 use Rattle.h2_tree.specs.AnswerLaws.{always_err, beside_on}
 use Rattle.h2_pfs.proofs.Planted.{ready_path, ready_takes, none_before, new_unloaded, founds}
-use Rattle.h2_set.specs.Forest.{MeetsNone}
+use Rattle.h2_set.specs.Calls.{MeetsNone}
 use Rattle.h2_set.specs.MetLaws.{MeetsNone-trans}
 use Rattle.h2_pfs.proofs.adding.found.Goals as goal
 

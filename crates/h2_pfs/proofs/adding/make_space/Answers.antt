@@ -7,7 +7,7 @@ use Rattle.h2_pfs.specs.Listing.{HasPfss}
 use Rattle.h2_pfs.specs.Faults.{IsBadBlock, IsFaultIn}
 use Rattle.h2_pfs.proofs.Answering.{carried_err}
 use Rattle.h2_pfs.proofs.Kept.{kept_id, kept_length, found_as, some_of, none_of}
-use Rattle.h2_set.specs.Forest.{MeetsNone}
+use Rattle.h2_set.specs.Calls.{MeetsNone}
 use Rattle.h2_pfs.proofs.adding.make_space.Goals as goal
 
 pub returns-in_err-pfss-clause-refused : goal.returns-in_err-pfss-clause-refused

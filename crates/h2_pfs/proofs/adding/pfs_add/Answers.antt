@@ -21,7 +21,7 @@ use Rattle.h2_pfs.proofs.Spaced.{list_stays, fault_before}
 use Rattle.h2_pfs.proofs.Added.{added}
 use Rattle.h2_pfs.proofs.Single.{founded_one}
 use Rattle.h2_inode.specs.NamesOneLaws.{walks_one}
-use Rattle.h2_set.specs.Forest.{MeetsNone}
+use Rattle.h2_set.specs.Calls.{MeetsNone}
 use Rattle.h2_set.specs.MetLaws.{MeetsNone-trans}
 use Rattle.h2_pfs.proofs.adding.pfs_add.Goals as goal
 

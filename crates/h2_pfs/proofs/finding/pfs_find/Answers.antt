@@ -7,7 +7,7 @@ use Rattle.h2_pfs.specs.Listing.{HasPfss}
 use Rattle.h2_pfs.specs.Faults.{IsBadBlock, IsFaultIn}
 use Rattle.h2_pfs.proofs.Answering.{carried_err}
 use Rattle.h2_pfs.proofs.Kept.{kept_id, found_as}
-use Rattle.h2_set.specs.Forest.{MeetsNone}
+use Rattle.h2_set.specs.Calls.{MeetsNone}
 use Rattle.h2_pfs.proofs.finding.pfs_find.Goals as goal
 
 pub returns-in_err-pfss-clause-refused : goal.returns-in_err-pfss-clause-refused

@@ -1,6 +1,6 @@
 use Rattle.std.proofs.Common.{ℕ, List}
 use Rattle.h2_ref.specs.declared.faults.Trouble.{Trouble}
-use Rattle.h2_set.specs.Forest.{IsBad}
+use Rattle.h2_set.specs.Calls.{IsBad}
 use Rattle.h2_inode.specs.Nodes.{held_by}
 use Rattle.h2_inode.specs.PfsList.{ListedPfs}
 use Rattle.h2_pfs.specs.Listing.{HasPfss}

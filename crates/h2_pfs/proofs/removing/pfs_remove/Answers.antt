@@ -15,7 +15,7 @@ use Rattle.h2_pfs.proofs.Gone.{Gone, gone, dropped, removes_pfs}
 use Rattle.h2_pfs.proofs.Single.{removed_one}
 use Rattle.h2_pfs.proofs.removing.pfs_remove.Given.{Over}
 use Rattle.h2_pfs.proofs.removing.pfs_remove.Goals.{After-drop-pfss-2}
-use Rattle.h2_set.specs.Forest.{MeetsNone}
+use Rattle.h2_set.specs.Calls.{MeetsNone}
 use Rattle.h2_set.specs.MetLaws.{MeetsNone-trans}
 use Rattle.h2_pfs.proofs.removing.pfs_remove.Goals as goal
 

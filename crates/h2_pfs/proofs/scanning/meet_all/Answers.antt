@@ -2,7 +2,7 @@ use Rattle.std.proofs.Common.{◌≡◌, ◌⊎◌, inl, inr, arith, ◌∙◌, 
 use Rattle.std.specs.Prelude.{map}
 use Rattle.h2_ref.specs.declared.faults.Trouble.{Trouble}
 use Rattle.h2_ref.specs.declared.faults.Trouble.TheVariants.{NoMemory}
-use Rattle.h2_set.specs.Forest.{IsBad}
+use Rattle.h2_set.specs.Calls.{IsBad}
 use Rattle.h2_inode.specs.Nodes.{held_by}
 use Rattle.h2_inode.specs.VisitLaws.{visits_trans, visits_leaf}
 use Rattle.h2_inode.specs.Access.{OneByOne}

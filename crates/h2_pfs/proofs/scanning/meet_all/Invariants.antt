@@ -1,7 +1,7 @@
 use Rattle.std.proofs.Common.{◌≡◌, ◌≤◌, ℕ, List, Some, take, slice_get}
 use Rattle.std.specs.Prelude.{map}
 use Rattle.h2_ref.specs.declared.reference.Ref.{Ref}
-use Rattle.h2_set.specs.Forest.{MeetsNone, KeepsBeside}
+use Rattle.h2_set.specs.Calls.{MeetsNone, KeepsBeside}
 use Rattle.h2_inode.specs.Nodes.{held_by, IsNamed, Visits}
 use Rattle.h2_inode.specs.Access.{OneByOne}
 use Rattle.h2_inode.specs.Loaded.{StandsAlike, view_of}

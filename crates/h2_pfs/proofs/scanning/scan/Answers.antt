@@ -2,7 +2,7 @@ use Rattle.std.proofs.Common.{◌≡◌, ◌⊎◌, sym, subst, ℕ, List}
 use Rattle.std.specs.Prelude.{map}
 use Rattle.h2_ref.specs.declared.faults.Trouble.{Trouble}
 use Rattle.h2_ref.specs.declared.faults.Trouble.TheVariants.{NoMemory}
-use Rattle.h2_set.specs.Forest.{HasCause, IsBad}
+use Rattle.h2_set.specs.Calls.{HasCause, IsBad}
 use Rattle.h2_inode.specs.Nodes.{held_by}
 use Rattle.h2_inode.specs.VisitLaws.{walks_visit, visits_trans}
 use Rattle.h2_inode.specs.Access.{OneByOne}

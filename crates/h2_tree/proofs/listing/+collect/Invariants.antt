@@ -1,7 +1,8 @@
 use Rattle.std.proofs.Common.{◌≡◌, List, ◌++◌, take}
 use Rattle.std.specs.Prelude.{filter}
 use Rattle.h2_ref.specs.declared.reference.Ref.{Ref}
-use Rattle.h2_set.specs.Forest.{refs, HasLeaves, Walks, MeetsNone, KeepsBeside}
+use Rattle.h2_set.specs.Forest.{refs, HasLeaves}
+use Rattle.h2_set.specs.Calls.{Walks, MeetsNone, KeepsBeside}
 use Rattle.h2_tree.specs.Changes.{is_between, LoadsIn}
 use Rattle.h2_tree.specs.Listing.{Adds}
 use Rattle.h2_tree.proofs.listing.+collect.Given as goal

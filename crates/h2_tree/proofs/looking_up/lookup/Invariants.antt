@@ -1,6 +1,7 @@
 use Rattle.std.proofs.Common.{◌≡◌, true, List}
 use Rattle.h2_ref.specs.declared.reference.Ref.{Ref}
-use Rattle.h2_set.specs.Forest.{LeavesOf, Walks, MeetsNone, KeepsBeside}
+use Rattle.h2_set.specs.Forest.{LeavesOf}
+use Rattle.h2_set.specs.Calls.{Walks, MeetsNone, KeepsBeside}
 use Rattle.h2_tree.specs.Changes.{Under, WalksUnder, LoadsIn}
 use Rattle.h2_tree.proofs.Climb.{LeadsTo, LedBack}
 use Rattle.h2_tree.proofs.Known.{Known}

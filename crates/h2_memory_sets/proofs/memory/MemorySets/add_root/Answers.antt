@@ -1,5 +1,5 @@
 use Rattle.std.proofs.Common.{◌≡◌, ℕ, List, [], ◌∷◌, ◌++◌, length, slice_get, refl, sym, ap, ◌∙◌, subst}
-use Rattle.h2_set.specs.Forest.{KeepsBeside}
+use Rattle.h2_set.specs.Calls.{KeepsBeside}
 use Rattle.h2_memory_sets.specs.declared.node.Leaves.TheVariants.{Any}
 use Rattle.h2_memory_sets.specs.declared.node.Node.{Node}
 use Rattle.h2_memory_sets.specs.Kept.{AreKept}

@@ -1,6 +1,6 @@
 use Rattle.std.proofs.Common.{◌≡◌, List, true, slice_get, slice_set, refl, sym, ap, subst}
 use Rattle.std.proofs.lemmas.Option.{slice_get_read}
-use Rattle.h2_set.specs.Forest.{KeepsBeside}
+use Rattle.h2_set.specs.Calls.{KeepsBeside}
 use Rattle.h2_memory_sets.specs.declared.node.Node.{Node}
 use Rattle.h2_memory_sets.specs.Inodes.{with_held}
 use Rattle.h2_memory_sets.specs.Kept.{AreKept}

@@ -1,6 +1,6 @@
 use Rattle.std.proofs.Common.{◌≡◌, ◌-◌, true, Some, List, refl, sym, ap, ◌∙◌, subst, arith, slice_get, ◌||◌}
 use Rattle.std.proofs.lemmas.Option.{slice_get_read}
-use Rattle.h2_set.specs.Forest.{Alters}
+use Rattle.h2_set.specs.Calls.{Alters}
 use Rattle.h2_memory_sets.specs.declared.node.Node.{Node}
 use Rattle.h2_memory_sets.specs.declared.node.Place.{Place}
 use Rattle.h2_memory_sets.specs.View.{AllRooted, forest_with, copies_of, is_above, is_over, place_of, marked_all, recounted_all}
@@ -10,7 +10,7 @@ use Rattle.h2_memory_sets.proofs.Recounting.{rooted_still, kept_still, field}
 use Rattle.h2_memory_sets.proofs.Owned.{are_lower}
 use Rattle.h2_memory_sets.specs.Kept.{AreKept}
 use Rattle.h2_memory_sets.specs.Owners.{beside_of}
-use Rattle.h2_set.specs.Forest.{KeepsBeside}
+use Rattle.h2_set.specs.Calls.{KeepsBeside}
 use Rattle.h2_memory_sets.proofs.Unaltered.{unaltered}
 use Rattle.h2_memory_sets.specs.Inodes.{is_settled_top}
 use Rattle.h2_memory_sets.proofs.Parting.{item_at}

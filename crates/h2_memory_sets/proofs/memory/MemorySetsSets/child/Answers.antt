@@ -3,7 +3,8 @@ use Rattle.std.specs.List.{position}
 use Rattle.std.proofs.lemmas.Option.{slice_get_read}
 use Rattle.h2_ref.specs.declared.reference.Ref.{Ref}
 use Rattle.h2_set.specs.StayLaws.{Walks-refl, Unchanged-walks}
-use Rattle.h2_set.specs.Forest.{Loads, loaded}
+use Rattle.h2_set.specs.Forest.{loaded}
+use Rattle.h2_set.specs.Calls.{Loads}
 use Rattle.h2_memory_sets.specs.declared.node.Node.{Node}
 use Rattle.h2_memory_sets.specs.View.{copies_of, forest_with, is_child, link_of}
 use Rattle.h2_memory_sets.proofs.Nodes.{unchanged_nodes, is_there}

@@ -2,7 +2,7 @@ use Rattle.std.proofs.Common.{◌≡◌, ◌≤◌, ◌+◌, ◌-◌, ℕ, true,
 use Rattle.std.proofs.lemmas.Option.{slice_get_past}
 use Rattle.h2_set.specs.Ranges.{Rising, put}
 use Rattle.h2_set.specs.RefSet.{RefSet, with_rest}
-use Rattle.h2_set.specs.Forest.{Makes}
+use Rattle.h2_set.specs.Calls.{Makes}
 use Rattle.h2_set.specs.MadeLaws.{parts_node}
 use Rattle.h2_memory_sets.specs.declared.node.Node.{Node}
 use Rattle.h2_inode.specs.Nodes.{set_of as set_of_body}
