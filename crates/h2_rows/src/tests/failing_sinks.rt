@@ -3,7 +3,9 @@ ghost use Rattle.h2_io.specs.MemSink.{faults_of};
 
 use super::running::{ALREADY_1, FORMAT_4, FORMATTED_4, empty_disk, expect, run};
 use h2_disk::Disk;
-use h2_io::{MemSink, PutFault, Sink};
+use h2_io::{MemSink, PutFault, Sink, StdSink, print};
+use std::cell::Cell;
+use std::io::{self, ErrorKind, Write};
 use std::test::Fail;
 
 // A sink that takes one byte of each piece.
@@ -67,5 +69,59 @@ fn a_sink_may_take_a_byte_at_a_time(rt: HostRuntime) -> Result<(), Fail> {
         assert_eq!(rt; status, want);
         assert_eq!(rt; out.inner.bytes(), line.as_bytes());
     }
+    Ok(())
+}
+
+// A writer with room for some bytes, which is interrupted a number of times and takes nothing once it is full.
+#[derive(Drop)]
+struct Narrow<'a> {
+    room: &'a Cell<usize>,
+    interruptions: &'a Cell<usize>,
+}
+
+impl<'a> Write for Narrow<'a> {
+    fn write(&mut self, buf: &[u8]) -> io::Result<usize> {
+        let left = self.interruptions.get();
+        if left > 0 {
+            self.interruptions.set(left - 1);
+            return Err(io::Error::from(ErrorKind::Interrupted));
+        }
+        let room = self.room.get();
+        let count = buf.len().min(room);
+        self.room.set(room - count);
+        Ok(count)
+    }
+
+    fn flush(&mut self) -> io::Result<()> {
+        Ok(())
+    }
+}
+
+#[test]
+fn an_interrupted_write_is_tried_again(rt: HostRuntime) -> Result<(), Fail> {
+    let room = Cell::new(10);
+    let interruptions = Cell::new(3);
+    let mut out = StdSink::new(Narrow {
+        room: &room,
+        interruptions: &interruptions,
+    });
+    assert_eq!(rt; print(&mut out, b"text"), Ok(()));
+    assert_eq!(rt; interruptions.get(), 0);
+    assert_eq!(rt; room.get(), 6);
+    Ok(())
+}
+
+#[test]
+fn a_writer_that_takes_nothing_has_failed(rt: HostRuntime) -> Result<(), Fail> {
+    let room = Cell::new(3);
+    let interruptions = Cell::new(0);
+    let mut out = StdSink::new(Narrow {
+        room: &room,
+        interruptions: &interruptions,
+    });
+    assert_eq!(rt; print(&mut out, b"text"), Err(PutFault::Failed));
+    assert_eq!(rt; room.get(), 0);
+    room.set(4);
+    assert_eq!(rt; print(&mut out, b"text"), Ok(()));
     Ok(())
 }
