@@ -1,5 +1,5 @@
 -- What a value is seen as.
-use Rattle.std.specs.Prelude.{ℕ, List, Option, map, slice_get}
+use Rattle.std.specs.Prelude.{◌≡◌, ℕ, List, Option, map, slice_get}
 use Rattle.h2_set.specs.Forest.{Forest}
 use Rattle.h2_memory_sets.specs.declared.memory.MemorySets.{MemorySets}
 use Rattle.h2_inode.specs.declared.inode.Inode.{Inode}
@@ -33,3 +33,9 @@ spoiled_load p = p.spoiled
 
 abbrev pub refused_spare : MemorySets → ℕ
 refused_spare p = p.refused
+
+-- the loads and the call that are to fail are as before
+pub record KeepsPlans (p q : MemorySets) : Type 0 where
+  pub failing : failing_load q ≡ failing_load p
+  pub spoiled : spoiled_load q ≡ spoiled_load p
+  pub refused : refused_spare q ≡ refused_spare p

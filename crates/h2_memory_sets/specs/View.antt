@@ -300,3 +300,7 @@ pub record Block : Type 0 where
 
 abbrev pub block : Node → Block
 block x = record { set = x.set; inode = x.inode; low = x.low; up = x.up; owner = x.owner }
+
+-- the block of a new root that no leaf names: an empty set of capacity 4, and no inode
+abbrev pub root_block : KeyClass → Block
+root_block keys = record { set = record { refs = []; capacity = 4 }; inode = None; low = first_key keys; up = None; owner = None }
