@@ -23,6 +23,10 @@ blocks_of p = map block p.nodes.items
 abbrev pub name_of : MemorySets → ℕ → ℕ → Option (List ℕ)
 name_of p place len = name_in p.names.items place len
 
+-- all names are as before
+abbrev pub KeepsNames : MemorySets → MemorySets → Type 0
+KeepsNames p q = (place len : ℕ) → name_of q place len ≡ name_of p place len
+
 -- which load from now on the disk fails, which meets a bad block, and which call for spare nodes is refused:
 -- 1 for the next, 0 for none
 abbrev pub failing_load : MemorySets → ℕ

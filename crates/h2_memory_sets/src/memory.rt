@@ -57,7 +57,7 @@ impl MemorySets {
     ghost use Rattle.h2_ref.specs.declared.faults.Trouble.{Trouble};
     ghost use Rattle.h2_ref.specs.declared.faults.Why.{Why};
     ghost use Rattle.h2_set.specs.Forest.{IsSound, IsBad, MeetsNone, Unchanged, HasCause, KeepsBeside};
-    ghost use Rattle.h2_memory_sets.specs.Seen.{forest_of, beside_seen, blocks_of, name_of, failing_load, spoiled_load, refused_spare, KeepsPlans};
+    ghost use Rattle.h2_memory_sets.specs.Seen.{forest_of, beside_seen, blocks_of, name_of, failing_load, spoiled_load, refused_spare, KeepsNames, KeepsPlans};
     ghost use Rattle.h2_memory_sets.specs.View.{root_block};
     ghost use Rattle.h2_memory_sets.specs.declared.node.KeyClass.TheVariants.{Low};
     ghost use Rattle.h2_memory_sets.specs.Roots.{AddsRoot, AddsSuperRoot, HoldsRoot, BeginsEpoch, Unloads, UnloadsInodes};
@@ -112,7 +112,7 @@ impl MemorySets {
         ensures same { forest_of self.new ≡ forest_of self.old }
         ensures beside { beside_seen self.new ≡ beside_seen self.old }
         ensures blocks { blocks_of self.new ≡ blocks_of self.old }
-        ensures names { (place len : ℕ) → name_of self.new place len ≡ name_of self.old place len }
+        ensures names { KeepsNames self.old self.new }
         ensures due { failing_load self.new ≡ which }
         ensures others_due { (spoiled_load self.new ≡ spoiled_load self.old) × (refused_spare self.new ≡ refused_spare self.old) }
     {
@@ -124,7 +124,7 @@ impl MemorySets {
         ensures same { forest_of self.new ≡ forest_of self.old }
         ensures beside { beside_seen self.new ≡ beside_seen self.old }
         ensures blocks { blocks_of self.new ≡ blocks_of self.old }
-        ensures names { (place len : ℕ) → name_of self.new place len ≡ name_of self.old place len }
+        ensures names { KeepsNames self.old self.new }
         ensures due { spoiled_load self.new ≡ which }
         ensures others_due { (failing_load self.new ≡ failing_load self.old) × (refused_spare self.new ≡ refused_spare self.old) }
     {
@@ -137,7 +137,7 @@ impl MemorySets {
         ensures same { forest_of self.new ≡ forest_of self.old }
         ensures beside { beside_seen self.new ≡ beside_seen self.old }
         ensures blocks { blocks_of self.new ≡ blocks_of self.old }
-        ensures names { (place len : ℕ) → name_of self.new place len ≡ name_of self.old place len }
+        ensures names { KeepsNames self.old self.new }
         ensures due { refused_spare self.new ≡ which }
         ensures others_due { (failing_load self.new ≡ failing_load self.old) × (spoiled_load self.new ≡ spoiled_load self.old) }
     {
@@ -153,7 +153,7 @@ impl MemorySets {
         ensures err { OnErr result (forest_of self.new ≡ forest_of self.old) }
         ensures blocks { IfOk result (λ c. blocks_of self.new ≡ blocks_of self.old ++ root_block keys ∷ []) }
         ensures blocks_err { OnErr result (blocks_of self.new ≡ blocks_of self.old) }
-        ensures names { (place len : ℕ) → name_of self.new place len ≡ name_of self.old place len }
+        ensures names { KeepsNames self.old self.new }
         ensures plans { KeepsPlans self.old self.new }
     {
         if self.nodes.len() >= (u32::MAX - self.spare) as usize {
@@ -175,7 +175,7 @@ impl MemorySets {
         ensures err { OnErr result (forest_of self.new ≡ forest_of self.old) }
         ensures blocks { IfOk result (λ c. blocks_of self.new ≡ blocks_of self.old ++ root_block Low ∷ []) }
         ensures blocks_err { OnErr result (blocks_of self.new ≡ blocks_of self.old) }
-        ensures names { (place len : ℕ) → name_of self.new place len ≡ name_of self.old place len }
+        ensures names { KeepsNames self.old self.new }
         ensures plans { KeepsPlans self.old self.new }
     {
         if self.nodes.len() >= (u32::MAX - self.spare) as usize {
@@ -208,7 +208,7 @@ impl MemorySets {
         ensures held { HoldsRoot (forest_of self.old) (forest_of self.new) at.0 true }
         ensures beside { KeepsBeside (forest_of self.old) (forest_of self.new) (beside_seen self.old) (beside_seen self.new) }
         ensures blocks { blocks_of self.new ≡ blocks_of self.old }
-        ensures names { (place len : ℕ) → name_of self.new place len ≡ name_of self.old place len }
+        ensures names { KeepsNames self.old self.new }
         ensures plans { KeepsPlans self.old self.new }
     {
         hold_one(&mut self.nodes[at.0 as usize]);
@@ -221,7 +221,7 @@ impl MemorySets {
         ensures held { HoldsRoot (forest_of self.old) (forest_of self.new) at.0 false }
         ensures beside { KeepsBeside (forest_of self.old) (forest_of self.new) (beside_seen self.old) (beside_seen self.new) }
         ensures blocks { blocks_of self.new ≡ blocks_of self.old }
-        ensures names { (place len : ℕ) → name_of self.new place len ≡ name_of self.old place len }
+        ensures names { KeepsNames self.old self.new }
         ensures plans { KeepsPlans self.old self.new }
     {
         release_one(&mut self.nodes[at.0 as usize]);
@@ -234,7 +234,7 @@ impl MemorySets {
         ensures begins { BeginsEpoch (forest_of self.old) (forest_of self.new) }
         ensures beside { KeepsBeside (forest_of self.old) (forest_of self.new) (beside_seen self.old) (beside_seen self.new) }
         ensures blocks { blocks_of self.new ≡ blocks_of self.old }
-        ensures names { (place len : ℕ) → name_of self.new place len ≡ name_of self.old place len }
+        ensures names { KeepsNames self.old self.new }
         ensures plans { KeepsPlans self.old self.new }
     {
         self.epoch += 1;
@@ -249,7 +249,7 @@ impl MemorySets {
         ensures unloads { Unloads (forest_of self.old) (forest_of self.new) from }
         ensures beside { KeepsBeside (forest_of self.old) (forest_of self.new) (beside_seen self.old) (beside_seen self.new) }
         ensures blocks { blocks_of self.new ≡ blocks_of self.old }
-        ensures names { (place len : ℕ) → name_of self.new place len ≡ name_of self.old place len }
+        ensures names { KeepsNames self.old self.new }
         ensures plans { KeepsPlans self.old self.new }
     {
         let None = find_named(&self.nodes) else {
@@ -265,7 +265,7 @@ impl MemorySets {
         ensures unloads { UnloadsInodes (forest_of self.old) (forest_of self.new) }
         ensures beside { KeepsBeside (forest_of self.old) (forest_of self.new) (beside_seen self.old) (beside_seen self.new) }
         ensures blocks { blocks_of self.new ≡ blocks_of self.old }
-        ensures names { (place len : ℕ) → name_of self.new place len ≡ name_of self.old place len }
+        ensures names { KeepsNames self.old self.new }
         ensures plans { KeepsPlans self.old self.new }
     {
         unload_owned(&mut self.nodes);
@@ -283,6 +283,7 @@ impl MemorySets {
         ensures none_met { OnOk result (MeetsNone (forest_of self.old) (forest_of self.new)) }
         ensures none_met_refused { IfErr result (λ e. (IsBad e → ⊥) → MeetsNone (forest_of self.old) (forest_of self.new)) }
         ensures beside { beside_seen self.new ≡ beside_seen self.old }
+        ensures names { KeepsNames self.old self.new }
     {
         if is_due(&mut self.fault) {
             self.failed = one_more(self.failed);
@@ -313,7 +314,8 @@ pub(crate) fn one_more(count: u64) -> u64
 
 impl Sets for MemorySets {
     ghost use Rattle.std.specs.Prelude.{ℕ};
-    ghost use Rattle.h2_memory_sets.specs.Seen.{forest_of, beside_seen};
+    ghost use Rattle.std.proofs.Common.{refl, ◌∙◌};
+    ghost use Rattle.h2_memory_sets.specs.Seen.{forest_of, beside_seen, KeepsNames};
 
     type Beside = Option<Inode>;
 
@@ -321,11 +323,11 @@ impl Sets for MemorySets {
 
     ghost beside = { beside_seen };
 
-    ghost later = { λ p q. Unit {0} };
+    ghost later = { KeepsNames };
 
-    ghost same_later = { λ p. tt };
+    ghost same_later = { λ p place len. refl };
 
-    ghost later_later = { λ p q r a b. tt };
+    ghost later_later = { λ p q r a b place len. b place len ∙ a place len };
 
     fn get(&self, at: NodeId) -> &Set {
         &self.nodes[at.0 as usize].set
