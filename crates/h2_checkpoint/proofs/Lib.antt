@@ -10,4 +10,3 @@ pub mod Making
 pub mod Nexts
 pub mod View
 pub mod Toy
-pub mod Rows

@@ -5,7 +5,7 @@ ghost use Rattle.h2_crash_rows.specs.Cuts.{zeros, image_synced, synced, unsynced
 
 /// Laws: 1 was written at place 2 and synced by moment 3, and 5 and 6 at places 2 and 3 at moment 4. A cut then leaves the
 /// old bytes, the new ones, one of them, or others, but no other byte is changed; before moment 4 it leaves the old ones,
-/// and before the sync was done 0 or 1. Where the durable byte was written again it stays.
+/// and before the sync was done 0 or 1, among others. Where the durable byte was written again it stays.
 pub fn worked_cuts_law()
     ensures moments { up_to 3 unsynced ≡ synced }
     ensures earlier { up_to 2 unsynced ≡ Wrote 1 2 (1 ∷ []) (Opened zeros) }

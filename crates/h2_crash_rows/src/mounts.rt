@@ -40,8 +40,8 @@ pub fn worked_mounts_law()
     ensures too_early { Mounts toy (Blank zeros) out_marks 3 image_made → ⊥ }
 {}
 
-/// A law: all premises of what `make` of `h2_checkpoint` says of power cuts can be met. Over zeros, the pieces and the
-/// header of the small volume are a plan of a first one.
+/// A law: the plan that `make` of `h2_checkpoint` asks for, so that a power cut leaves a volume or none, can be met. Over
+/// zeros, the pieces and the header of the small volume are a plan of a first one.
 pub fn worked_plan_law()
     ensures { IsFirstPlan toy frozen pieces_written 0 header_written zeros }
 {}

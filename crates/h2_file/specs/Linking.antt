@@ -108,7 +108,7 @@ pub record LinksNodes (f g : Forest) (at : ℕ) (rs : List Ref) : Type 0 where
   -- once the references were in
   pub linked : Forest
   pub puts : PutsEach at opened rs linked
-  -- and no spare node was made after the loads
+  -- spare nodes don't rise after the loads
   pub grown : linked.spare ≤ walked.spare
   pub sizes : Sizes linked g at
 

@@ -95,7 +95,7 @@ with_pfs f name next table = record f { next_pfs = f.next_pfs + 1; pfss = f.pfss
 abbrev pub bare_table : Table
 bare_table = map.insert map.empty 1 (Directory map.empty)
 
--- no more PFSs fit in
+-- whether there are 64 PFSs or more
 abbrev pub is_crowded : PlainForest → Bool
 is_crowded f = nat_le 64 (length f.pfss)
 

@@ -78,7 +78,7 @@ abbrev pub IsRise : ℕ → Option (ℕ × ℕ) → Type 0
 IsRise floor (Some counts) = (floor ≤ counts.0) × ((counts.0 < counts.1) ⊎ (counts.1 ≡ 2 ^ 64 - 1))
 IsRise floor None = Unit {0}
 
--- the count to which an Io leaves it risen
+-- the greatest count at which an Io ended, after one more item
 abbrev pub risen : ℕ → Option (ℕ × ℕ) → ℕ
 risen floor (Some counts) = max floor counts.1
 risen floor None = floor

@@ -10,7 +10,7 @@ use Rattle.h2_forest.specs.Node.{Entries}
 use Rattle.h2_forest.specs.Table.{entries_at, entered, left, walk, looked_up, links_of, relinked, passes}
 use Rattle.h2_forest.specs.Steps.{on, given, refuse}
 
--- the names before the last one, and the last one
+-- the names before the last one
 abbrev pub front : List (List ℕ) → List (List ℕ)
 front names = take (length names - 1) names
 

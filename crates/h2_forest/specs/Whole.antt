@@ -32,7 +32,7 @@ abbrev pub asked_from : ℕ → List ℕ → Script → List Asked
 asked_from phase done [] = []
 asked_from phase done (lines ∷ phases) = asked_in phase done lines ++ asked_from (phase + 1) (clients_before done lines) phases
 
--- the entries of a history, without their replies
+-- an entry, without its reply
 abbrev pub entry_asked : Entry → Asked
 entry_asked e = record { phase = e.phase; client = e.client; index = e.index; command = e.command }
 

@@ -18,7 +18,7 @@ use Rattle.h2_freeleaf.specs.InImage.{AreMapped}
 use Rattle.h2_freeleaf.specs.Plan.{blocks_of}
 use Rattle.h2_image.specs.NewBlocks.{RootDirectoryBytes, RootPfsBytes}
 
--- the two inodes lie in the first chunk that isn't reserved
+-- the first chunk that isn't reserved, in which the two inodes lie
 abbrev pub inode_chunk : ℕ
 inode_chunk = 256
 
@@ -61,7 +61,7 @@ pub record LeadToNewCodes (image : Places) (zones : ℕ) (map : List Ref) : Type
   pub are_new : AreNewSegments zones segments
   pub mapped : AreMapped image zones 1 segments map
 
--- its inodes in an image
+-- the block of the root directory in an image
 abbrev pub directory_block : Places → Places
 directory_block image = from_place image directory_place
 

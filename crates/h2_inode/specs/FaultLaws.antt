@@ -35,7 +35,7 @@ body_number : (kind : InodeKind) (size : ℕ) (body : Body) → BodyFits kind si
 body_number kind size (Refs s) h = h.0
 body_number kind size (Bytes bytes) h = h.0
 
--- behind which place the bytes of a file end
+-- the number of the body, by whether bytes stand there
 abbrev number_if : Bool → ℕ
 number_if t = if t then 1 else 0
 

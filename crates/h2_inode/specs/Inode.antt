@@ -17,7 +17,7 @@ use Rattle.h2_inode.specs.Head.{body_of, HasName, IsNameOf}
 
 -- Which references an inode's tree may hold
 
--- the least key of the trees of a kind, and where their keys end
+-- the least key of the trees of a kind
 abbrev pub keys_from : InodeKind → ℕ
 keys_from Directory = 2 ^ 63
 keys_from File = 0

@@ -49,7 +49,7 @@ held_by fields beside = λ m. fields (beside m)
 
 -- Trees of inodes
 
--- the kind of the leaves, and their keybits, by the kind of the inode
+-- the kind of the leaves, by the kind of the inode
 abbrev pub leaf_kind : InodeKind → Kind
 leaf_kind Directory = Dirent
 leaf_kind File = Content
@@ -169,8 +169,8 @@ pub record Seeks (f g : Forest) (top key c : ℕ) : Type 0 where
   pub failed : f.failed ≤ g.failed
   pub bad : f.bad ≤ g.bad
 
--- Nothing but loads took place, of indirect blocks and of inodes, and all else but the two counts is as before. This
--- is Walks of h2_set, but that the rules of a new root are its own.
+-- Nothing but loads took place, of indirect blocks and of inodes; all else is as before, but for the two counts and
+-- which bad block was met last. This is Walks of h2_set, but that the rules of a new root are its own.
 pub record Visits (f g : Forest) : Type 0 where
   pub sound : IsSound g
   pub stays : (m : ℕ) → f.stands m ≡ true → Stays f g m

@@ -15,28 +15,27 @@ use Rattle.h2_inode.specs.PfsList.{ListedPfs, IsPfsList}
 use Rattle.h2_meaning.specs.Forest.{InTable, IsTable, IsForest}
 use Rattle.h2_inode.specs.Following.{Passage}
 
--- a tree stands for the bytes of one file of a size at most, for one directory, one table, one list of PFSs, and
--- one forest
+-- a tree stands for the bytes of one file of a size at most
 abbrev pub OneContents : Access → Type 0
 OneContents a = (t : a.Tree) (size : ℕ) (b c : List ℕ) → IsContents a t size b → IsContents a t size c → c ≡ b
 
--- it stands for one directory at most
+-- a tree stands for one directory at most
 abbrev pub OneDirectory : Access → Type 0
 OneDirectory a = (s u : Table) (t : a.Tree) (m n : ℕ) (d e : Entries) → IsDirectory a (InTable s) t m d → IsDirectory a (InTable u) t n e → e ≡ d
 
--- for one table
+-- a tree stands for one table of inodes at most
 abbrev pub OneTable : Access → Type 0
 OneTable a = (t : a.Tree) (m n : ℕ) (x y : Table) → IsTable a t m x → IsTable a t n y → y ≡ x
 
--- for one list of PFSs
+-- a tree stands for one list of PFSs at most
 abbrev pub OnePfsList : Access → Type 0
 OnePfsList a = (t : a.Tree) (m n : ℕ) (x y : List ListedPfs) → IsPfsList a t m x → IsPfsList a t n y → y ≡ x
 
--- and for one forest
+-- a tree stands for one forest at most
 abbrev pub OneForest : Access → Type 0
 OneForest a = (t : a.Tree) (next : ℕ) (f g : PlainForest) → IsForest a t next f → IsForest a t next g → g ≡ f
 
--- a leaf of a directory's tree is an entry that the directory has, and each entry is a leaf's
+-- a leaf of a directory's tree is an entry that the directory has
 abbrev pub LeavesAreEntries : Access → Type 0
 LeavesAreEntries a = (table : Table) (t : a.Tree) (size : ℕ) (entries : Entries) (h : IsDirectory a (InTable table) t size entries) (r : Ref) → Contains h.leaves r
     → (e : List ℕ × ℕ) × IsEntry a (InTable table) t r e × (get entries e.0 ≡ Some e.1)
@@ -46,7 +45,7 @@ abbrev pub EntriesAreLeaves : Access → Type 0
 EntriesAreLeaves a = (table : Table) (t : a.Tree) (size : ℕ) (entries : Entries) (h : IsDirectory a (InTable table) t size entries) (name : List ℕ) (number : ℕ) → get entries name ≡ Some number
     → (r : Ref) × Contains h.leaves r × IsEntry a (InTable table) t r (name, number)
 
--- a leaf of a PFS's tree names an inode that the table has, and each inode is named by a leaf
+-- a leaf of a PFS's tree names an inode that the table has
 abbrev pub LeavesAreNodes : Access → Type 0
 LeavesAreNodes a = (t : a.Tree) (next : ℕ) (table : Table) (h : IsTable a t next table) (r : Ref) → Contains h.has.leaves r
     → (m : ℕ × Node) × IsMember a (InTable table) t r m × (get table m.0 ≡ Some m.1)
@@ -56,7 +55,7 @@ abbrev pub NodesAreLeaves : Access → Type 0
 NodesAreLeaves a = (t : a.Tree) (next : ℕ) (table : Table) (h : IsTable a t next table) (number : ℕ) (node : Node) → get table number ≡ Some node
     → (r : Ref) × Contains h.has.leaves r × IsMember a (InTable table) t r (number, node)
 
--- the inodes of a tree stand in the order of their numbers, and PFSs in that of their ids
+-- the inodes of a tree stand in the order of their numbers
 abbrev pub NumbersAscend : Access → Type 0
 NumbersAscend a = (table : Table) (t : a.Tree) (members : List (ℕ × Node)) → HasMembers a (InTable table) t members → AllPairs (λ (x y : ℕ × Node). x.0 < y.0) members
 
@@ -64,27 +63,27 @@ NumbersAscend a = (table : Table) (t : a.Tree) (members : List (ℕ × Node)) �
 abbrev pub ListedIdsAscend : Access → Type 0
 ListedIdsAscend a = (t : a.Tree) (next : ℕ) (pfss : List ListedPfs) → IsPfsList a t next pfss → AllPairs (λ (p q : ListedPfs). p.id < q.id) pfss
 
--- so they do in a forest
+-- the PFSs of a forest stand in the order of their ids
 abbrev pub IdsAscend : Access → Type 0
 IdsAscend a = (t : a.Tree) (next : ℕ) (f : PlainForest) → IsForest a t next f → AllPairs (λ (p q : Pfs). p.id < q.id) f.pfss
 
--- what a tree stands for in the first reading, each tree that matches it stands for in the second
+-- the bytes for which a tree stands in the first reading, each tree that matches it stands for in the second
 abbrev pub CarriesContents : Passage → Type 0
 CarriesContents p = (t : p.from.Tree) (u : p.to.Tree) (size : ℕ) (bytes : List ℕ) → p.Matches t u → IsContents p.from t size bytes → IsContents p.to u size bytes
 
--- so it is with directories
+-- the directory for which a tree stands in the first reading, each tree that matches it stands for in the second
 abbrev pub CarriesDirectories : Passage → Type 0
 CarriesDirectories p = (table : Table) (t : p.from.Tree) (u : p.to.Tree) (size : ℕ) (entries : Entries) → p.Matches t u
     → IsDirectory p.from (InTable table) t size entries → IsDirectory p.to (InTable table) u size entries
 
--- with tables
+-- the table for which a tree stands in the first reading, each tree that matches it stands for in the second
 abbrev pub CarriesTables : Passage → Type 0
 CarriesTables p = (t : p.from.Tree) (u : p.to.Tree) (next : ℕ) (table : Table) → p.Matches t u → IsTable p.from t next table → IsTable p.to u next table
 
--- with lists of PFSs
+-- the list of PFSs for which a tree stands in the first reading, each tree that matches it stands for in the second
 abbrev pub CarriesPfsLists : Passage → Type 0
 CarriesPfsLists p = (t : p.from.Tree) (u : p.to.Tree) (next : ℕ) (pfss : List ListedPfs) → p.Matches t u → IsPfsList p.from t next pfss → IsPfsList p.to u next pfss
 
--- and with forests
+-- the forest for which a tree stands in the first reading, each tree that matches it stands for in the second
 abbrev pub CarriesForests : Passage → Type 0
 CarriesForests p = (t : p.from.Tree) (u : p.to.Tree) (next : ℕ) (f : PlainForest) → p.Matches t u → IsForest p.from t next f → IsForest p.to u next f

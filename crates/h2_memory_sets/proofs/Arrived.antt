@@ -7,7 +7,7 @@ use Rattle.h2_set.specs.ChangeLaws.{same_or_not}
 use Rattle.h2_inode.specs.declared.inode.Inode.{Inode}
 use Rattle.h2_memory_sets.specs.declared.node.Node.{Node}
 use Rattle.h2_memory_sets.specs.declared.node.Owner.{Owner}
-use Rattle.h2_memory_sets.specs.Kept.{AreKept, IsNamedRoot, IsRootOf}
+use Rattle.h2_memory_sets.specs.Kept.{AreKept, IsNamedRoot, IsInodeRoot}
 use Rattle.h2_memory_sets.specs.Owners.{beside_of}
 use Rattle.h2_memory_sets.specs.View.{stands_of, root_of, is_top, is_bare, forest_with, AllRooted}
 use Rattle.h2_memory_sets.proofs.Coming.{Comes}
@@ -40,7 +40,7 @@ module _ (xs ys : List Node) (c : ℕ) (y : Node) (h : Comes xs ys c y) (bare : 
   ]
 
   -- and what is kept of nodes
-  pub kept_arrives : (o : Owner) → AreKept xs → length xs ≤ length ys → y.owner ≡ Some o → IsNamedRoot c y o → ((v : Inode) → y.inode ≡ Some v → IsRootOf c y v) → ((j : ℕ) (x : Node) → slice_get xs j ≡ Some x → x.loaded ≡ true → x.owner ≡ Some o → ⊥) → AreKept ys
+  pub kept_arrives : (o : Owner) → AreKept xs → length xs ≤ length ys → y.owner ≡ Some o → IsNamedRoot c y o → ((v : Inode) → y.inode ≡ Some v → IsInodeRoot c y v) → ((j : ℕ) (x : Node) → slice_get xs j ≡ Some x → x.loaded ≡ true → x.owner ≡ Some o → ⊥) → AreKept ys
   kept_arrives o kept longer own named inode none = record {
     above = λ i x u read up. elim (same_or_not i c) as (λ _. u < length ys) [
       | inl e ↦ absurd (none-some u (sym (ap (λ (z : Node). z.up) (it_is i x read e) ∙ bare) ∙ up))
@@ -50,8 +50,8 @@ module _ (xs ys : List Node) (c : ℕ) (y : Node) (h : Comes xs ys c y) (bare : 
       | inl e ↦ subst (λ z. IsNamedRoot z x p) (sym e) (subst (λ (z : Node). IsNamedRoot c z p) (sym (it_is i x read e)) (subst (IsNamedRoot c y) (one_owner o p (sym own ∙ sym (ap (λ (z : Node). z.owner) (it_is i x read e)) ∙ is)) named))
       | inr ne ↦ kept.owner i x p (was i x read ne) is
     ];
-    inode = λ i x v read is. elim (same_or_not i c) as (λ _. IsRootOf i x v) [
-      | inl e ↦ subst (λ z. IsRootOf z x v) (sym e) (subst (λ (z : Node). IsRootOf c z v) (sym (it_is i x read e)) (inode v (sym (ap (λ (z : Node). z.inode) (it_is i x read e)) ∙ is)))
+    inode = λ i x v read is. elim (same_or_not i c) as (λ _. IsInodeRoot i x v) [
+      | inl e ↦ subst (λ z. IsInodeRoot z x v) (sym e) (subst (λ (z : Node). IsInodeRoot c z v) (sym (it_is i x read e)) (inode v (sym (ap (λ (z : Node). z.inode) (it_is i x read e)) ∙ is)))
       | inr ne ↦ kept.inode i x v (was i x read ne) is
     ];
     one = λ i j a b p read_a read_b on_a on_b own_a own_b. elim (same_or_not i c) as (λ _. i ≡ j) [
@@ -89,7 +89,7 @@ module _ (xs ys : List Node) (c : ℕ) (y : Node) (h : Comes xs ys c y) (bare : 
       | inl e ↦ absurd (none-some p (sym (ap (λ (z : Node). z.owner) (new_is i x read e) ∙ unowned) ∙ is))
       | inr ne ↦ kept.owner i x p (sym (h.off_c i ne) ∙ read) is
     ];
-    inode = λ i x v read is. elim (same_or_not i c) as (λ _. IsRootOf i x v) [
+    inode = λ i x v read is. elim (same_or_not i c) as (λ _. IsInodeRoot i x v) [
       | inl e ↦ absurd (none-some v (sym (ap (λ (z : Node). z.inode) (new_is i x read e) ∙ plain) ∙ is))
       | inr ne ↦ kept.inode i x v (sym (h.off_c i ne) ∙ read) is
     ];

@@ -17,7 +17,7 @@ use Rattle.h2_set.specs.Calls.{Loses}
 use Rattle.h2_set.specs.ChangeLaws.{same_or_not}
 use Rattle.h2_memory_sets.specs.declared.node.Node.{Node}
 use Rattle.h2_memory_sets.specs.View.{stands_of, set_of, root_of, is_up, is_child, is_top, names, link_to, link_of, forest_with, any_of, names_same, lacks, loses, goes, is_lost, goes_with, lost, dropped, dropped_all, AllRooted}
-use Rattle.h2_memory_sets.specs.Kept.{is_known, AreKept, IsRootOf}
+use Rattle.h2_memory_sets.specs.Kept.{is_known, AreKept, IsInodeRoot}
 use Rattle.h2_memory_sets.proofs.Nodes.{get_set, get_set_other}
 use Rattle.h2_memory_sets.proofs.Keeping.{CameFrom, IsPlain, kept_from}
 use Rattle.h2_memory_sets.proofs.Owned.{are_lower, chain_found}
@@ -209,7 +209,7 @@ module _ (xs : List Node) (at : ℕ) (x y : Node) (s : RefSet) (inode : Option I
       ap (λ z. is_top (slice_get dropped_with z)) root ∙ still_field is_top refl (root_of (slice_get xs i)) (stay i now) ∙ rooted i (none_new i now)
 
   -- what stands of the nodes of inodes still does
-  pub kept_drop : ((v : Inode) → inode ≡ Some v → IsRootOf at (given y s inode) v) → (is_known x.inode ≡ true → is_known inode ≡ true) → AreKept dropped_with
+  pub kept_drop : ((v : Inode) → inode ≡ Some v → IsInodeRoot at (given y s inode) v) → (is_known x.inode ≡ true → is_known inode ≡ true) → AreKept dropped_with
   kept_drop holds known = kept_from xs dropped_with kept from
     where
       long : length dropped_with ≡ length xs

@@ -1,5 +1,5 @@
 -- A root that is held, or no longer.
-use Rattle.std.proofs.Common.{◌≡◌, ℕ, Bool, true, false, ◌&&◌, arith, refl, sym, ◌∙◌, ap, List, length, Option, Some, subst, ◌⊎◌, inl, inr, slice_get, slice_set}
+use Rattle.std.proofs.Common.{◌≡◌, ℕ, Bool, true, false, ◌&&◌, arith, refl, sym, ◌∙◌, ap, List, [], ◌∷◌, length, map, zero, suc, Option, Some, subst, ◌⊎◌, inl, inr, slice_get, slice_set}
 use Rattle.std.specs.List.{position}
 use Rattle.std.proofs.Math.ListN.{length-set}
 use Rattle.std.proofs.lemmas.Option.{slice_get_within}
@@ -15,7 +15,7 @@ use Rattle.h2_memory_sets.specs.Inodes.{with_held}
 use Rattle.h2_memory_sets.specs.Kept.{AreKept, is_known}
 use Rattle.h2_memory_sets.specs.Owners.{owner_of, allows_of, held_of, beside_of}
 use Rattle.h2_memory_sets.specs.Roots.{HoldsRoot}
-use Rattle.h2_memory_sets.specs.View.{stands_of, set_of, root_of, low_of, bits_of, writable_of, copies_of, leaf_bits_of, is_child, is_top, link_of, forest_with, AllRooted}
+use Rattle.h2_memory_sets.specs.View.{stands_of, set_of, root_of, low_of, bits_of, writable_of, copies_of, leaf_bits_of, is_child, is_top, link_of, forest_with, Block, block, AllRooted}
 use Rattle.h2_memory_sets.proofs.Keeping.{CameFrom, IsPlain, kept_from}
 use Rattle.h2_memory_sets.proofs.Nodes.{belongs_still, field_stays, get_set, get_set_other, position_same}
 use Rattle.h2_memory_sets.proofs.Parting.{one_of}
@@ -24,6 +24,15 @@ use Rattle.h2_memory_sets.proofs.Rooting.{still_sound}
 and_on : (a b : Bool) → a ≡ true → (a && b) ≡ b
 and_on true b e = refl
 and_on false b e = absurd (cc)
+
+-- the blocks stay where one node is put in place of another with the same block
+blocks_set : (xs : List Node) (at : ℕ) (x y : Node) → slice_get xs at ≡ Some x → block y ≡ block x → map block (slice_set xs at y) ≡ map block xs
+blocks_set [] at x y read same = refl
+blocks_set (z ∷ zs) zero x y read same = ap (λ (u : Block). u ∷ map block zs) (same ∙ sym (ap block (one_of z x read)))
+blocks_set (z ∷ zs) (suc at) x y read same = ap (λ (l : List Block). block z ∷ l) (blocks_set zs at x y read same)
+
+pub blocks_held : (xs : List Node) (at : ℕ) (x : Node) (b : Bool) → slice_get xs at ≡ Some x → map block (slice_set xs at (with_held b x)) ≡ map block xs
+blocks_held xs at x b read = blocks_set xs at x (with_held b x) read refl
 
 module _ (xs : List Node) (at : ℕ) (x : Node) (b : Bool) (read : slice_get xs at ≡ Some x) (spare epoch room failed bad : ℕ) (met : Option (ℕ × Why)) where
   abbrev ys : List Node

@@ -12,7 +12,7 @@ use Rattle.h2_inode.specs.Nodes.{set_of as set_of_body}
 use Rattle.h2_memory_sets.specs.declared.node.Leaves.{Leaves}
 use Rattle.h2_memory_sets.specs.declared.node.Node.{Node}
 use Rattle.h2_memory_sets.specs.declared.node.Owner.{Owner}
-use Rattle.h2_memory_sets.specs.Kept.{is_known, AreKept, IsNamedRoot, IsRootOf}
+use Rattle.h2_memory_sets.specs.Kept.{is_known, AreKept, IsNamedRoot, IsInodeRoot}
 use Rattle.h2_memory_sets.specs.Owners.{held_of, allowed_by, inode_allows, refit, refit_body, refit_inode}
 use Rattle.h2_memory_sets.specs.View.{stands_of, with_set}
 
@@ -43,7 +43,7 @@ pub record CameFrom (xs : List Node) (n i : ℕ) (y : Node) : Type 0 where
   pub bare : old.up ≡ None → y.up ≡ None
   pub above : (u : ℕ) → y.up ≡ Some u → u < n
   pub loaded : (o : Owner) → y.owner ≡ Some o → y.loaded ≡ true → old.loaded ≡ true
-  pub inode : (v : Inode) → y.inode ≡ Some v → IsRootOf i y v
+  pub inode : (v : Inode) → y.inode ≡ Some v → IsInodeRoot i y v
   -- where it is loaded, it has an inode still
   pub known : y.loaded ≡ true → is_known old.inode ≡ true → is_known y.inode ≡ true
 
@@ -63,7 +63,7 @@ kept_from xs ys kept from = record {
     | inr it ↦ absurd (none-some o (sym it.owner ∙ named))
     | inl it ↦ let old = kept.owner i it.old o it.read (sym it.owner ∙ named) in record { lower = old.lower; root = it.root ∙ old.root; bare = it.bare old.bare; known = λ on. it.known on (old.known (it.loaded o named on)) }
   ];
-  inode = λ i y v read holds. elim (from i y read) as (λ _. IsRootOf i y v) [
+  inode = λ i y v read holds. elim (from i y read) as (λ _. IsInodeRoot i y v) [
     | inr it ↦ absurd (none-some v (sym it.inode ∙ holds))
     | inl it ↦ it.inode v holds
   ];
@@ -81,18 +81,18 @@ refit_known None s = refl
 refit_known (Some i) s = refl
 
 -- the root of an inode, of which the set has changed
-pub refit_root : (i : ℕ) (x : Node) (s : RefSet) → ((w : Inode) → x.inode ≡ Some w → IsRootOf i x w) → ((w : Inode) (bytes : List ℕ) → x.inode ≡ Some w → w.body ≡ Bytes bytes → s ≡ record { refs = []; capacity = 4 }) → (v : Inode) → refit x.inode s ≡ Some v → IsRootOf i (with_set x s) v
+pub refit_root : (i : ℕ) (x : Node) (s : RefSet) → ((w : Inode) → x.inode ≡ Some w → IsInodeRoot i x w) → ((w : Inode) (bytes : List ℕ) → x.inode ≡ Some w → w.body ≡ Bytes bytes → s ≡ record { refs = []; capacity = 4 }) → (v : Inode) → refit x.inode s ≡ Some v → IsInodeRoot i (with_set x s) v
 refit_root i x s was none v e = go x.inode refl e
   where
     body : (w : Inode) (b : Body) → x.inode ≡ Some w → w.body ≡ b → s ≡ set_of_body (refit_body b s)
     body w (Refs t) is eb = refl
     body w (Bytes bytes) is eb = none w bytes is eb
 
-    go : (o : Option Inode) → x.inode ≡ o → refit o s ≡ Some v → IsRootOf i (with_set x s) v
+    go : (o : Option Inode) → x.inode ≡ o → refit o s ≡ Some v → IsInodeRoot i (with_set x s) v
     go None is e = absurd (none-some v e)
     go (Some w) is e =
         let old = was w is in
-        let now : IsRootOf i (with_set x s) (refit_inode w s) = record {
+        let now : IsInodeRoot i (with_set x s) (refit_inode w s) = record {
           root = old.root;
           bare = old.bare;
           low = old.low;
@@ -101,7 +101,7 @@ refit_root i x s was none v e = go x.inode refl e
           set = body w w.body is refl;
           number = old.number;
         } in
-        subst (IsRootOf i (with_set x s)) (one_inode (refit_inode w s) e) now
+        subst (IsInodeRoot i (with_set x s)) (one_inode (refit_inode w s) e) now
       where
         one_inode : (u : Inode) → Some u ≡ Some v → u ≡ v
         one_inode u e = cc

@@ -9,7 +9,7 @@ use Rattle.h2_set.specs.ChangeLaws.{same_or_not}
 use Rattle.h2_inode.specs.declared.inode.Body.TheVariants.{Bytes}
 use Rattle.h2_inode.specs.declared.inode.Inode.{Inode}
 use Rattle.h2_memory_sets.specs.declared.node.Node.{Node}
-use Rattle.h2_memory_sets.specs.Kept.{is_known, AreKept, IsRootOf}
+use Rattle.h2_memory_sets.specs.Kept.{is_known, AreKept, IsInodeRoot}
 use Rattle.h2_memory_sets.specs.View.{moved, moved_up, new_node, parted, with_set}
 use Rattle.h2_memory_sets.proofs.Keeping.{CameFrom, IsPlain, kept_from, refit_known, refit_root}
 use Rattle.h2_memory_sets.proofs.Parting.{at_new, at_here, at_other, past, item_at, one_of}
@@ -41,7 +41,7 @@ module _ (xs : List Node) (at : ℕ) (x : Node) (whole part : RefSet) (r : Ref) 
   within : at < length xs
   within = slice_get_within xs at x read
 
-  came : (i : ℕ) (z : Node) → slice_get xs i ≡ Some z → (y : Node) → ((v : Inode) → (let n : Node = moved at (length xs) r y in n.inode) ≡ Some v → IsRootOf i (moved at (length xs) r y) v) → y.owner ≡ z.owner → y.root ≡ z.root → y.up ≡ z.up → y.loaded ≡ z.loaded → (is_known z.inode ≡ true → is_known y.inode ≡ true) → CameFrom xs (length (parted xs at x whole part r)) i (moved at (length xs) r y)
+  came : (i : ℕ) (z : Node) → slice_get xs i ≡ Some z → (y : Node) → ((v : Inode) → (let n : Node = moved at (length xs) r y in n.inode) ≡ Some v → IsInodeRoot i (moved at (length xs) r y) v) → y.owner ≡ z.owner → y.root ≡ z.root → y.up ≡ z.up → y.loaded ≡ z.loaded → (is_known z.inode ≡ true → is_known y.inode ≡ true) → CameFrom xs (length (parted xs at x whole part r)) i (moved at (length xs) r y)
   came i z got y holds owner root up loaded known = record {
     old = z;
     read = got;
@@ -57,7 +57,7 @@ module _ (xs : List Node) (at : ℕ) (x : Node) (whole part : RefSet) (r : Ref) 
     known = λ on e. known e;
   }
 
-  moved_root : (i : ℕ) (y : Node) (v : Inode) → IsRootOf i y v → IsRootOf i (moved at (length xs) r y) v
+  moved_root : (i : ℕ) (y : Node) (v : Inode) → IsInodeRoot i y v → IsInodeRoot i (moved at (length xs) r y) v
   moved_root i y v it = record { root = it.root; bare = ap (moved_up at (length xs) r y.low) it.bare; low = it.low; bits = it.bits; leaf_bits = it.leaf_bits; set = it.set; number = it.number }
 
   from : (i : ℕ) (y : Node) → slice_get (parted xs at x whole part r) i ≡ Some y → CameFrom xs (length (parted xs at x whole part r)) i y ⊎ IsPlain (length (parted xs at x whole part r)) y

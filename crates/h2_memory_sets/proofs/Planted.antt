@@ -11,7 +11,7 @@ use Rattle.h2_inode.specs.Nodes.{IsInodeLeaf, IsUnloaded, IsPlantable, Plants, H
 use Rattle.h2_memory_sets.specs.declared.node.Node.{Node}
 use Rattle.h2_memory_sets.specs.declared.node.Owner.{Owner}
 use Rattle.h2_memory_sets.specs.Inodes.{inode_node, fields_seen}
-use Rattle.h2_memory_sets.specs.Kept.{AreKept, IsRootOf}
+use Rattle.h2_memory_sets.specs.Kept.{AreKept, IsInodeRoot}
 use Rattle.h2_memory_sets.specs.Owners.{beside_of, owner_of}
 use Rattle.h2_memory_sets.specs.View.{AllRooted, forest_with, stands_of, root_of}
 use Rattle.h2_memory_sets.proofs.Arrived.{rooted_arrives, kept_arrives, beside_arrives}
@@ -54,7 +54,7 @@ module _ (xs : List Node) (spare spare' epoch room failed bad : ℕ) (met : Opti
   kept_now : AreKept ys
   kept_now = kept_arrives xs ys (length xs) y comes refl o kept longer refl
       (record { lower = is_there xs top named.stands; root = refl; bare = refl; known = λ on. refl })
-      (λ v e. subst (IsRootOf (length xs) y) (one_inode i v e) (record { root = refl; bare = refl; low = refl; bits = refl; leaf_bits = refl; set = refl; number = λ p own. number ∙ ap (λ (q : Owner). q.key) (one_owner o p own) }))
+      (λ v e. subst (IsInodeRoot (length xs) y) (one_inode i v e) (record { root = refl; bare = refl; low = refl; bits = refl; leaf_bits = refl; set = refl; number = λ p own. number ∙ ap (λ (q : Owner). q.key) (one_owner o p own) }))
       none_owned
     where
       one_inode : (a b : Inode) → Some a ≡ Some b → a ≡ b

@@ -17,7 +17,7 @@ use Rattle.h2_inode.specs.Inode.{keys_from}
 use Rattle.h2_inode.specs.Nodes.{Fields, fields_of, held_by, leaf_kind, leaf_keybits, set_of as set_of_body, HasInode, MayHave, Replaceable, Replaces, KeepsOthersBeside}
 use Rattle.h2_memory_sets.specs.declared.node.Node.{Node}
 use Rattle.h2_memory_sets.specs.Inodes.{fields_seen, with_inode}
-use Rattle.h2_memory_sets.specs.Kept.{AreKept, IsRootOf}
+use Rattle.h2_memory_sets.specs.Kept.{AreKept, IsInodeRoot}
 use Rattle.h2_memory_sets.specs.Owners.{inode_allows, allowed_by, allows_of, beside_of}
 use Rattle.h2_memory_sets.specs.View.{stands_of, root_of, low_of, bits_of, leaf_bits_of, forest_with, dropped, dropped_all, AllRooted}
 use Rattle.h2_memory_sets.proofs.Drops.{given, dropped_with, at_here, own_stays, kept_drop}
@@ -55,7 +55,7 @@ module _ (xs : List Node) (at : ℕ) (x : Node) (w v : Inode) (kept : AreKept xs
   d : DiffersByStore f g at s
   d = differs_by_store xs at x x (set_of_body v.body) (Some v) kept read refl spare epoch room failed bad met sound stands replaceable.free
 
-  root : IsRootOf at x w
+  root : IsInodeRoot at x w
   root = kept.inode at x w read holds
 
   own : f.root at ≡ at
@@ -168,8 +168,8 @@ module _ (xs : List Node) (at : ℕ) (x : Node) (w v : Inode) (kept : AreKept xs
     kinds = kinds;
   }
 
-  root_still : (u : Inode) → ◌≡◌ {A = Option Inode} (Some v) (Some u) → IsRootOf at (given x (set_of_body v.body) (Some v)) u
-  root_still u e = subst (IsRootOf at (given x (set_of_body v.body) (Some v))) (one_of v u e) (record {
+  root_still : (u : Inode) → ◌≡◌ {A = Option Inode} (Some v) (Some u) → IsInodeRoot at (given x (set_of_body v.body) (Some v)) u
+  root_still u e = subst (IsInodeRoot at (given x (set_of_body v.body) (Some v))) (one_of v u e) (record {
     root = root.root;
     bare = root.bare;
     low = root.low ∙ ap keys_from (sym kind);

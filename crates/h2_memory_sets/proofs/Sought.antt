@@ -16,7 +16,7 @@ use Rattle.h2_inode.specs.Nodes.{IsInodeLeaf, IsUnloaded, IsNamed, Seeks, HasIno
 use Rattle.h2_memory_sets.specs.declared.node.Node.{Node}
 use Rattle.h2_memory_sets.specs.declared.node.Owner.{Owner}
 use Rattle.h2_memory_sets.specs.Inodes.{owned_by, is_sought, sought, fields_seen, IsSought}
-use Rattle.h2_memory_sets.specs.Kept.{AreKept, IsRootOf, is_known}
+use Rattle.h2_memory_sets.specs.Kept.{AreKept, IsInodeRoot, is_known}
 use Rattle.h2_memory_sets.specs.Owners.{beside_of, owner_of}
 use Rattle.h2_memory_sets.specs.View.{AllRooted, forest_with, stands_of, root_of}
 use Rattle.h2_memory_sets.proofs.Arrived.{rooted_arrives, kept_arrives, beside_arrives}
@@ -81,7 +81,7 @@ module _ (xs : List Node) (spare epoch room failed bad : ℕ) (met : Option (ℕ
     own : l.node.owner ≡ Some o
     own = owned_is top leaf.key l.node.owner l.owned
 
-    it : IsRootOf c l.node l.item
+    it : IsInodeRoot c l.node l.item
     it = kept.inode c l.node l.item l.read l.holds
 
     comes : Comes xs ys c y

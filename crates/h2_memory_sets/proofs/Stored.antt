@@ -17,7 +17,7 @@ use Rattle.h2_inode.specs.Nodes.{set_of as set_of_body}
 use Rattle.h2_memory_sets.specs.declared.node.Leaves.{Leaves}
 use Rattle.h2_memory_sets.specs.declared.node.Leaves.TheVariants.{Any, Inodes}
 use Rattle.h2_memory_sets.specs.declared.node.Node.{Node}
-use Rattle.h2_memory_sets.specs.Kept.{AreKept, IsRootOf}
+use Rattle.h2_memory_sets.specs.Kept.{AreKept, IsInodeRoot}
 use Rattle.h2_memory_sets.specs.Owners.{is_leaf_of, is_plain, inode_allows, allowed_by, allows_of, beside_of, refit}
 use Rattle.h2_memory_sets.specs.View.{stands_of, set_of, root_of, with_set, forest_with, dropped, dropped_all, AllRooted}
 use Rattle.h2_memory_sets.proofs.Drops.{dropped_with, own_stays, kept_drop}
@@ -137,7 +137,7 @@ module _ (xs : List Node) (at : ℕ) (x : Node) (s : RefSet) (kept : AreKept xs)
   bare : (w : Inode) (bytes : List ℕ) → x.inode ≡ Some w → w.body ≡ Bytes bytes → s ≡ record { refs = []; capacity = 4 }
   bare w bytes holds is = bare_set s none (storable.capacity ∙ ap (λ (t : RefSet). t.capacity) (ap set_of read ∙ empty))
     where
-      root : IsRootOf at x w
+      root : IsInodeRoot at x w
       root = kept.inode at x w read holds
 
       empty : x.set ≡ record { refs = []; capacity = 4 }

@@ -1,5 +1,5 @@
 -- The root of a tree without an inode, at the end of a vector.
-use Rattle.std.proofs.Common.{◌≡◌, ℕ, ◌+◌, ◌%◌, ◌≤◌, ◌^◌, true, false, arith, refl, sym, ◌∙◌, ap, List, [], ◌∷◌, ◌++◌, length, Option, None, subst, inl, slice_get}
+use Rattle.std.proofs.Common.{◌≡◌, ℕ, ◌+◌, ◌%◌, ◌≤◌, ◌^◌, true, false, arith, refl, sym, ◌∙◌, ap, List, [], ◌∷◌, ◌++◌, length, Option, None, subst, ◌⊎◌, inl, inr, slice_get}
 use Rattle.std.specs.Prelude.{◌↔◌}
 use Rattle.std.proofs.lemmas.List.{length-append}
 use Rattle.std.proofs.lemmas.Option.{none-some, slice_get_past}
@@ -41,6 +41,10 @@ plain_kind Content inode empty = refl
 plain_kind Dirent inode empty = refl
 plain_kind MapNode inode empty = refl
 plain_kind MapLeaf inode empty = refl
+
+bare_kind : (k : Kind) → (k ≡ Inode_kind) ⊎ (k ≡ Empty) → is_plain k ≡ false
+bare_kind k (inl e) = ap is_plain e
+bare_kind k (inr e) = ap is_plain e
 
 -- what adding a root does
 pub record Topped (xs ys : List Node) (spare epoch room failed bad : ℕ) (met : Option (ℕ × Why)) (c : ℕ) (keys : KeyClass) (leaf_bits : ℕ) : Type 0 where
@@ -115,6 +119,8 @@ module _ (xs : List Node) (keys : KeyClass) (leaf_bits : ℕ) (leaves : Leaves) 
     writable = ap writable_of comes.at_c;
     link = link_here xs ys (length xs) y spare spare epoch room failed failed bad bad met met comes sound;
     allows = λ r ne full. ap (λ (o : Option Node). allows_of o r) comes.at_c ∙ ap (λ (l : Leaves). tree_allows l r) any ∙ plain_kind r.kind ne full;
+    refuses = λ r e. ap (λ (o : Option Node). allows_of o r) comes.at_c ∙ ap (λ (l : Leaves). tree_allows l r) any ∙ bare_kind r.kind e;
+    belongs = no_belongs;
     held = held_same sound (length xs) ∙ away;
     others = same xs ys (length xs) y spare spare epoch room failed failed bad bad met met comes sound;
     others_leaf_bits = λ m ne. ap leaf_bits_of (comes.off_c m ne);

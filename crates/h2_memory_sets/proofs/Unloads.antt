@@ -226,6 +226,7 @@ module _ (xs : List Node) (from spare epoch room failed bad : ℕ) (met : Option
     fixed = record { leaf_bits = λ m st now. field leaf_bits_of (λ x. refl) m; allows = λ m r st now. field (λ o. allows_of o r) (λ x. refl) m; held = held_same rooted sound; name = λ r. refl; epoch = refl; failed = omega arith; bad = omega arith };
     stays = λ m st why. place m (stays m rooted st why);
     goes = λ m k c bare le link. goes m k c le link;
+    same = λ m t k n st bel now. let clash : true ≡ false = sym bel ∙ unnamed sound m t k st in absurd (cc);
     none_new = stood from xs;
     set = field set_of (λ x. refl);
     writable = field writable_of (λ x. refl);

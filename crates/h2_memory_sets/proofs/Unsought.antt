@@ -54,6 +54,7 @@ stays_named xs from spare epoch room failed bad met c e kept sound = record {
   fixed = Fixed-refl _;
   stays = λ m st why. record { stands = st; root = refl; low = refl; bits = refl; belongs = λ t k. refl; writable = λ w. w };
   goes = λ m k d bare le link. absurd (named_belongs xs c spare epoch room failed bad met e kept bare);
+  same = λ m t k n st bel now. record { place = record { stands = now; root = refl; low = refl; bits = refl; belongs = λ t' k'. refl; writable = λ w. w }; set = refl; link = λ k'. refl; writable = refl; copies = refl };
   none_new = λ m st. st;
   set = λ m. refl;
   writable = λ m. refl;
@@ -277,7 +278,7 @@ module _ (xs : List Node) (spare epoch room failed bad : ℕ) (met : Option (ℕ
   beside_unsought = field beside_of (λ x. refl)
 
 -- what the blocks hold stays
-map_blocks : (h : Node → Node) → ((x : Node) → block (h x) ≡ block x) → (zs : List Node) → map block (map h zs) ≡ map block zs
+pub map_blocks : (h : Node → Node) → ((x : Node) → block (h x) ≡ block x) → (zs : List Node) → map block (map h zs) ≡ map block zs
 map_blocks h same [] = refl
 map_blocks h same (z ∷ zs) = ap (λ (b : Block). b ∷ map block (map h zs)) (same z) ∙ ap (λ (l : List Block). block z ∷ l) (map_blocks h same zs)
 

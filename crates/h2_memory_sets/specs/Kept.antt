@@ -19,7 +19,7 @@ pub record IsNamedRoot (i : ℕ) (x : Node) (o : Owner) : Type 0 where
   pub known : x.loaded ≡ true → is_known x.inode ≡ true
 
 -- node i is the root of the inode
-pub record IsRootOf (i : ℕ) (x : Node) (v : Inode) : Type 0 where
+pub record IsInodeRoot (i : ℕ) (x : Node) (v : Inode) : Type 0 where
   pub root : x.root ≡ i
   pub bare : x.up ≡ None
   pub low : x.low ≡ keys_from v.kind
@@ -34,5 +34,5 @@ pub record IsRootOf (i : ℕ) (x : Node) (v : Inode) : Type 0 where
 pub record AreKept (xs : List Node) : Type 0 where
   pub above : (i : ℕ) (x : Node) (u : ℕ) → slice_get xs i ≡ Some x → x.up ≡ Some u → u < length xs
   pub owner : (i : ℕ) (x : Node) (o : Owner) → slice_get xs i ≡ Some x → x.owner ≡ Some o → IsNamedRoot i x o
-  pub inode : (i : ℕ) (x : Node) (v : Inode) → slice_get xs i ≡ Some x → x.inode ≡ Some v → IsRootOf i x v
+  pub inode : (i : ℕ) (x : Node) (v : Inode) → slice_get xs i ≡ Some x → x.inode ≡ Some v → IsInodeRoot i x v
   pub one : (i j : ℕ) (x y : Node) (o : Owner) → slice_get xs i ≡ Some x → slice_get xs j ≡ Some y → x.loaded ≡ true → y.loaded ≡ true → x.owner ≡ Some o → y.owner ≡ Some o → i ≡ j

@@ -26,6 +26,8 @@ pub record AddsRoot (f g : Forest) (c : ℕ) (keys : KeyClass) (leaf_bits : ℕ)
   pub writable : g.writable c ≡ true
   pub link : (k : ℕ) → g.link c k ≡ untold
   pub allows : (r : Ref) → (r.kind ≡ Inode → ⊥) → (r.kind ≡ Empty → ⊥) → g.allows c r ≡ true
+  pub refuses : (r : Ref) → (r.kind ≡ Inode) ⊎ (r.kind ≡ Empty) → g.allows c r ≡ false
+  pub belongs : (t k : ℕ) → g.belongs c t k ≡ false
   pub held : g.held c ≡ false
   pub others : (m : ℕ) → f.stands m ≡ true → Same f g m
   pub others_leaf_bits : (m : ℕ) → (m ≡ c → ⊥) → g.leaf_bits m ≡ f.leaf_bits m
@@ -107,12 +109,13 @@ abbrev pub NoneBelongs : Forest → Type 0
 NoneBelongs f = (m t k : ℕ) → f.stands m ≡ true → f.belongs m t k ≡ false
 
 -- nothing has changed but that, where no inode is loaded, no node is to which a reference with a key of `from` or more
--- leads
+-- leads; where one is, no node has changed
 pub record Unloads (f g : Forest) (from : ℕ) : Type 0 where
   pub sound : IsSound g
   pub fixed : Fixed f g
   pub stays : (m : ℕ) → f.stands m ≡ true → (f.low m < from) ⊎ (f.root m ≡ m) → InPlace f g m
   pub goes : (m k c : ℕ) → NoneBelongs f → from ≤ k → f.link m k ≡ loaded c → g.stands c ≡ false
+  pub same : (m t k n : ℕ) → f.stands m ≡ true → f.belongs m t k ≡ true → f.stands n ≡ true → Same f g n
   pub none_new : (m : ℕ) → g.stands m ≡ true → f.stands m ≡ true
   pub set : (m : ℕ) → g.set m ≡ f.set m
   pub writable : (m : ℕ) → g.writable m ≡ f.writable m

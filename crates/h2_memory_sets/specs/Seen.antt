@@ -1,5 +1,5 @@
 -- What a value is seen as.
-use Rattle.std.specs.Prelude.{ℕ, List, Option, map, slice_get}
+use Rattle.std.specs.Prelude.{◌≡◌, ℕ, List, Option, map, slice_get}
 use Rattle.h2_set.specs.Forest.{Forest}
 use Rattle.h2_memory_sets.specs.declared.memory.MemorySets.{MemorySets}
 use Rattle.h2_inode.specs.declared.inode.Inode.{Inode}
@@ -23,15 +23,24 @@ blocks_of p = map block p.nodes.items
 abbrev pub name_of : MemorySets → ℕ → ℕ → Option (List ℕ)
 name_of p place len = name_in p.names.items place len
 
--- which load from now on the disk fails, which meets a bad block, and which call for spare nodes is refused:
--- 1 for the next, 0 for none
+-- all names are as before
+abbrev pub KeepsNames : MemorySets → MemorySets → Type 0
+KeepsNames p q = (place len : ℕ) → name_of q place len ≡ name_of p place len
+
+-- which load from now on the disk fails: 1 for the next, 0 for none
 abbrev pub failing_load : MemorySets → ℕ
 failing_load p = p.fault
 
--- which load from now on meets a bad block
+-- which load from now on meets a bad block, in the same way
 abbrev pub spoiled_load : MemorySets → ℕ
 spoiled_load p = p.spoiled
 
--- which call for spare nodes from now on is refused
+-- which call for spare nodes from now on is refused, in the same way
 abbrev pub refused_spare : MemorySets → ℕ
 refused_spare p = p.refused
+
+-- the loads and the call that are to fail are as before
+pub record KeepsPlans (p q : MemorySets) : Type 0 where
+  pub failing : failing_load q ≡ failing_load p
+  pub spoiled : spoiled_load q ≡ spoiled_load p
+  pub refused : refused_spare q ≡ refused_spare p

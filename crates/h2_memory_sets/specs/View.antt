@@ -19,7 +19,7 @@ use Rattle.h2_memory_sets.specs.declared.node.Leaves.TheVariants.{Any}
 use Rattle.h2_memory_sets.specs.declared.node.Owner.{Owner}
 use Rattle.h2_memory_sets.specs.Owners.{on_chain, belongs_to, refit, allows_of, held_of}
 
--- the fields of a node, or what stands for them where there is none
+-- whether a node is loaded and stands
 abbrev pub stands_of : Option Node → Bool
 stands_of None = false
 stands_of (Some x) = x.loaded
@@ -315,3 +315,7 @@ pub record Block : Type 0 where
 -- what the block of a node has
 abbrev pub block : Node → Block
 block x = record { set = x.set; inode = x.inode; low = x.low; up = x.up; owner = x.owner }
+
+-- the block of a new root that no leaf names: an empty set of capacity 4, and no inode
+abbrev pub root_block : KeyClass → Block
+root_block keys = record { set = record { refs = []; capacity = 4 }; inode = None; low = first_key keys; up = None; owner = None }

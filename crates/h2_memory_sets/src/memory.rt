@@ -53,12 +53,14 @@ pub struct MemorySets {
 }
 
 impl MemorySets {
-    ghost use Rattle.std.specs.Prelude.{OnErr, OnOk, IfErr, ℕ, true, false, Some, None};
+    ghost use Rattle.std.specs.Prelude.{OnErr, OnOk, IfErr, ℕ, true, false, Some, None, ◌++◌, ◌∷◌, []};
     ghost use Rattle.h2_ref.specs.declared.faults.Trouble.{Trouble};
     ghost use Rattle.h2_ref.specs.declared.faults.Why.{Why};
     ghost use Rattle.h2_set.specs.Forest.{IsSound};
     ghost use Rattle.h2_set.specs.Calls.{IsBad, MeetsNone, Unchanged, HasCause, KeepsBeside};
-    ghost use Rattle.h2_memory_sets.specs.Seen.{forest_of, beside_seen, blocks_of, name_of, failing_load, spoiled_load, refused_spare};
+    ghost use Rattle.h2_memory_sets.specs.Seen.{forest_of, beside_seen, blocks_of, name_of, failing_load, spoiled_load, refused_spare, KeepsNames, KeepsPlans};
+    ghost use Rattle.h2_memory_sets.specs.View.{root_block};
+    ghost use Rattle.h2_memory_sets.specs.declared.node.KeyClass.TheVariants.{Low};
     ghost use Rattle.h2_memory_sets.specs.Roots.{AddsRoot, AddsSuperRoot, HoldsRoot, BeginsEpoch, Unloads, UnloadsInodes};
 
     /// A forest with no node, in which this number of blocks can be taken. The epoch is the number of a checkpoint.
@@ -69,6 +71,12 @@ impl MemorySets {
         ensures epoch { let f = forest_of result in f.epoch ≡ epoch }
         ensures room { let f = forest_of result in f.room ≡ room }
         ensures spare { let f = forest_of result in f.spare ≡ 0 }
+        ensures failed { let f = forest_of result in f.failed ≡ 0 }
+        ensures bad { let f = forest_of result in f.bad ≡ 0 }
+        ensures met { let f = forest_of result in f.met ≡ None }
+        ensures blocks { blocks_of result ≡ [] }
+        ensures names { (place len : ℕ) → name_of result place len ≡ None }
+        ensures unplanned { (failing_load result ≡ 0) × (spoiled_load result ≡ 0) × (refused_spare result ≡ 0) }
     {
         MemorySets {
             nodes: Vec::new(alloc),
@@ -105,7 +113,9 @@ impl MemorySets {
         ensures same { forest_of self.new ≡ forest_of self.old }
         ensures beside { beside_seen self.new ≡ beside_seen self.old }
         ensures blocks { blocks_of self.new ≡ blocks_of self.old }
+        ensures names { KeepsNames self.old self.new }
         ensures due { failing_load self.new ≡ which }
+        ensures others_due { (spoiled_load self.new ≡ spoiled_load self.old) × (refused_spare self.new ≡ refused_spare self.old) }
     {
         self.fault = which;
     }
@@ -115,7 +125,9 @@ impl MemorySets {
         ensures same { forest_of self.new ≡ forest_of self.old }
         ensures beside { beside_seen self.new ≡ beside_seen self.old }
         ensures blocks { blocks_of self.new ≡ blocks_of self.old }
+        ensures names { KeepsNames self.old self.new }
         ensures due { spoiled_load self.new ≡ which }
+        ensures others_due { (failing_load self.new ≡ failing_load self.old) × (refused_spare self.new ≡ refused_spare self.old) }
     {
         self.spoiled = which;
     }
@@ -126,7 +138,9 @@ impl MemorySets {
         ensures same { forest_of self.new ≡ forest_of self.old }
         ensures beside { beside_seen self.new ≡ beside_seen self.old }
         ensures blocks { blocks_of self.new ≡ blocks_of self.old }
+        ensures names { KeepsNames self.old self.new }
         ensures due { refused_spare self.new ≡ which }
+        ensures others_due { (failing_load self.new ≡ failing_load self.old) × (spoiled_load self.new ≡ spoiled_load self.old) }
     {
         self.refused = which;
     }
@@ -136,7 +150,12 @@ impl MemorySets {
         requires sound { IsSound (forest_of self.old) }
         ensures added { IfOk result (λ c. AddsRoot (forest_of self.old) (forest_of self.new) c.0 keys leaf_bits) }
         ensures beside { KeepsBeside (forest_of self.old) (forest_of self.new) (beside_seen self.old) (beside_seen self.new) }
+        ensures none { IfOk result (λ c. beside_seen self.new c.0 ≡ None) }
         ensures err { OnErr result (forest_of self.new ≡ forest_of self.old) }
+        ensures blocks { IfOk result (λ c. blocks_of self.new ≡ blocks_of self.old ++ root_block keys ∷ []) }
+        ensures blocks_err { OnErr result (blocks_of self.new ≡ blocks_of self.old) }
+        ensures names { KeepsNames self.old self.new }
+        ensures plans { KeepsPlans self.old self.new }
     {
         if self.nodes.len() >= (u32::MAX - self.spare) as usize {
             return Err(NoMemory);
@@ -155,6 +174,10 @@ impl MemorySets {
         ensures beside { KeepsBeside (forest_of self.old) (forest_of self.new) (beside_seen self.old) (beside_seen self.new) }
         ensures none { IfOk result (λ c. beside_seen self.new c.0 ≡ None) }
         ensures err { OnErr result (forest_of self.new ≡ forest_of self.old) }
+        ensures blocks { IfOk result (λ c. blocks_of self.new ≡ blocks_of self.old ++ root_block Low ∷ []) }
+        ensures blocks_err { OnErr result (blocks_of self.new ≡ blocks_of self.old) }
+        ensures names { KeepsNames self.old self.new }
+        ensures plans { KeepsPlans self.old self.new }
     {
         if self.nodes.len() >= (u32::MAX - self.spare) as usize {
             return Err(NoMemory);
@@ -170,6 +193,7 @@ impl MemorySets {
         ensures same { forest_of self.new ≡ forest_of self.old }
         ensures beside { beside_seen self.new ≡ beside_seen self.old }
         ensures blocks { blocks_of self.new ≡ blocks_of self.old }
+        ensures plans { KeepsPlans self.old self.new }
         ensures added { OnOk result (name_of self.new place (length name.now) ≡ Some name.now) }
         ensures others { (p len : ℕ) → (p ≡ place → len ≡ length name.now → ⊥) → name_of self.new p len ≡ name_of self.old p len }
         ensures err { OnErr result ((p len : ℕ) → name_of self.new p len ≡ name_of self.old p len) }
@@ -184,6 +208,9 @@ impl MemorySets {
         requires root { let f = forest_of self.old in (f.stands at.0 ≡ true) × (f.root at.0 ≡ at.0) }
         ensures held { HoldsRoot (forest_of self.old) (forest_of self.new) at.0 true }
         ensures beside { KeepsBeside (forest_of self.old) (forest_of self.new) (beside_seen self.old) (beside_seen self.new) }
+        ensures blocks { blocks_of self.new ≡ blocks_of self.old }
+        ensures names { KeepsNames self.old self.new }
+        ensures plans { KeepsPlans self.old self.new }
     {
         hold_one(&mut self.nodes[at.0 as usize]);
     }
@@ -194,6 +221,9 @@ impl MemorySets {
         requires root { let f = forest_of self.old in (f.stands at.0 ≡ true) × (f.root at.0 ≡ at.0) }
         ensures held { HoldsRoot (forest_of self.old) (forest_of self.new) at.0 false }
         ensures beside { KeepsBeside (forest_of self.old) (forest_of self.new) (beside_seen self.old) (beside_seen self.new) }
+        ensures blocks { blocks_of self.new ≡ blocks_of self.old }
+        ensures names { KeepsNames self.old self.new }
+        ensures plans { KeepsPlans self.old self.new }
     {
         release_one(&mut self.nodes[at.0 as usize]);
     }
@@ -204,6 +234,9 @@ impl MemorySets {
         requires epoch { let f = forest_of self.old in f.epoch < 2 ^ 62 }
         ensures begins { BeginsEpoch (forest_of self.old) (forest_of self.new) }
         ensures beside { KeepsBeside (forest_of self.old) (forest_of self.new) (beside_seen self.old) (beside_seen self.new) }
+        ensures blocks { blocks_of self.new ≡ blocks_of self.old }
+        ensures names { KeepsNames self.old self.new }
+        ensures plans { KeepsPlans self.old self.new }
     {
         self.epoch += 1;
         clean_all(&mut self.nodes);
@@ -217,7 +250,8 @@ impl MemorySets {
         ensures unloads { Unloads (forest_of self.old) (forest_of self.new) from }
         ensures beside { KeepsBeside (forest_of self.old) (forest_of self.new) (beside_seen self.old) (beside_seen self.new) }
         ensures blocks { blocks_of self.new ≡ blocks_of self.old }
-        ensures names { (place len : ℕ) → name_of self.new place len ≡ name_of self.old place len }
+        ensures names { KeepsNames self.old self.new }
+        ensures plans { KeepsPlans self.old self.new }
     {
         let None = find_named(&self.nodes) else {
             return;
@@ -232,7 +266,8 @@ impl MemorySets {
         ensures unloads { UnloadsInodes (forest_of self.old) (forest_of self.new) }
         ensures beside { KeepsBeside (forest_of self.old) (forest_of self.new) (beside_seen self.old) (beside_seen self.new) }
         ensures blocks { blocks_of self.new ≡ blocks_of self.old }
-        ensures names { (place len : ℕ) → name_of self.new place len ≡ name_of self.old place len }
+        ensures names { KeepsNames self.old self.new }
+        ensures plans { KeepsPlans self.old self.new }
     {
         unload_owned(&mut self.nodes);
     }
@@ -249,6 +284,7 @@ impl MemorySets {
         ensures none_met { OnOk result (MeetsNone (forest_of self.old) (forest_of self.new)) }
         ensures none_met_refused { IfErr result (λ e. (IsBad e → ⊥) → MeetsNone (forest_of self.old) (forest_of self.new)) }
         ensures beside { beside_seen self.new ≡ beside_seen self.old }
+        ensures names { KeepsNames self.old self.new }
     {
         if is_due(&mut self.fault) {
             self.failed = one_more(self.failed);
@@ -279,7 +315,8 @@ pub(crate) fn one_more(count: u64) -> u64
 
 impl Sets for MemorySets {
     ghost use Rattle.std.specs.Prelude.{ℕ};
-    ghost use Rattle.h2_memory_sets.specs.Seen.{forest_of, beside_seen};
+    ghost use Rattle.std.proofs.Common.{refl, ◌∙◌};
+    ghost use Rattle.h2_memory_sets.specs.Seen.{forest_of, beside_seen, KeepsNames};
 
     type Beside = Option<Inode>;
 
@@ -287,11 +324,11 @@ impl Sets for MemorySets {
 
     ghost beside = { beside_seen };
 
-    ghost later = { λ p q. Unit {0} };
+    ghost later = { KeepsNames };
 
-    ghost same_later = { λ p. tt };
+    ghost same_later = { λ p place len. refl };
 
-    ghost later_later = { λ p q r a b. tt };
+    ghost later_later = { λ p q r a b place len. b place len ∙ a place len };
 
     fn get(&self, at: NodeId) -> &Set {
         &self.nodes[at.0 as usize].set

@@ -24,6 +24,6 @@ pub record IsPlainTree (f : Forest) (root : ℕ) (keys : KeyClass) (bits : ℕ) 
   pub free : (m : ℕ) → f.held m ≡ false
   pub allows : (r : Ref) → (r.kind ≡ Inode → ⊥) → (r.kind ≡ Empty → ⊥) → f.allows root r ≡ true
 
--- the same of a forest in memory
+-- a value in memory has such a tree at this root
 abbrev pub IsTree : MemorySets → ℕ → KeyClass → ℕ → Type 0
 IsTree sets root keys bits = IsPlainTree (forest_of sets) root keys bits

@@ -1,10 +1,11 @@
-use Rattle.std.proofs.Common.{◌≡◌, ℕ, List, [], ◌∷◌, ◌++◌, length, slice_get, refl, sym, ap, ◌∙◌, subst}
+use Rattle.std.proofs.Common.{◌≡◌, ℕ, List, [], ◌∷◌, ◌++◌, None, length, map, slice_get, refl, sym, ap, ◌∙◌, subst}
+use Rattle.std.proofs.lemmas.List.{map-append}
 use Rattle.h2_set.specs.Calls.{KeepsBeside}
 use Rattle.h2_memory_sets.specs.declared.node.Leaves.TheVariants.{Any}
 use Rattle.h2_memory_sets.specs.declared.node.Node.{Node}
 use Rattle.h2_memory_sets.specs.Kept.{AreKept}
 use Rattle.h2_memory_sets.specs.Owners.{beside_of}
-use Rattle.h2_memory_sets.specs.View.{AllRooted, forest_with, top_node}
+use Rattle.h2_memory_sets.specs.View.{AllRooted, block, forest_with, top_node}
 use Rattle.h2_memory_sets.specs.Roots.{AddsRoot}
 use Rattle.h2_memory_sets.proofs.Topped.{topped, adds}
 use Rattle.h2_memory_sets.proofs.memory.MemorySets.add_root.Goals as goal
@@ -44,3 +45,19 @@ returns-in-Ok-clause-beside c =
     let number : c.add_top.result ≡ length xs = c.add_top.ensures.number ∙ ap length c.reserve.ensures.items in
     let it = topped xs c.args.keys c.args.leaf_bits Any p.spare p.epoch p.room p.failed p.bad p.met p.rooted p.kept in
     subst (λ (ys : List Node). KeepsBeside (forest_with xs p.spare p.epoch p.room p.failed p.bad p.met) (forest_with ys p.spare p.epoch p.room p.failed p.bad p.met) (λ m. beside_of (slice_get xs m)) (λ m. beside_of (slice_get ys m))) (sym items) it.beside
+
+pub returns-in-Ok-clause-blocks : goal.returns-in-Ok-clause-blocks
+returns-in-Ok-clause-blocks c =
+    let p = c.args.self.now in
+    let xs = p.nodes.items in
+    let items : c.add_top.new.nodes.items ≡ xs ++ top_node (length xs) c.args.keys c.args.leaf_bits Any ∷ [] = c.add_top.ensures.pushed ∙ ap (λ (l : List Node). l ++ top_node (length l) c.args.keys c.args.leaf_bits Any ∷ []) c.reserve.ensures.items in
+    ap (map block) items ∙ map-append block xs (top_node (length xs) c.args.keys c.args.leaf_bits Any ∷ [])
+
+pub returns-in-Ok-clause-none : goal.returns-in-Ok-clause-none
+returns-in-Ok-clause-none c =
+    let p = c.args.self.now in
+    let xs = p.nodes.items in
+    let items : c.add_top.new.nodes.items ≡ xs ++ top_node (length xs) c.args.keys c.args.leaf_bits Any ∷ [] = c.add_top.ensures.pushed ∙ ap (λ (l : List Node). l ++ top_node (length l) c.args.keys c.args.leaf_bits Any ∷ []) c.reserve.ensures.items in
+    let number : c.add_top.result ≡ length xs = c.add_top.ensures.number ∙ ap length c.reserve.ensures.items in
+    let it = topped xs c.args.keys c.args.leaf_bits Any p.spare p.epoch p.room p.failed p.bad p.met p.rooted p.kept in
+    subst (λ (k : ℕ). beside_of (slice_get c.add_top.new.nodes.items k) ≡ None) (sym number) (subst (λ (ys : List Node). beside_of (slice_get ys (length xs)) ≡ None) (sym items) it.none)

@@ -1,11 +1,12 @@
-use Rattle.std.proofs.Common.{◌≡◌, ℕ, List, [], ◌∷◌, ◌++◌, None, length, slice_get, refl, sym, ap, ◌∙◌, subst}
+use Rattle.std.proofs.Common.{◌≡◌, ℕ, List, [], ◌∷◌, ◌++◌, None, length, map, slice_get, refl, sym, ap, ◌∙◌, subst}
+use Rattle.std.proofs.lemmas.List.{map-append}
 use Rattle.h2_set.specs.Calls.{KeepsBeside}
 use Rattle.h2_memory_sets.specs.declared.node.KeyClass.TheVariants.{Low}
 use Rattle.h2_memory_sets.specs.declared.node.Leaves.TheVariants.{Inodes}
 use Rattle.h2_memory_sets.specs.declared.node.Node.{Node}
 use Rattle.h2_memory_sets.specs.Kept.{AreKept}
 use Rattle.h2_memory_sets.specs.Owners.{beside_of}
-use Rattle.h2_memory_sets.specs.View.{AllRooted, forest_with, top_node}
+use Rattle.h2_memory_sets.specs.View.{AllRooted, block, forest_with, top_node}
 use Rattle.h2_memory_sets.specs.Roots.{AddsSuperRoot}
 use Rattle.h2_memory_sets.proofs.Topped.{topped, adds_super}
 use Rattle.h2_memory_sets.proofs.memory.MemorySets.add_super_root.Goals as goal
@@ -54,3 +55,10 @@ returns-in-Ok-clause-none c =
     let number : c.add_top.result ≡ length xs = c.add_top.ensures.number ∙ ap length c.reserve.ensures.items in
     let it = topped xs Low 0 Inodes p.spare p.epoch p.room p.failed p.bad p.met p.rooted p.kept in
     subst (λ (k : ℕ). beside_of (slice_get c.add_top.new.nodes.items k) ≡ None) (sym number) (subst (λ (ys : List Node). beside_of (slice_get ys (length xs)) ≡ None) (sym items) it.none)
+
+pub returns-in-Ok-clause-blocks : goal.returns-in-Ok-clause-blocks
+returns-in-Ok-clause-blocks c =
+    let p = c.args.self.now in
+    let xs = p.nodes.items in
+    let items : c.add_top.new.nodes.items ≡ xs ++ top_node (length xs) Low 0 Inodes ∷ [] = c.add_top.ensures.pushed ∙ ap (λ (l : List Node). l ++ top_node (length l) Low 0 Inodes ∷ []) c.reserve.ensures.items in
+    ap (map block) items ∙ map-append block xs (top_node (length xs) Low 0 Inodes ∷ [])
