@@ -66,10 +66,11 @@ pub record IsFirstWrong (slot : ℕ) (b : Places) (p : ℕ) : Type 0 where
 abbrev pub HasMagic : Places → Type 0
 HasMagic b = SameBelow 8 (places (codes "H2VOLUME")) b
 
--- the check that stands in the block, and that of its bytes
+-- the check that stands in the block
 abbrev pub stored_check : Places → ℕ
 stored_check b = number_at b 65532 4
 
+-- the check of the bytes that a block has
 abbrev pub computed_check : Places → ℕ
 computed_check b = crc32c_of b 65532
 

@@ -8,12 +8,15 @@ use Rattle.h2_ref.specs.Fault.{area_len_at, fields_end_at, must_be_zero, is_padd
 use Rattle.h2_ref.specs.FirstPlace.{first_place-of_none, first_place-found}
 
 module _ (w : Row) (b : Places) where
+  -- a place between the fields and the key
   abbrev before_key : ℕ → Bool
   before_key k = nat_le 4 k && nat_lt k 8
 
+  -- a place between the last field and the check area
   abbrev before_area : ℕ → Bool
   before_area k = nat_le (fields_end_at w.names) k && nat_lt k 64
 
+  -- a place behind the check area's content
   abbrev behind : ℕ → Bool
   behind k = nat_le (64 + area_len_at w w.names b) k
 

@@ -15,6 +15,7 @@ use Rattle.h2_ref.specs.declared.table.Row.{Row}
 abbrev pub span : ℕ → ℕ → Span
 span n m = record { least = n; last = m }
 
+-- no flag is set
 abbrev pub no_flags : RefFlags
 no_flags = record { 0 = 0 }
 
