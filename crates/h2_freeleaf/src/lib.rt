@@ -27,6 +27,3 @@ pub use leaf::{decode_leaf, encode_leaf};
 pub use node::{decode_node, encode_node};
 pub use planning::{MapPlan, plan};
 pub use reading::read_map;
-
-#[cfg(test)]
-mod tests;

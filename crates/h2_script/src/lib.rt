@@ -30,8 +30,3 @@ pub use laws::script_law;
 pub use parsing::parse;
 pub use printing::{text, text_law};
 pub use script::Script;
-
-#[cfg(test)]
-mod tests;
-#[cfg(test)]
-mod text_tests;

@@ -1,5 +1,5 @@
-use super::*;
 use h2_command::{Command, Payload};
+use h2_script::{LineFault, ParseFault, Script, parse};
 use std::alloc::{AllocError, Global};
 use std::test::Fail;
 

@@ -1,5 +1,5 @@
-use crate::*;
 use h2_codes::{Code, Segment};
+use h2_freeleaf::{MapFault, decode_leaf, decode_node, encode_leaf, encode_node};
 use h2_num::put64;
 use h2_ref::{Check, Kind, Ref};
 use std::test::Fail;

@@ -1,6 +1,6 @@
-use super::*;
 use h2_command::{Command, Entry, History, Item, Mark, Reply, Why};
 use h2_num::{Bytes, Name, Names, NoMemory};
+use h2_script::{parse, text};
 use std::alloc::Global;
 use std::test::Fail;
 

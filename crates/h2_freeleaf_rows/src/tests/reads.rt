@@ -1,10 +1,10 @@
 ghost use Rattle.std.specs.Prelude.{◌≤◌, ◌+◌, ◌^◌, IfOk};
 ghost use Rattle.h2_header.specs.Header.{IsHeader};
 
-use crate::*;
 use h2_check::crc32c;
 use h2_codes::Code;
 use h2_disk::{Disk, MemDisk};
+use h2_freeleaf::{MAP_BYTES, MapFault, MapRead, NODE_REFS, plan, read_map};
 use h2_freemap::{Freemap, Size};
 use h2_geom::Geometry;
 use h2_header::{HEADER_BYTES, Header, read_from};

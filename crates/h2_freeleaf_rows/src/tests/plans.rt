@@ -1,6 +1,6 @@
 use super::codecs::code_of;
-use crate::*;
 use h2_codes::Code;
+use h2_freeleaf::{MAP_BYTES, MapPlan, decode_leaf, plan};
 use h2_freemap::Freemap;
 use h2_geom::Geometry;
 use h2_ref::Ref;
