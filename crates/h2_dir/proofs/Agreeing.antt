@@ -11,7 +11,7 @@ use Rattle.h2_dirkey.specs.Key.{upper_bits, least_key, IsNameUnder}
 use Rattle.h2_inode.specs.Nodes.{Fields, Told}
 use Rattle.h2_inode.specs.Loaded.{at_root, loaded_nodes, no_content}
 use Rattle.h2_inode.specs.Directory.{Entries, IsEntry}
-use Rattle.h2_dir.specs.Names.{IsNamed, MayBeNamed, NoneNamed}
+use Rattle.h2_dir.specs.Names.{IsEntryNamed, MayBeNamed, NoneNamed}
 use Rattle.h2_dir.specs.Finding.{HoldsEntries, last_key}
 use Rattle.h2_dir.proofs.Members.{at_place, has_place, kept, keeps}
 use Rattle.std.proofs.lemmas.Bool.Decides.{nat_tests}
@@ -33,11 +33,11 @@ module _ (f : Forest) (holds : ℕ → Option Fields) (tells : Ref → Option To
   IsOne leaf named = IsEntry (loaded_nodes f holds tells no_content) (λ target number. may target number ≡ true) (at_root dir) leaf named
 
   -- an entry of the directory is told
-  pub one_named : (leaf : Ref) (named : List ℕ × ℕ) → IsOne leaf named → IsNamed f leaf named.0
+  pub one_named : (leaf : Ref) (named : List ℕ × ℕ) → IsOne leaf named → IsEntryNamed f leaf named.0
   one_named leaf named one = record { entry = one.entry; entry_is = one.entry_is; length_is = one.length_is; name_is = one.name_is }
 
   -- a leaf that may have another name than it is told doesn't
-  pub told_once : (leaf : Ref) (name other : List ℕ) → IsNamed f leaf other → MayBeNamed f leaf name → other ≡ name
+  pub told_once : (leaf : Ref) (name other : List ℕ) → IsEntryNamed f leaf other → MayBeNamed f leaf name → other ≡ name
   told_once leaf name other is maybe =
       let e : maybe.entry ≡ is.entry = same_Some maybe.entry is.entry (sym maybe.entry_is ∙ is.entry_is) in
       elim is.name_is [
@@ -53,13 +53,13 @@ module _ (f : Forest) (holds : ℕ → Option Fields) (tells : Ref → Option To
       let name_is : (g.0).0 ≡ name = told_once leaf name (g.0).0 (one_named leaf g.0 one) maybe in
       subst (λ n. get entries n ≡ Some entry.number) name_is (ap (λ m. get m (g.0).0) h.entries_are ∙ g.2 ∙ ap Some (one.number_is ∙ ap (λ (d : Dirent). d.number) same))
 
-  missing_cases : (name : List ℕ) → ((leaf : Ref) → Contains h.leaves leaf → IsNameUnder leaf.key name → IsNamed f leaf name → ⊥) → (o : Option ℕ) → get entries name ≡ o → get entries name ≡ None
+  missing_cases : (name : List ℕ) → ((leaf : Ref) → Contains h.leaves leaf → IsNameUnder leaf.key name → IsEntryNamed f leaf name → ⊥) → (o : Option ℕ) → get entries name ≡ o → get entries name ≡ None
   missing_cases name none None e = e
   missing_cases name none (Some number) e =
       let g = held_by names_total exact_names IsOne h.leaves h.named h.each name number (sym (ap (λ m. get m name) h.entries_are) ∙ e) in
       absurd (none g.0 g.1 (g.2).under (one_named g.0 (name, number) g.2))
 
-  pub missing_agrees : (name : List ℕ) → ((leaf : Ref) → Contains h.leaves leaf → IsNameUnder leaf.key name → IsNamed f leaf name → ⊥) → get entries name ≡ None
+  pub missing_agrees : (name : List ℕ) → ((leaf : Ref) → Contains h.leaves leaf → IsNameUnder leaf.key name → IsEntryNamed f leaf name → ⊥) → get entries name ≡ None
   missing_agrees name none = missing_cases name none (get entries name) refl
 
   -- among the leaves under the keys of the name

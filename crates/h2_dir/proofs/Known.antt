@@ -11,7 +11,7 @@ use Rattle.h2_set.specs.Calls.{IsBad}
 use Rattle.h2_inode.specs.Nodes.{Fields, Told}
 use Rattle.h2_inode.specs.Loaded.{at_root, loaded_nodes, no_content}
 use Rattle.h2_inode.specs.Directory.{Entries}
-use Rattle.h2_dir.specs.Names.{IsNamed, AllNamed}
+use Rattle.h2_dir.specs.Names.{IsEntryNamed, AllNamed}
 use Rattle.h2_dir.specs.Finding.{HoldsEntries}
 use Rattle.h2_inode.specs.FoundLaws.{entry_of_leaf}
 use Rattle.h2_dir.proofs.Members.{at_place, has_place, kept}
@@ -19,7 +19,7 @@ use Rattle.h2_dir.proofs.Agreeing.{one_named}
 use Rattle.h2_dir.proofs.Unchanging.{named_stays}
 
 -- a name that stands in its entry needs no block, and one that is told has a good one
-pub no_bad_name : (f : Forest) (leaf : Ref) (entry : Dirent) (own : List ℕ) (e : Trouble) → leaf.dirent ≡ Some entry → (entry.len ≤ 64 → e ≡ NoMemory) → ((name : List ℕ) → f.name leaf ≡ Some name → IsBad e → ⊥) → IsNamed f leaf own → IsBad e → ⊥
+pub no_bad_name : (f : Forest) (leaf : Ref) (entry : Dirent) (own : List ℕ) (e : Trouble) → leaf.dirent ≡ Some entry → (entry.len ≤ 64 → e ≡ NoMemory) → ((name : List ℕ) → f.name leaf ≡ Some name → IsBad e → ⊥) → IsEntryNamed f leaf own → IsBad e → ⊥
 no_bad_name f leaf entry own e is short long named bad =
     let same : named.entry ≡ entry = same_Some named.entry entry (sym named.entry_is ∙ is) in
     elim named.name_is [
@@ -28,7 +28,7 @@ no_bad_name f leaf entry own e is short long named bad =
     ]
 
 -- one of the leaves
-pub named_at : (f g : Forest) (xs : List Ref) (i : ℕ) (d : Ref) → ((r : Ref) → g.name r ≡ f.name r) → i < length xs → AllNamed f xs → (own : List ℕ) × IsNamed g (get_or xs i d) own
+pub named_at : (f g : Forest) (xs : List Ref) (i : ℕ) (d : Ref) → ((r : Ref) → g.name r ≡ f.name r) → i < length xs → AllNamed f xs → (own : List ℕ) × IsEntryNamed g (get_or xs i d) own
 named_at f g xs i d names lt all = let own = all i (get_or xs i d) (slice_get-get_or xs i d lt) in (own.0, named_stays f g (get_or xs i d) own.0 names own.1)
 
 -- some of the leaves

@@ -5,7 +5,7 @@ use Rattle.std.proofs.lemmas.Option.{same_Some}
 use Rattle.h2_ref.specs.declared.reference.Kind.TheVariants as kinds
 use Rattle.h2_ref.specs.declared.reference.Ref.{Ref}
 use Rattle.h2_set.specs.RefSet.{RefSet}
-use Rattle.h2_set.specs.Forest.{Forest, refs, loaded, IsSound}
+use Rattle.h2_set.specs.Forest.{Forest, refs, loaded, IsSound, IsRootOf}
 use Rattle.h2_set.specs.Calls.{InPlace, Fixed, Alike, AllRenewed, Renews, Same, Stays}
 use Rattle.h2_set.specs.StayLaws.{Alike-refl, InPlace-trans, leaves_stay}
 use Rattle.h2_set.specs.ChangeLaws.{same_or_not}
@@ -16,7 +16,7 @@ use Rattle.h2_inode.specs.declared.kind.InodeKind.TheVariants.{Directory, File, 
 use Rattle.h2_inode.specs.declared.inode.Body.{Body}
 use Rattle.h2_inode.specs.declared.inode.Body.TheVariants.{Refs, Bytes}
 use Rattle.h2_inode.specs.declared.inode.Inode.{Inode}
-use Rattle.h2_inode.specs.Nodes.{Fields, Told, bytes_of, set_of, MayHave, HasInode, IsNamed, IsUnloaded, Replaces}
+use Rattle.h2_inode.specs.Nodes.{Fields, Told, bytes_of, set_of, MayHave, HasInode, IsUnloaded, Replaces}
 use Rattle.h2_inode.specs.NodeLaws.{named_stays, named_back, inode_held}
 use Rattle.h2_inode.specs.Others.{body_with, with_set, KeepsTree, RenewsTree}
 use Rattle.h2_dir.proofs.Resized.{others_same}
@@ -104,7 +104,7 @@ module _ (f h g : Forest) (dir : ℕ) (sound : IsSound f) (sound_then : IsSound 
   capacity c stands other own = let now = (both c stands other).place in (resizes.sound.node c now.stands).root_capacity (now.root ∙ own)
 
   -- leaves name the roots that they named
-  named_on : (c : ℕ) → InPlace f g c → (key d : ℕ) → IsNamed f c key d → IsNamed g c key d
+  named_on : (c : ℕ) → InPlace f g c → (key d : ℕ) → IsRootOf f c key d → IsRootOf g c key d
   named_on c above key d is = named_stays f g c key d above (there d is.stands is.root) is
     where
       there : (d : ℕ) → f.stands d ≡ true → f.root d ≡ d → InPlace f g d

@@ -6,7 +6,7 @@ use Rattle.std.proofs.lemmas.Bool.{cases_lt}
 use Rattle.h2_ref.specs.declared.reference.Ref.{Ref}
 use Rattle.h2_set.specs.Forest.{Forest}
 use Rattle.h2_set.specs.Calls.{Unchanged}
-use Rattle.h2_dir.specs.Names.{IsNamed, MayBeNamed, IsPlaceOfName}
+use Rattle.h2_dir.specs.Names.{IsEntryNamed, MayBeNamed, IsPlaceOfName}
 use Rattle.h2_dir.proofs.Unchanging.{named_stays, may_stays}
 
 pub place_found : (f g : Forest) (xs : List Ref) (i : ℕ) (d : Ref) (name : List ℕ) → Unchanged f g → i < length xs → MayBeNamed g (get_or xs i d) name → IsPlaceOfName f xs name i
@@ -17,13 +17,13 @@ place_found f g xs i d name same lt named = record {
 }
 
 pub none_more : (f g : Forest) (xs : List Ref) (i : ℕ) (d : Ref) (name : List ℕ) → Unchanged f g
-    → ((k : ℕ) (leaf : Ref) → k < i → slice_get xs k ≡ Some leaf → IsNamed f leaf name → ⊥)
-    → (IsNamed g (get_or xs i d) name → ⊥)
-    → (k : ℕ) (leaf : Ref) → k < i + 1 → slice_get xs k ≡ Some leaf → IsNamed f leaf name → ⊥
+    → ((k : ℕ) (leaf : Ref) → k < i → slice_get xs k ≡ Some leaf → IsEntryNamed f leaf name → ⊥)
+    → (IsEntryNamed g (get_or xs i d) name → ⊥)
+    → (k : ℕ) (leaf : Ref) → k < i + 1 → slice_get xs k ≡ Some leaf → IsEntryNamed f leaf name → ⊥
 none_more f g xs i d name same before here k leaf lt read named = elim (cases_lt k i) [
   | inl below ↦ before k leaf below read named
   | inr above ↦
       let at : k ≡ i = omega arith in
       let is : get_or xs i d ≡ leaf = get_or_from_slice_get xs i leaf d (subst (λ n. slice_get xs n ≡ Some leaf) at read) in
-      here (subst (λ r. IsNamed g r name) (sym is) (named_stays f g leaf name same.fixed.name named))
+      here (subst (λ r. IsEntryNamed g r name) (sym is) (named_stays f g leaf name same.fixed.name named))
 ]

@@ -8,7 +8,7 @@ use Rattle.h2_set.specs.StayLaws.{Walks-refl}
 use Rattle.h2_tree.specs.AnswerLaws.{beside_on}
 use Rattle.h2_inode.specs.Nodes.{Visits}
 use Rattle.h2_inode.specs.VisitLaws.{walks_visit}
-use Rattle.h2_dir.specs.Names.{IsNamed, MayBeNamed}
+use Rattle.h2_dir.specs.Names.{IsEntryNamed, MayBeNamed}
 
 same_refl : (f : Forest) (m : ℕ) → f.stands m ≡ true → Same f f m
 same_refl f m stands = record { place = InPlace-refl f m stands; set = refl; link = λ k. refl; writable = refl; copies = refl }
@@ -46,7 +46,7 @@ beside_walks f g h a b c same = beside_on f g h a b c (λ m stands. (same.stays 
 
 -- what is told of names stays
 
-pub named_stays : (f g : Forest) (leaf : Ref) (name : List ℕ) → ((r : Ref) → g.name r ≡ f.name r) → IsNamed f leaf name → IsNamed g leaf name
+pub named_stays : (f g : Forest) (leaf : Ref) (name : List ℕ) → ((r : Ref) → g.name r ≡ f.name r) → IsEntryNamed f leaf name → IsEntryNamed g leaf name
 named_stays f g leaf name same h = record {
   entry = h.entry;
   entry_is = h.entry_is;

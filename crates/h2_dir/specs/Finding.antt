@@ -17,7 +17,7 @@ use Rattle.h2_inode.specs.Loaded.{loaded_nodes, no_content, at_root}
 use Rattle.h2_inode.specs.Directory.{Entries, IsDirectory}
 use Rattle.h2_dir.specs.declared.fault.DirFault.{DirFault}
 use Rattle.h2_dir.specs.declared.fault.DirFault.TheVariants as fault
-use Rattle.h2_dir.specs.Names.{IsNamed, MayBeNamed, IsLongCandidate}
+use Rattle.h2_dir.specs.Names.{IsEntryNamed, MayBeNamed, IsLongCandidate}
 
 -- the greatest key of a name
 abbrev pub last_key : List ℕ → ℕ
@@ -39,7 +39,7 @@ pub record IsFound (f : Forest) (dir : ℕ) (name : List ℕ) (key : ℕ) (entry
 
 -- no entry under a key of the name is known to have it, and all these keys' paths are loaded
 pub record IsMissing (f : Forest) (dir : ℕ) (name : List ℕ) : Type 0 where
-  pub none : (leaf : Ref) → Reaches f leaf.key dir (Some leaf) → IsNameUnder leaf.key name → IsNamed f leaf name → ⊥
+  pub none : (leaf : Ref) → Reaches f leaf.key dir (Some leaf) → IsNameUnder leaf.key name → IsEntryNamed f leaf name → ⊥
   pub loaded : IsName name → RangeUnloaded f (least_key name) (last_key name) dir → ⊥
 
 -- an entry under a key of the name, whose path is loaded, has as many bytes as the name, and a block for them

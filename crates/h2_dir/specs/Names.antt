@@ -5,7 +5,7 @@ use Rattle.h2_ref.specs.declared.reference.Ref.{Ref}
 use Rattle.h2_set.specs.Forest.{Forest}
 
 -- the leaf is an entry that is known to have this name: it stands in the entry, or in a block that is told
-pub record IsNamed (f : Forest) (leaf : Ref) (name : List ℕ) : Type 0 where
+pub record IsEntryNamed (f : Forest) (leaf : Ref) (name : List ℕ) : Type 0 where
   pub entry : Dirent
   pub entry_is : leaf.dirent ≡ Some entry
   pub length_is : length name ≡ entry.len
@@ -36,11 +36,11 @@ pub record AnyLongCandidate (leaves : List Ref) (name : List ℕ) : Type 0 where
 
 -- each leaf of the list is an entry that is known to have a name
 abbrev pub AllNamed : Forest → List Ref → Type 0
-AllNamed f leaves = (i : ℕ) (leaf : Ref) → slice_get leaves i ≡ Some leaf → (name : List ℕ) × IsNamed f leaf name
+AllNamed f leaves = (i : ℕ) (leaf : Ref) → slice_get leaves i ≡ Some leaf → (name : List ℕ) × IsEntryNamed f leaf name
 
 -- no leaf of the list is known to have the name
 abbrev pub NoneNamed : Forest → List Ref → List ℕ → Type 0
-NoneNamed f leaves name = (i : ℕ) (leaf : Ref) → slice_get leaves i ≡ Some leaf → IsNamed f leaf name → ⊥
+NoneNamed f leaves name = (i : ℕ) (leaf : Ref) → slice_get leaves i ≡ Some leaf → IsEntryNamed f leaf name → ⊥
 
 -- the leaf at the place has the name
 pub record IsPlaceOfName (f : Forest) (leaves : List Ref) (name : List ℕ) (place : ℕ) : Type 0 where

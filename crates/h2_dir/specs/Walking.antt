@@ -3,13 +3,13 @@ use Rattle.std.specs.Prelude.{◌≡◌, ◌⊎◌, ◌≤◌, ◌<◌, ◌+◌,
 use Rattle.h2_ref.specs.declared.reference.Dirent.{Dirent}
 use Rattle.h2_ref.specs.declared.reference.Ref.{Ref}
 use Rattle.h2_ref.specs.declared.faults.Trouble.TheVariants.{NoMemory}
-use Rattle.h2_set.specs.Forest.{Forest, Reaches}
+use Rattle.h2_set.specs.Forest.{Forest, Reaches, IsRootOf}
 use Rattle.h2_set.specs.Calls.{HasCause}
 use Rattle.h2_tree.specs.Changes.{PathUnloaded, RangeUnloaded}
 use Rattle.h2_dirkey.specs.Key.{least_key}
 use Rattle.h2_inode.specs.declared.inode.Inode.{Inode}
 use Rattle.h2_inode.specs.declared.kind.InodeKind.TheVariants.{Directory, Pfs}
-use Rattle.h2_inode.specs.Nodes.{Fields, HasInode, IsInodeLeaf, IsNamed, IsUnloaded}
+use Rattle.h2_inode.specs.Nodes.{Fields, HasInode, IsInodeLeaf, IsUnloaded}
 use Rattle.h2_dir.specs.declared.fault.DirFault.{DirFault}
 use Rattle.h2_dir.specs.declared.fault.DirFault.TheVariants as fault
 use Rattle.h2_dir.specs.Finding.{last_key, HasLongCandidate, IsFound, IsMissing}
@@ -19,7 +19,7 @@ pub record IsMember (f : Forest) (holds : ℕ → Option Fields) (pfs number roo
   pub leaf : Ref
   pub is_leaf : IsInodeLeaf f pfs leaf
   pub key_is : leaf.key ≡ number
-  pub named : IsNamed f pfs number root
+  pub named : IsRootOf f pfs number root
   pub has : HasInode f holds root inode
 
 -- Where the names lead from an inode on, from left to right: each name but the first is looked up in what the one

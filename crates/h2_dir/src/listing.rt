@@ -8,7 +8,7 @@ ghost use Rattle.h2_inode.specs.declared.kind.InodeKind.TheVariants.{Directory};
 ghost use Rattle.h2_inode.specs.Access.{OneByOne};
 ghost use Rattle.h2_inode.specs.Nodes.{held_by, HasInode};
 ghost use Rattle.h2_inode.specs.Directory.{Entries};
-ghost use Rattle.h2_dir.specs.Names.{IsNamed, AllNamed};
+ghost use Rattle.h2_dir.specs.Names.{IsEntryNamed, AllNamed};
 ghost use Rattle.h2_dir.specs.Finding.{HoldsEntries, IsBadBlock};
 ghost use Rattle.h2_dir.specs.Listing.{IsEntryLeaf, SaysEntry, HasLongName, AnyLongName, IsListing, ListFails, by_name, entries_of};
 ghost use Rattle.h2_dir.specs.Walking.{LoadsNone};
@@ -35,7 +35,7 @@ fn entry_of<N: Sets>(alloc: Global, n: &mut N, leaf: &Ref) -> Result<(Name, u64)
     ensures none_met { OnOk result (MeetsNone (N.forest n.old) (N.forest n.new)) }
     ensures none_met_refused { IfErr result (λ e. (IsBad e → ⊥) → MeetsNone (N.forest n.old) (N.forest n.new)) }
     ensures unread { IfErr result (λ e. (e ≡ Trouble.NoMemory) ⊎ HasLongName leaf.now) }
-    ensures good { let f = N.forest n.old in IfErr result (λ e. (own : List ℕ) → IsNamed f leaf.now own → IsBad e → ⊥) }
+    ensures good { let f = N.forest n.old in IfErr result (λ e. (own : List ℕ) → IsEntryNamed f leaf.now own → IsBad e → ⊥) }
     ensures beside { KeepsBeside (N.forest n.old) (N.forest n.new) (N.beside n.old) (N.beside n.new) }
     ensures later { N.later n.old n.new }
 {

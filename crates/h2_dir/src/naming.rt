@@ -3,7 +3,7 @@ ghost use Rattle.h2_ref.specs.Ref.{IsValid};
 ghost use Rattle.h2_ref.specs.declared.reference.Ref.{Ref};
 ghost use Rattle.h2_set.specs.Forest.{IsSound};
 ghost use Rattle.h2_set.specs.Calls.{IsBad, Unchanged, HasCause, MeetsNone, KeepsBeside};
-ghost use Rattle.h2_dir.specs.Names.{IsNamed, MayBeNamed, AllNamed, IsLongCandidate, AnyLongCandidate, Scanned};
+ghost use Rattle.h2_dir.specs.Names.{IsEntryNamed, MayBeNamed, AllNamed, IsLongCandidate, AnyLongCandidate, Scanned};
 
 use h2_ref::{Dirent, Ref, Trouble};
 use h2_set::Sets;
@@ -34,12 +34,12 @@ pub(crate) fn has_name<N: Sets>(
     requires valid { IsValid leaf.now }
     ensures same { Unchanged (N.forest n.old) (N.forest n.new) }
     ensures yes { IfOk result (λ b. b ≡ true → MayBeNamed (N.forest n.old) leaf.now name.now) }
-    ensures no { IfOk result (λ b. b ≡ false → IsNamed (N.forest n.old) leaf.now name.now → ⊥) }
+    ensures no { IfOk result (λ b. b ≡ false → IsEntryNamed (N.forest n.old) leaf.now name.now → ⊥) }
     ensures err { IfErr result (HasCause (N.forest n.old) (N.forest n.new)) }
     ensures none_met { OnOk result (MeetsNone (N.forest n.old) (N.forest n.new)) }
     ensures none_met_refused { IfErr result (λ e. (IsBad e → ⊥) → MeetsNone (N.forest n.old) (N.forest n.new)) }
     ensures unread { IfErr result (λ e. (e ≡ Trouble.NoMemory) ⊎ IsLongCandidate leaf.now name.now) }
-    ensures good { let f = N.forest n.old in IfErr result (λ e. (own : List ℕ) → IsNamed f leaf.now own → IsBad e → ⊥) }
+    ensures good { let f = N.forest n.old in IfErr result (λ e. (own : List ℕ) → IsEntryNamed f leaf.now own → IsBad e → ⊥) }
     ensures beside { KeepsBeside (N.forest n.old) (N.forest n.new) (N.beside n.old) (N.beside n.new) }
     ensures later { N.later n.old n.new }
 {

@@ -2,7 +2,7 @@
 use Rattle.std.proofs.Common.{◌≡◌, ℕ, true, false, Option, Some, None, [], sym, ◌∙◌, ap, subst, refl, inl, arith}
 use Rattle.h2_ref.specs.declared.reference.Kind.TheVariants.{Inode as Inode_kind}
 use Rattle.h2_ref.specs.declared.reference.Ref.{Ref}
-use Rattle.h2_set.specs.Forest.{Forest, Reaches}
+use Rattle.h2_set.specs.Forest.{Forest, Reaches, IsRootOf}
 use Rattle.h2_set.specs.Calls.{Walks, KeepsBeside}
 use Rattle.h2_set.specs.Ranges.{leads_on}
 use Rattle.h2_tree.specs.Changes.{Removes, Takes}
@@ -10,7 +10,7 @@ use Rattle.h2_inode.specs.declared.inode.Inode.{Inode}
 use Rattle.h2_inode.specs.declared.inode.Body.TheVariants.{Refs}
 use Rattle.h2_inode.specs.declared.kind.InodeKind.TheVariants.{Pfs}
 use Rattle.h2_inode.specs.Inode.{keys_from}
-use Rattle.h2_inode.specs.Nodes.{Fields, held_by, leaf_keybits, MayHave, HasInode, IsInodeLeaf, IsNamed, Replaces}
+use Rattle.h2_inode.specs.Nodes.{Fields, held_by, leaf_keybits, MayHave, HasInode, IsInodeLeaf, Replaces}
 use Rattle.h2_inode.specs.PathLaws.{refit_place}
 use Rattle.h2_inode.specs.VisitLaws.{walks_visit, visits_inode}
 use Rattle.h2_memory_sets.specs.Inodes.{fields_seen}
@@ -42,7 +42,7 @@ pub taken : (f g : Forest) (c dir : ℕ) (leaf : Ref) → IsTop f c → f.root d
 taken f g c dir leaf is root apart takes = refitted takes.between g c dir (cut f takes.between c dir leaf is root apart takes.removes) apart takes.resizes
 
 -- what a leaf names isn't the super-root, which belongs to nothing
-pub named_apart : (f : Forest) (c top key d : ℕ) → IsTop f c → IsNamed f top key d → d ≡ c → ⊥
+pub named_apart : (f : Forest) (c top key d : ℕ) → IsTop f c → IsRootOf f top key d → d ≡ c → ⊥
 named_apart f c top key d is named e =
     let owned : f.belongs d top key ≡ true = (named.belongs top key).1 (inl (refl, refl)) in
     let clash : true ≡ false = sym owned ∙ ap (λ m. f.belongs m top key) e ∙ is.unowned top key in

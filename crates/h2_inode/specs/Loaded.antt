@@ -2,9 +2,9 @@
 use Rattle.std.specs.Prelude.{◌≡◌, ◌⊎◌, ℕ, true, false, List, Contains, Option, Some}
 use Rattle.h2_num.specs.Places.{Places, SameBelow}
 use Rattle.h2_ref.specs.declared.reference.Ref.{Ref}
-use Rattle.h2_set.specs.Forest.{Forest, LeavesOf, KeepsLeaves}
+use Rattle.h2_set.specs.Forest.{Forest, LeavesOf, KeepsLeaves, IsRootOf}
 use Rattle.h2_inode.specs.declared.inode.Inode.{Inode}
-use Rattle.h2_inode.specs.Nodes.{Fields, held_by, Told, HasInode, IsNamed, IsUnloaded}
+use Rattle.h2_inode.specs.Nodes.{Fields, held_by, Told, HasInode, IsUnloaded}
 use Rattle.h2_inode.specs.Access.{Access}
 use Rattle.h2_inode.specs.Following.{Passage}
 
@@ -24,7 +24,7 @@ IsTold tells leaf i t = (x : Told) × (tells leaf ≡ Some x) × (i ≡ x.inode)
 
 -- the inode that the leaf with this key names in the tree of root top is loaded: this one, with this tree
 abbrev pub IsLoaded : Forest → (ℕ → Option Fields) → ℕ → ℕ → Inode → Tree → Type 0
-IsLoaded f holds top key i t = (c : ℕ) × IsNamed f top key c × HasInode f holds c i × (t ≡ at_root c)
+IsLoaded f holds top key i t = (c : ℕ) × IsRootOf f top key c × HasInode f holds c i × (t ≡ at_root c)
 
 -- The inode that a leaf of the tree names, and the tree below it: where it is loaded, those of its root, which may
 -- have changed, and else what is told.

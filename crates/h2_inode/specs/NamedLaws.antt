@@ -5,13 +5,13 @@ use Rattle.std.proofs.lemmas.Bool.{cases_Bool, cases_eq}
 use Rattle.std.proofs.lemmas.Option.{none-some, same_Some}
 use Rattle.h2_ref.specs.declared.reference.Ref.{Ref}
 use Rattle.h2_set.specs.RefSet.{RefSet}
-use Rattle.h2_set.specs.Forest.{Forest, IsSound}
+use Rattle.h2_set.specs.Forest.{Forest, IsSound, IsRootOf}
 use Rattle.h2_set.specs.Calls.{InPlace, Same, Stays}
 use Rattle.h2_set.specs.StayLaws.{Same-Stays}
 use Rattle.h2_inode.specs.declared.inode.Body.{Body}
 use Rattle.h2_inode.specs.declared.inode.Body.TheVariants.{Refs, Bytes}
 use Rattle.h2_inode.specs.declared.inode.Inode.{Inode}
-use Rattle.h2_inode.specs.Nodes.{Fields, fields_of, bytes_of, set_of, HasInode, IsNamed, IsUnloaded, Brings, Replaces}
+use Rattle.h2_inode.specs.Nodes.{Fields, fields_of, bytes_of, set_of, HasInode, IsUnloaded, Brings, Replaces}
 use Rattle.h2_inode.specs.NodeLaws.{named_stays, named_back, inode_held, replaced_place}
 use Rattle.h2_inode.specs.Loaded.{Tree, at_root, IsTold, IsLoaded, NamesInode, View, IsSameTree, HoldsOn, HoldsBut, TellsOn}
 
@@ -30,8 +30,8 @@ inode_one f holds at i j p q =
     λ k. record { kind = (same k).kind; number = (same k).number; size = (same k).size; links = (same k).links; next = (same k).next; name = (same k).name; body = body k }
 
 -- Where a leaf names one root, it names the inode of that root.
-pub names_one : (v : View) (top c : ℕ) (leaf : Ref) (i j : Inode) (t : Tree) → NamesInode v.forest v.holds v.tells (at_root top) leaf i t → IsNamed v.forest top leaf.key c
-    → ((d : ℕ) → IsNamed v.forest top leaf.key d → d ≡ c) → HasInode v.forest v.holds c j → (i ≡ j) × (t ≡ at_root c)
+pub names_one : (v : View) (top c : ℕ) (leaf : Ref) (i j : Inode) (t : Tree) → NamesInode v.forest v.holds v.tells (at_root top) leaf i t → IsRootOf v.forest top leaf.key c
+    → ((d : ℕ) → IsRootOf v.forest top leaf.key d → d ≡ c) → HasInode v.forest v.holds c j → (i ≡ j) × (t ≡ at_root c)
 names_one v top c leaf i j t (inl is) named one has =
     let e = one is.0 is.1 in
     (inode_one v.forest v.holds c i j (subst (λ m. HasInode v.forest v.holds m i) e is.2) has, is.3 ∙ ap at_root e)
@@ -58,7 +58,7 @@ loaded_on u v top r i t above is place has = (
 
 -- One root comes, and only one leaf names it: that of a new inode, or of one that is loaded.
 
-module _ (u v : View) (top key c : ℕ) (sound : IsSound u.forest) (brings : Brings u.forest v.forest c) (only : u.forest.stands c ≡ false → (t k : ℕ) → IsNamed v.forest t k c → (t ≡ top) × (k ≡ key))
+module _ (u v : View) (top key c : ℕ) (sound : IsSound u.forest) (brings : Brings u.forest v.forest c) (only : u.forest.stands c ≡ false → (t k : ℕ) → IsRootOf v.forest t k c → (t ≡ top) × (k ≡ key))
     (holds : HoldsOn u v) (told : TellsOn u v) where
   here : (m : ℕ) → u.forest.stands m ≡ true → InPlace u.forest v.forest m
   here m stands = (brings.same m stands).place
@@ -75,7 +75,7 @@ module _ (u v : View) (top key c : ℕ) (sound : IsSound u.forest) (brings : Bri
   came m stands gone = elim (brings.new m stands) [ inl e ↦ e | inr stood ↦ let clash : true ≡ false = sym stood ∙ gone in absurd (cc) ]
 
   -- where a leaf's inode wasn't loaded, the root that it names now has come
-  pub brings_fresh : (t k m : ℕ) → u.forest.stands t ≡ true → IsUnloaded u.forest t k → IsNamed v.forest t k m → u.forest.stands m ≡ false
+  pub brings_fresh : (t k m : ℕ) → u.forest.stands t ≡ true → IsUnloaded u.forest t k → IsRootOf v.forest t k m → u.forest.stands m ≡ false
   brings_fresh t k m stands none named = elim (cases_Bool (u.forest.stands m)) [
     | inl stood ↦ absurd (none m (named_back u.forest v.forest t k m (here t stands) stood (here m stood) named))
     | inr gone ↦ gone
@@ -86,7 +86,7 @@ module _ (u v : View) (top key c : ℕ) (sound : IsSound u.forest) (brings : Bri
   brings_others t k stands none other m named =
       let gone = brings_fresh t k m stands none named in
       let e = came m named.stands gone in
-      other (only (subst (λ z. u.forest.stands z ≡ false) e gone) t k (subst (λ z. IsNamed v.forest t k z) e named))
+      other (only (subst (λ z. u.forest.stands z ≡ false) e gone) t k (subst (λ z. IsRootOf v.forest t k z) e named))
 
   -- each other leaf names the same inode, with the same tree
   pub brings_names : (t : ℕ) (r : Ref) (i : Inode) (tree : Tree) → u.forest.stands t ≡ true → NamesInode u.forest u.holds u.tells (at_root t) r i tree → ((t ≡ top) × (r.key ≡ key) → ⊥)
@@ -132,12 +132,12 @@ module _ (u v : View) (at : ℕ) (s : RefSet) (h : Replaces u.forest v.forest at
     -- A leaf that named the root names the new inode. Each other one names the same as before, if the root that it names
     -- stands still, or if it isn't loaded.
     pub replaces_names : (top : ℕ) (r : Ref) (i new : Inode) (tree : Tree) → u.forest.stands top ≡ true → v.forest.stands top ≡ true → HasInode v.forest v.holds at new
-        → NamesInode u.forest u.holds u.tells (at_root top) r i tree → ((c : ℕ) → IsNamed u.forest top r.key c → v.forest.stands c ≡ true)
+        → NamesInode u.forest u.holds u.tells (at_root top) r i tree → ((c : ℕ) → IsRootOf u.forest top r.key c → v.forest.stands c ≡ true)
         → ((tree ≡ at_root at) × NamesInode v.forest v.holds v.tells (at_root top) r new (at_root at)) ⊎ ((w : Tree) × NamesInode v.forest v.holds v.tells (at_root top) r i w × IsSameTree u v tree w)
     replaces_names top r i new tree stood stands has (inl x) alive = elim (cases_eq x.0 at) as (λ _. ((tree ≡ at_root at) × NamesInode v.forest v.holds v.tells (at_root top) r new (at_root at)) ⊎ ((w : Tree) × NamesInode v.forest v.holds v.tells (at_root top) r i w × IsSameTree u v tree w)) [
       | inl e ↦
           let named = named_stays u.forest v.forest top r.key x.0 (replaces_place top stood stands) (replaces_place x.0 x.1.stands (alive x.0 x.1)) x.1 in
-          inl (x.3 ∙ ap at_root e, inl (at, subst (λ m. IsNamed v.forest top r.key m) e named, has, refl))
+          inl (x.3 ∙ ap at_root e, inl (at, subst (λ m. IsRootOf v.forest top r.key m) e named, has, refl))
       | inr ne ↦
           inr (loaded_on u v top r i tree (replaces_place top stood stands) x (replaces_place x.0 x.1.stands (alive x.0 x.1)) (replaces_inode x.0 i ne (alive x.0 x.1) x.2))
     ]

@@ -4,15 +4,15 @@ use Rattle.std.proofs.Common.{sym, ◌∙◌, inl, inr, subst}
 use Rattle.std.proofs.lemmas.Bool.{cases_Bool, cases_eq}
 use Rattle.h2_set.specs.RefSet.{RefSet}
 use Rattle.h2_set.specs.declared.set.Split.{Split}
-use Rattle.h2_set.specs.Forest.{Forest, IsSound}
+use Rattle.h2_set.specs.Forest.{Forest, IsSound, IsRootOf}
 use Rattle.h2_set.specs.Calls.{InPlace, Walks, ReadiesOnly, Unchanged, Alters, Stores, Makes}
-use Rattle.h2_inode.specs.Nodes.{IsNamed, NamesOne, IsUnloaded, Brings, Seeks, Plants, Replaces}
+use Rattle.h2_inode.specs.Nodes.{NamesOne, IsUnloaded, Brings, Seeks, Plants, Replaces}
 use Rattle.h2_inode.specs.NodeLaws.{named_back, replaced_place}
 use Rattle.h2_inode.specs.NamedLaws.{brings_bare}
 use Rattle.h2_inode.specs.Loaded.{View}
 
 -- what is named now is the root that came, or was named before
-pub brings_named : (f g : Forest) (c top key d : ℕ) → Brings f g c → f.stands top ≡ true → IsNamed g top key d → (d ≡ c) ⊎ IsNamed f top key d
+pub brings_named : (f g : Forest) (c top key d : ℕ) → Brings f g c → f.stands top ≡ true → IsRootOf g top key d → (d ≡ c) ⊎ IsRootOf f top key d
 brings_named f g c top key d h stands is = elim (h.new d is.stands) [
   | inl e ↦ inl e
   | inr stood ↦ inr (named_back f g top key d (h.same top stands).place stood (h.same d stood).place is)
@@ -21,16 +21,16 @@ brings_named f g c top key d h stands is = elim (h.new d is.stands) [
 -- Two roots that one leaf names are one, right after a load or the making of an inode. In any sound forest they need not
 -- be: what is said of a root, and which leaves it belongs to, may be said of a second one.
 
-pub sought_one : (f g : Forest) (top key c d : ℕ) → Seeks f g top key c → f.stands top ≡ true → IsNamed g top key d → d ≡ c
+pub sought_one : (f g : Forest) (top key c d : ℕ) → Seeks f g top key c → f.stands top ≡ true → IsRootOf g top key d → d ≡ c
 sought_one f g top key c d h stands is = elim (brings_named f g c top key d h.brings stands is) [ inl e ↦ e | inr before ↦ sym (h.loaded d before) ]
 
-pub planted_one : (f g : Forest) (top key c d : ℕ) → Plants f g top key c → f.stands top ≡ true → IsUnloaded f top key → IsNamed g top key d → d ≡ c
+pub planted_one : (f g : Forest) (top key c d : ℕ) → Plants f g top key c → f.stands top ≡ true → IsUnloaded f top key → IsRootOf g top key d → d ≡ c
 planted_one f g top key c d h stands none is = elim (brings_named f g c top key d h.brings stands is) [ inl e ↦ e | inr before ↦ absurd (none d before) ]
 
 -- It stays so over all calls
 
 -- what names a root stands, and is a root
-above_stands : (f : Forest) (top key c : ℕ) → IsSound f → IsNamed f top key c → (f.stands top ≡ true) × (f.root top ≡ top)
+above_stands : (f : Forest) (top key c : ℕ) → IsSound f → IsRootOf f top key c → (f.stands top ≡ true) × (f.root top ≡ top)
 above_stands f top key c sound is = let own = sound.owner c top key is.stands ((is.belongs top key).1 (inl (refl, refl))) in (own.stands, own.root)
 
 -- where no root comes, and what stands before and after stays in its place
@@ -91,21 +91,21 @@ makes_one f g at c set split sound stood names h = rootless_one f g names h.soun
       | inr was ↦ was
     ]
 
-module _ (f g : Forest) (top key c : ℕ) (sound : IsSound f) (names : NamesOne f) (brings : Brings f g c) (only : f.stands c ≡ false → (t k : ℕ) → IsNamed g t k c → (t ≡ top) × (k ≡ key))
-    (this : (d : ℕ) → IsNamed g top key d → d ≡ c) where
+module _ (f g : Forest) (top key c : ℕ) (sound : IsSound f) (names : NamesOne f) (brings : Brings f g c) (only : f.stands c ≡ false → (t k : ℕ) → IsRootOf g t k c → (t ≡ top) × (k ≡ key))
+    (this : (d : ℕ) → IsRootOf g top key d → d ≡ c) where
   -- the forest as a view in which no root holds an inode and nothing is told
   abbrev seen : Forest → View
   seen x = record { forest = x; holds = λ m. None; tells = λ r. None }
 
   -- where one of two roots has come, both are that one
-  one_came : (t k d e : ℕ) → f.stands d ≡ false → IsNamed g t k d → IsNamed g t k e → e ≡ d
+  one_came : (t k d e : ℕ) → f.stands d ≡ false → IsRootOf g t k d → IsRootOf g t k e → e ≡ d
   one_came t k d e gone p q =
       let is_c : d ≡ c = elim (brings.new d p.stands) [ inl same ↦ same | inr stood ↦ let clash : true ≡ false = sym stood ∙ gone in absurd (cc) ] in
-      let at = only (subst (λ m. f.stands m ≡ false) is_c gone) t k (subst (λ m. IsNamed g t k m) is_c p) in
-      let second : IsNamed g top key e = subst (λ n. IsNamed g n key e) at.0 (subst (λ n. IsNamed g t n e) at.1 q) in
+      let at = only (subst (λ m. f.stands m ≡ false) is_c gone) t k (subst (λ m. IsRootOf g t k m) is_c p) in
+      let second : IsRootOf g top key e = subst (λ n. IsRootOf g n key e) at.0 (subst (λ n. IsRootOf g t n e) at.1 q) in
       this e second ∙ sym is_c
 
-  back : (t k d : ℕ) → f.stands t ≡ true → f.stands d ≡ true → IsNamed g t k d → IsNamed f t k d
+  back : (t k d : ℕ) → f.stands t ≡ true → f.stands d ≡ true → IsRootOf g t k d → IsRootOf f t k d
   back t k d above stood p = named_back f g t k d (brings.same t above).place stood (brings.same d stood).place p
 
   pub brings_one : NamesOne g
@@ -123,7 +123,7 @@ module _ (f g : Forest) (top key c : ℕ) (sound : IsSound f) (names : NamesOne 
       ]
 
 -- what names the root that came stood before
-named_above : (f g : Forest) (c top key : ℕ) → Brings f g c → IsNamed g top key c → f.stands top ≡ true
+named_above : (f g : Forest) (c top key : ℕ) → Brings f g c → IsRootOf g top key c → f.stands top ≡ true
 named_above f g c top key h is =
     let own = h.sound.owner c top key is.stands ((is.belongs top key).1 (inl (refl, refl))) in
     elim (h.new top own.stands) as (λ _. f.stands top ≡ true) [ inl e ↦ absurd (own.other (is.root ∙ sym e)) | inr stood ↦ stood ]

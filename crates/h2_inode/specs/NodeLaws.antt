@@ -6,7 +6,7 @@ use Rattle.h2_ref.specs.declared.reference.Ref.{Ref}
 use Rattle.h2_set.specs.Ranges.{Rising, is_indirect}
 use Rattle.h2_set.specs.RefSet.{RefSet}
 use Rattle.h2_inode.specs.declared.kind.InodeKind.{InodeKind}
-use Rattle.h2_set.specs.Forest.{Forest, refs, HasLeaves, done, LeavesOf, KeepsLeaves, IsSound, loaded, Fits}
+use Rattle.h2_set.specs.Forest.{Forest, refs, HasLeaves, done, LeavesOf, KeepsLeaves, IsSound, loaded, Fits, IsRootOf}
 use Rattle.h2_set.specs.Calls.{Alike, InPlace, Same, Stays, Storable, GoesWith, Stores}
 use Rattle.h2_set.specs.StayLaws.{Alike-refl, leaves_stay, leaves_stay_all}
 use Rattle.h2_inode.specs.declared.inode.Body.{Body}
@@ -14,10 +14,10 @@ use Rattle.h2_inode.specs.declared.inode.Body.TheVariants.{Refs, Bytes}
 use Rattle.h2_inode.specs.declared.inode.Inode.{Inode}
 use Rattle.h2_inode.specs.Inode.{keys_from}
 use Rattle.h2_inode.specs.Block.{refs_of_body}
-use Rattle.h2_inode.specs.Nodes.{Fields, set_of, MayHave, IsTreeOf, HasInode, IsNamed, FitsIn, Replaceable, Brings, Replaces}
+use Rattle.h2_inode.specs.Nodes.{Fields, set_of, MayHave, IsTreeOf, HasInode, FitsIn, Replaceable, Brings, Replaces}
 
 -- which leaf names a root stays where both roots stay
-pub named_stays : (f g : Forest) (top key c : ℕ) → InPlace f g top → InPlace f g c → IsNamed f top key c → IsNamed g top key c
+pub named_stays : (f g : Forest) (top key c : ℕ) → InPlace f g top → InPlace f g c → IsRootOf f top key c → IsRootOf g top key c
 named_stays f g top key c above here h = record {
   stands = here.stands;
   root = here.root ∙ h.root;
@@ -27,7 +27,7 @@ named_stays f g top key c above here h = record {
 }
 
 -- what a leaf names now it named before, where both roots stood
-pub named_back : (f g : Forest) (top key c : ℕ) → InPlace f g top → f.stands c ≡ true → InPlace f g c → IsNamed g top key c → IsNamed f top key c
+pub named_back : (f g : Forest) (top key c : ℕ) → InPlace f g top → f.stands c ≡ true → InPlace f g c → IsRootOf g top key c → IsRootOf f top key c
 named_back f g top key c above stood here h = record {
   stands = stood;
   root = sym here.root ∙ h.root;

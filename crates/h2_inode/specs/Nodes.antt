@@ -91,17 +91,13 @@ pub record IsInodeLeaf (f : Forest) (top : ℕ) (leaf : Ref) : Type 0 where
   pub kind : leaf.kind ≡ Inode_kind
   pub path : Reaches f leaf.key top (Some leaf)
 
--- the leaf with this key in the tree of root top names the inode whose root is c
-abbrev pub IsNamed : Forest → ℕ → ℕ → ℕ → Type 0
-IsNamed f top key c = IsRootOf f top key c
-
 -- each leaf names one root at most
 abbrev pub NamesOne : Forest → Type 0
-NamesOne f = (top key c d : ℕ) → IsNamed f top key c → IsNamed f top key d → d ≡ c
+NamesOne f = (top key c d : ℕ) → IsRootOf f top key c → IsRootOf f top key d → d ≡ c
 
 -- the inode that the leaf with this key names isn't loaded
 abbrev pub IsUnloaded : Forest → ℕ → ℕ → Type 0
-IsUnloaded f top key = (c : ℕ) → IsNamed f top key c → ⊥
+IsUnloaded f top key = (c : ℕ) → IsRootOf f top key c → ⊥
 
 -- what the block of an inode is known to hold: the inode, and the leaves of its tree
 pub record Told : Type 0 where
@@ -159,10 +155,10 @@ pub record Brings (f g : Forest) (c : ℕ) : Type 0 where
 -- the inode that the leaf names is loaded, with root c; where it was so already, nothing else came
 pub record Seeks (f g : Forest) (top key c : ℕ) : Type 0 where
   pub brings : Brings f g c
-  pub named : IsNamed g top key c
+  pub named : IsRootOf g top key c
   -- a root that came is named by this leaf alone
-  pub only : f.stands c ≡ false → (t k : ℕ) → IsNamed g t k c → (t ≡ top) × (k ≡ key)
-  pub loaded : (d : ℕ) → IsNamed f top key d → c ≡ d
+  pub only : f.stands c ≡ false → (t k : ℕ) → IsRootOf g t k c → (t ≡ top) × (k ≡ key)
+  pub loaded : (d : ℕ) → IsRootOf f top key d → c ≡ d
   -- a root that is loaded isn't writable
   pub clean : f.stands c ≡ false → g.writable c ≡ false
   pub spare : g.spare ≡ f.spare
@@ -195,9 +191,9 @@ pub record Visits (f g : Forest) : Type 0 where
 pub record Plants (f g : Forest) (top key c : ℕ) : Type 0 where
   pub brings : Brings f g c
   pub fresh : f.stands c ≡ false
-  pub named : IsNamed g top key c
+  pub named : IsRootOf g top key c
   -- it is named by this leaf alone
-  pub only : (t k : ℕ) → IsNamed g t k c → (t ≡ top) × (k ≡ key)
+  pub only : (t k : ℕ) → IsRootOf g t k c → (t ≡ top) × (k ≡ key)
   -- what is told below an indirect reference elsewhere is told below it here
   pub told_alike : (m i j : ℕ) (r : Ref) (l : List Ref) → f.stands m ≡ true → slice_get (refs f m) i ≡ Some r → slice_get (refs g c) j ≡ Some r → is_indirect r ≡ true → f.link m r.key ≡ told l → g.link c r.key ≡ told l
   pub writable : g.writable c ≡ true

@@ -3,14 +3,14 @@ use Rattle.std.specs.Prelude.{◌≡◌, ℕ, true, List, Option, Some}
 use Rattle.h2_num.specs.Places.{Places}
 use Rattle.h2_ref.specs.declared.reference.Ref.{Ref}
 use Rattle.h2_set.specs.RefSet.{RefSet}
-use Rattle.h2_set.specs.Forest.{refs, LeavesOf, KeepsLeaves, Reaches}
+use Rattle.h2_set.specs.Forest.{refs, LeavesOf, KeepsLeaves, Reaches, IsRootOf}
 use Rattle.h2_set.specs.Calls.{InPlace}
 use Rattle.h2_set.specs.RenewLaws.{RenewsLeaves}
 use Rattle.h2_set.specs.PathLaws.{PathRenewed}
 use Rattle.h2_inode.specs.declared.inode.Body.{Body}
 use Rattle.h2_inode.specs.declared.inode.Body.TheVariants.{Refs, Bytes}
 use Rattle.h2_inode.specs.declared.inode.Inode.{Inode}
-use Rattle.h2_inode.specs.Nodes.{HasInode, IsNamed, IsUnloaded}
+use Rattle.h2_inode.specs.Nodes.{HasInode, IsUnloaded}
 use Rattle.h2_inode.specs.Following.{Passage}
 use Rattle.h2_inode.specs.Loaded.{Tree, at_root, of_leaves, View, reading, TellsOn}
 
@@ -30,7 +30,7 @@ pub record KeepsTree (u v : View) (c : ℕ) : Type 0 where
   pub inode : (i : Inode) → HasInode u.forest u.holds c i → HasInode v.forest v.holds c i
   pub leaves : KeepsLeaves u.forest v.forest c
   pub paths : (key : ℕ) (o : Option Ref) → Reaches u.forest key c o → Reaches v.forest key c o
-  pub named : (key d : ℕ) → IsNamed u.forest c key d → IsNamed v.forest c key d
+  pub named : (key d : ℕ) → IsRootOf u.forest c key d → IsRootOf v.forest c key d
   pub unloaded : (key : ℕ) → IsUnloaded u.forest c key → IsUnloaded v.forest c key
 
 -- So it does, but for where the blocks of inodes and indirect blocks lie, of which references of the tree tell.
@@ -39,7 +39,7 @@ pub record RenewsTree (u v : View) (c : ℕ) : Type 0 where
   pub inode : (i : Inode) → HasInode u.forest u.holds c i → HasInode v.forest v.holds c (with_set i (v.forest.set c))
   pub leaves : (l : List Ref) → LeavesOf u.forest c l → RenewsLeaves v.forest c (refs v.forest c) l
   pub paths : (key : ℕ) (o : Option Ref) → Reaches u.forest key c o → PathRenewed v.forest key c o
-  pub named : (key d : ℕ) → IsNamed u.forest c key d → IsNamed v.forest c key d
+  pub named : (key d : ℕ) → IsRootOf u.forest c key d → IsRootOf v.forest c key d
   pub unloaded : (key : ℕ) → IsUnloaded u.forest c key → IsUnloaded v.forest c key
 
 -- all other roots than this one do so
@@ -51,7 +51,7 @@ RenewsOthers u v at = (c : ℕ) → u.forest.stands c ≡ true → u.forest.root
 -- The roots of which P holds keep their trees, and it holds of the roots that their leaves name. What was told is told.
 pub record KeepsTrees (u v : View) (P : ℕ → Type 0) : Type 0 where
   pub trees : (c : ℕ) → P c → KeepsTree u v c
-  pub closed : (c key d : ℕ) → P c → IsNamed u.forest c key d → P d
+  pub closed : (c key d : ℕ) → P c → IsRootOf u.forest c key d → P d
   pub told : TellsOn u v
   pub name : (r : Ref) (name : List ℕ) → u.forest.name r ≡ Some name → v.forest.name r ≡ Some name
 

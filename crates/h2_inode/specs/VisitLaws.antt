@@ -4,11 +4,11 @@ use Rattle.std.proofs.Common.{ap, sym, ◌∙◌, arith, inl, inr, subst}
 use Rattle.std.proofs.lemmas.Bool.{cases_Bool}
 use Rattle.h2_ref.specs.declared.reference.Ref.{Ref}
 use Rattle.h2_set.specs.RefSet.{RefSet}
-use Rattle.h2_set.specs.Forest.{Forest, KeepsLeaves, IsSound, Reaches, nowhere, here, below}
+use Rattle.h2_set.specs.Forest.{Forest, KeepsLeaves, IsSound, Reaches, nowhere, here, below, IsRootOf}
 use Rattle.h2_set.specs.Calls.{Walks, Unchanged, KeepsBeside}
 use Rattle.h2_set.specs.StayLaws.{Stays-trans, leaves_stay_all, stands_below}
 use Rattle.h2_inode.specs.declared.inode.Inode.{Inode}
-use Rattle.h2_inode.specs.Nodes.{Fields, held_by, HasInode, IsInodeLeaf, IsNamed, Seeks, Visits}
+use Rattle.h2_inode.specs.Nodes.{Fields, held_by, HasInode, IsInodeLeaf, Seeks, Visits}
 use Rattle.h2_inode.specs.NodeLaws.{named_stays, same_stays, inode_held}
 use Rattle.h2_inode.specs.NamesOneLaws.{walks_one, unchanged_one, seeks_one}
 
@@ -132,7 +132,7 @@ visits_leaf f g top leaf sound h is = record {
 }
 
 -- which root a leaf names
-pub visits_name : (f g : Forest) (top key c : ℕ) → Visits f g → f.stands top ≡ true → IsNamed f top key c → IsNamed g top key c
+pub visits_name : (f g : Forest) (top key c : ℕ) → Visits f g → f.stands top ≡ true → IsRootOf f top key c → IsRootOf g top key c
 visits_name f g top key c h stands is = named_stays f g top key c (h.stays top stands).place (h.stays c is.stands).place is
 
 -- the inode of a root, where what it holds beside its set stays

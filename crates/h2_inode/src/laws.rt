@@ -8,10 +8,10 @@ ghost use Rattle.h2_inode.specs.declared.inode.Inode.{Inode};
 ghost use Rattle.h2_inode.specs.Inode.{IsInode, InodeBytes, NoInode};
 ghost use Rattle.h2_inode.specs.Fault.{IsFaultOf};
 ghost use Rattle.h2_set.specs.RefSet.{RefSet};
-ghost use Rattle.h2_set.specs.Forest.{Forest, HasLeaves, LeavesOf, KeepsLeaves, IsSound, Reaches};
+ghost use Rattle.h2_set.specs.Forest.{Forest, HasLeaves, LeavesOf, KeepsLeaves, IsSound, Reaches, IsRootOf};
 ghost use Rattle.h2_set.specs.Calls.{InPlace, Stores, Walks};
 ghost use Rattle.h2_inode.specs.Block.{Passes, refs_of_body};
-ghost use Rattle.h2_inode.specs.Nodes.{Fields, HasInode, IsInodeLeaf, IsNamed, IsUnloaded, Brings, Seeks, Visits, Plants, Replaces};
+ghost use Rattle.h2_inode.specs.Nodes.{Fields, HasInode, IsInodeLeaf, IsUnloaded, Brings, Seeks, Visits, Plants, Replaces};
 ghost use Rattle.h2_inode.specs.NodeLaws.{NoneGoes};
 ghost use Rattle.h2_inode.specs.Cause.{IsCauseOf};
 
@@ -60,7 +60,7 @@ pub fn cause_law()
 /// keeps the leaves of all trees; one that replaces a set keeps those of another tree of which nothing goes with its
 /// leaves. The leaves of an inode's tree are those below the references of its body.
 pub fn nodes_law()
-    ensures named { (f g : Forest) (top key c : ℕ) → InPlace f g top → InPlace f g c → IsNamed f top key c → IsNamed g top key c }
+    ensures named { (f g : Forest) (top key c : ℕ) → InPlace f g top → InPlace f g c → IsRootOf f top key c → IsRootOf g top key c }
     ensures brought { (f g : Forest) (c at : ℕ) → IsSound f → Brings f g c → f.stands at ≡ true → KeepsLeaves f g at }
     ensures stored { (f g : Forest) (at : ℕ) (s : RefSet) (top : ℕ) → IsSound f → Stores f g at s → (top ≡ f.root at → ⊥)
         → NoneGoes f at s top → (m : ℕ) → f.stands m ≡ true → f.root m ≡ top → KeepsLeaves f g m }
@@ -78,7 +78,7 @@ pub fn visits_law()
     ensures chained { (f g h : Forest) → Visits f g → Visits g h → Visits f h }
     ensures trees { (f g : Forest) (at : ℕ) → IsSound f → Visits f g → f.stands at ≡ true → KeepsLeaves f g at }
     ensures leaves { (f g : Forest) (top : ℕ) (leaf : Ref) → IsSound f → Visits f g → IsInodeLeaf f top leaf → IsInodeLeaf g top leaf }
-    ensures names { (f g : Forest) (top key c : ℕ) → Visits f g → f.stands top ≡ true → IsNamed f top key c → IsNamed g top key c }
+    ensures names { (f g : Forest) (top key c : ℕ) → Visits f g → f.stands top ≡ true → IsRootOf f top key c → IsRootOf g top key c }
 {}
 
 /// A law of calls over inodes and of loaded paths. A root that comes leaves them, and which roots leaves name; after
@@ -87,9 +87,9 @@ pub fn visits_law()
 pub fn paths_law()
     ensures brought { (f g : Forest) (c key at : ℕ) (o : Option Ref) → IsSound f → Brings f g c → f.stands at ≡ true
         → Reaches f key at o → Reaches g key at o }
-    ensures sought { (f g : Forest) (top key c d : ℕ) → Seeks f g top key c → f.stands top ≡ true → IsNamed g top key d → d ≡ c }
+    ensures sought { (f g : Forest) (top key c d : ℕ) → Seeks f g top key c → f.stands top ≡ true → IsRootOf g top key d → d ≡ c }
     ensures planted { (f g : Forest) (top key c d : ℕ) → Plants f g top key c → f.stands top ≡ true → IsUnloaded f top key
-        → IsNamed g top key d → d ≡ c }
+        → IsRootOf g top key d → d ≡ c }
     ensures visited { (f g : Forest) (key at : ℕ) (o : Option Ref) → IsSound f → Visits f g → f.stands at ≡ true
         → Reaches f key at o → Reaches g key at o }
     ensures replaced { (f g : Forest) (at : ℕ) (s : RefSet) (top key m : ℕ) (o : Option Ref) → IsSound f → Replaces f g at s

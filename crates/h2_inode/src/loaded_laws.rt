@@ -6,13 +6,13 @@ ghost use Rattle.h2_ref.specs.declared.reference.Ref.{Ref};
 ghost use Rattle.h2_set.specs.Ranges.{limit};
 ghost use Rattle.h2_set.specs.RefSet.{RefSet};
 ghost use Rattle.h2_set.specs.declared.set.Split.{Split};
-ghost use Rattle.h2_set.specs.Forest.{Forest, LeavesOf, KeepsLeaves, IsSound};
+ghost use Rattle.h2_set.specs.Forest.{Forest, LeavesOf, KeepsLeaves, IsSound, IsRootOf};
 ghost use Rattle.h2_set.specs.Calls.{Walks, ReadiesOnly, Alters, Stores, Makes};
 ghost use Rattle.h2_dirkey.specs.PfsName.{IsPfsName};
 ghost use Rattle.h2_inode.specs.declared.kind.InodeKind.TheVariants.{Pfs as Pfs_kind};
 ghost use Rattle.h2_inode.specs.declared.inode.Inode.{Inode};
 ghost use Rattle.h2_inode.specs.Block.{refs_of_body};
-ghost use Rattle.h2_inode.specs.Nodes.{Fields, Told, HasInode, IsInodeLeaf, IsNamed, NamesOne, IsUnloaded, IsAsTold, Seeks, Plants, Replaces, Visits};
+ghost use Rattle.h2_inode.specs.Nodes.{Fields, Told, HasInode, IsInodeLeaf, NamesOne, IsUnloaded, IsAsTold, Seeks, Plants, Replaces, Visits};
 ghost use Rattle.h2_inode.specs.declared.inode.Body.{Body};
 ghost use Rattle.h2_inode.specs.Contents.{IsContents};
 ghost use Rattle.h2_inode.specs.Embedded.{HasBytes};
@@ -77,7 +77,7 @@ pub fn naming_law()
     ensures replaced { (u v : View) (at top : ℕ) (s : RefSet) (r : Ref) (i new : Inode) (t : Tree) → Replaces u.forest v.forest at s
         → HoldsBut at u v → TellsOn u v → u.forest.stands top ≡ true → v.forest.stands top ≡ true → HasInode v.forest v.holds at new
         → NamesInode u.forest u.holds u.tells (at_root top) r i t
-        → ((c : ℕ) → IsNamed u.forest top r.key c → v.forest.stands c ≡ true)
+        → ((c : ℕ) → IsRootOf u.forest top r.key c → v.forest.stands c ≡ true)
         → ((t ≡ at_root at) × NamesInode v.forest v.holds v.tells (at_root top) r new (at_root at))
         ⊎ ((w : Tree) × NamesInode v.forest v.holds v.tells (at_root top) r i w × IsSameTree u v t w) }
 {}

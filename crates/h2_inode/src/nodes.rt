@@ -17,7 +17,7 @@ use std::alloc::Global;
 ///
 /// An inode is the set of its root, and what the root holds beside it (`Fields`). Where its body is bytes, it has no
 /// set, which counts as an empty one, and its tree may have no leaf. Which leaf names a root is told by the forest:
-/// the root belongs to that leaf (`IsNamed`). What the block of an inode holds may be told by its reference (`Told`),
+/// the root belongs to that leaf (`IsRootOf`). What the block of an inode holds may be told by its reference (`Told`),
 /// and a load brings what was told. Each call has one relation between the forest before and after it, in which all
 /// that it doesn't name stays.
 pub trait Nodes: Sets {

@@ -6,9 +6,9 @@ use Rattle.std.proofs.lemmas.Bool.{or_cases}
 use Rattle.std.proofs.lemmas.Option.{none-some, slice_get_within, slice_get_past}
 use Rattle.h2_ref.specs.declared.faults.Why.{Why}
 use Rattle.h2_ref.specs.declared.reference.Ref.{Ref}
-use Rattle.h2_set.specs.Forest.{Forest, told, untold, IsSound}
+use Rattle.h2_set.specs.Forest.{Forest, told, untold, IsSound, IsRootOf}
 use Rattle.h2_set.specs.ChangeLaws.{same_or_not}
-use Rattle.h2_inode.specs.Nodes.{IsNamed, IsInodeLeaf, Brings, Plants, Seeks}
+use Rattle.h2_inode.specs.Nodes.{IsInodeLeaf, Brings, Plants, Seeks}
 use Rattle.h2_memory_sets.specs.declared.node.Node.{Node}
 use Rattle.h2_memory_sets.specs.declared.node.Owner.{Owner}
 use Rattle.h2_memory_sets.specs.Inodes.{owned_by, is_sought}
@@ -123,7 +123,7 @@ loaded_root xs c x y read away under owner was_bare on bare root bits copies unh
         ]
 
 -- where no loaded root is found, the leaf names none
-pub none_named : (xs : List Node) (spare epoch room failed bad : ℕ) (met : Option (ℕ × Why)) → AreLower xs → IsSound (forest_with xs spare epoch room failed bad met) → (top key d : ℕ) → position (is_sought top key) xs ≡ None → IsNamed (forest_with xs spare epoch room failed bad met) top key d → ⊥
+pub none_named : (xs : List Node) (spare epoch room failed bad : ℕ) (met : Option (ℕ × Why)) → AreLower xs → IsSound (forest_with xs spare epoch room failed bad met) → (top key d : ℕ) → position (is_sought top key) xs ≡ None → IsRootOf (forest_with xs spare epoch room failed bad met) top key d → ⊥
 none_named xs spare epoch room failed bad met low sound top key d none is = go (slice_get xs d) refl
   where
     owner : owner_of (slice_get xs d) ≡ Some (record { root = top; key = key })
@@ -171,10 +171,10 @@ module _ (xs ys : List Node) (c : ℕ) (y : Node) (spare spare' epoch room faile
   pub arrives : Brings f g c
   arrives = brings_root xs ys c y spare spare' epoch room failed failed' bad bad' met met' h sound low fit paths
 
-  pub named_now : IsNamed g top leaf.key c
+  pub named_now : IsRootOf g top leaf.key c
   named_now = named_by ys spare' epoch room failed' bad' met' low top leaf.key c at_owner (stands xs ys c y spare spare' epoch room failed failed' bad bad' met met' h sound) (root xs ys c y spare spare' epoch room failed failed' bad bad' met met' h sound) (ap root_of top_now ∙ named.root)
 
-  pub only_now : (t k : ℕ) → IsNamed g t k c → (t ≡ top) × (k ≡ leaf.key)
+  pub only_now : (t k : ℕ) → IsRootOf g t k c → (t ≡ top) × (k ≡ leaf.key)
   only_now t k is =
       let same : Some (record { root = t; key = k }) ≡ Some (record { root = top; key = leaf.key }) = sym (owner_named ys spare' epoch room failed' bad' met' low arrives.sound t k c is) ∙ at_owner in
       owners_one t k top leaf.key same

@@ -3,8 +3,7 @@ use Rattle.std.proofs.Common.{◌≡◌, ℕ, ◌<◌, true, false, ◌||◌, ar
 use Rattle.std.proofs.lemmas.Bool.{or_cases}
 use Rattle.std.proofs.lemmas.Bool.Decides.{nat_tests}
 use Rattle.h2_ref.specs.declared.faults.Why.{Why}
-use Rattle.h2_set.specs.Forest.{Forest, IsSound}
-use Rattle.h2_inode.specs.Nodes.{IsNamed}
+use Rattle.h2_set.specs.Forest.{Forest, IsSound, IsRootOf}
 use Rattle.h2_memory_sets.specs.declared.node.Node.{Node}
 use Rattle.h2_memory_sets.specs.declared.node.Owner.{Owner}
 use Rattle.h2_memory_sets.specs.Owners.{owner_of, is_owner, belongs_to}
@@ -19,7 +18,7 @@ module _ (xs : List Node) (spare epoch room failed bad : ℕ) (met : Option (ℕ
   f = forest_with xs spare epoch room failed bad met
 
   -- a root that the leaf names belongs to the leaf, to what that belongs to, and to nothing else
-  pub named_by : (top key c : ℕ) → owner_of (slice_get xs c) ≡ Some (record { root = top; key = key }) → f.stands c ≡ true → f.root c ≡ c → f.root top ≡ top → IsNamed f top key c
+  pub named_by : (top key c : ℕ) → owner_of (slice_get xs c) ≡ Some (record { root = top; key = key }) → f.stands c ≡ true → f.root c ≡ c → f.root top ≡ top → IsRootOf f top key c
   named_by top key c owner st own top_own = record {
     stands = st;
     root = own;
@@ -40,7 +39,7 @@ module _ (xs : List Node) (spare epoch room failed bad : ℕ) (met : Option (ℕ
       back t k (inr b) there = or_second (is_owner t k (record { root = top; key = key })) _ (sym there ∙ b)
 
   -- a root that the leaf names has it as its owner
-  pub owner_named : IsSound f → (top key c : ℕ) → IsNamed f top key c → owner_of (slice_get xs c) ≡ Some (record { root = top; key = key })
+  pub owner_named : IsSound f → (top key c : ℕ) → IsRootOf f top key c → owner_of (slice_get xs c) ≡ Some (record { root = top; key = key })
   owner_named sound top key c is = go (owner_of (slice_get xs c)) refl
     where
       belongs : belongs_to xs c top key ≡ true

@@ -6,13 +6,13 @@ use Rattle.std.proofs.lemmas.List.Quantifiers.{position-Some}
 use Rattle.std.proofs.lemmas.Option.{slice_get-get_or}
 use Rattle.h2_ref.specs.declared.faults.Why.{Why}
 use Rattle.h2_ref.specs.declared.reference.Ref.{Ref}
-use Rattle.h2_set.specs.Forest.{Forest, IsSound}
+use Rattle.h2_set.specs.Forest.{Forest, IsSound, IsRootOf}
 use Rattle.h2_set.specs.Calls.{KeepsBeside, Same}
 use Rattle.h2_set.specs.StayLaws.{InPlace-refl}
 use Rattle.h2_inode.specs.declared.inode.Inode.{Inode}
 use Rattle.h2_inode.specs.Inode.{IsInode}
 use Rattle.h2_inode.specs.NamedLaws.{inode_one}
-use Rattle.h2_inode.specs.Nodes.{IsInodeLeaf, IsUnloaded, IsNamed, Seeks, HasInode, held_by}
+use Rattle.h2_inode.specs.Nodes.{IsInodeLeaf, IsUnloaded, Seeks, HasInode, held_by}
 use Rattle.h2_memory_sets.specs.declared.node.Node.{Node}
 use Rattle.h2_memory_sets.specs.declared.node.Owner.{Owner}
 use Rattle.h2_memory_sets.specs.Inodes.{owned_by, is_sought, sought, fields_seen, IsSought}
@@ -155,7 +155,7 @@ module _ (xs : List Node) (spare epoch room failed bad : ℕ) (met : Option (ℕ
     known : (v : Inode) × (node.inode ≡ Some v)
     known = known_inode node.inode ((kept.owner c node o at_there owned).known on)
 
-    one : (d : ℕ) → IsNamed f top leaf.key d → c ≡ d
+    one : (d : ℕ) → IsRootOf f top leaf.key d → c ≡ d
     one d is = go (slice_get xs d) refl
       where
         own_d : owner_of (slice_get xs d) ≡ Some o

@@ -3,14 +3,14 @@ use Rattle.std.proofs.Common.{◌≡◌, ℕ, true, false, refl, sym, ◌∙◌,
 use Rattle.std.specs.Prelude.{◌⊎◌}
 use Rattle.h2_ref.specs.declared.reference.Ref.{Ref}
 use Rattle.h2_set.specs.RefSet.{RefSet}
-use Rattle.h2_set.specs.Forest.{Forest, refs, loaded, IsSound, KeepsLeaves, Reaches}
+use Rattle.h2_set.specs.Forest.{Forest, refs, loaded, IsSound, KeepsLeaves, Reaches, IsRootOf}
 use Rattle.h2_set.specs.Calls.{AllRenewed, Alike, InPlace, Stays, Renews, KeepsBeside, OnWay, inside, across}
 use Rattle.h2_set.specs.StayLaws.{Alike-refl, InPlace-trans, Same-Stays, leaves_stay, leaves_stay_all, stands_below}
 use Rattle.h2_set.specs.PathLaws.{reaches_stay}
 use Rattle.h2_tree.specs.Changes.{Descends, arrived, onward, ChangesOnly, GoesAway, below_it, named, Removes}
 use Rattle.h2_tree.specs.RootLaws.{inserted_roots, removed_roots, removed_place}
 use Rattle.h2_inode.specs.declared.inode.Inode.{Inode}
-use Rattle.h2_inode.specs.Nodes.{Fields, Told, held_by, HasInode, IsNamed}
+use Rattle.h2_inode.specs.Nodes.{Fields, Told, held_by, HasInode}
 use Rattle.h2_inode.specs.Loaded.{view_of}
 use Rattle.h2_inode.specs.NodeLaws.{named_stays, named_back, inode_held}
 use Rattle.h2_pfs.specs.Others.{BelongsToNone, KeepsOtherTrees}
@@ -124,11 +124,11 @@ tree_inode fields f g old new c i same rules beside has =
     inode_held f g (held_by fields old) (held_by fields new) c i same.place rules.leaf_bits rules.allows same.set (ap fields (beside.same c has.stands same.place.stands)) has
 
 -- no other root that a leaf of another tree names is the super-root, or goes with a leaf of the super-root's tree
-named_apart : (f : Forest) (top c key d : ℕ) → IsSound f → BelongsToNone f top → f.root top ≡ top → IsNamed f c key d → f.root d ≡ f.root top → ⊥
+named_apart : (f : Forest) (top c key d : ℕ) → IsSound f → BelongsToNone f top → f.root top ≡ top → IsRootOf f c key d → f.root d ≡ f.root top → ⊥
 named_apart f top c key d sound none root is same =
     none c key (subst (λ m. f.belongs m c key ≡ true) (sym is.root ∙ same ∙ root) ((is.belongs c key).1 (inl (refl, refl))))
 
-pub named_left : (f : Forest) (top key c k d : ℕ) → (c ≡ top → ⊥) → (f.belongs c top key ≡ true → ⊥) → IsNamed f c k d → f.belongs d top key ≡ true → ⊥
+pub named_left : (f : Forest) (top key c k d : ℕ) → (c ≡ top → ⊥) → (f.belongs c top key ≡ true → ⊥) → IsRootOf f c k d → f.belongs d top key ≡ true → ⊥
 named_left f top key c k d other left is belongs =
     elim ((is.belongs top key).0 belongs) as (λ _. ⊥) [ inl same ↦ other (sym same.0) | inr own ↦ left own ]
 
@@ -166,10 +166,10 @@ removes_others fields f g old new was now top leaf sound stands_top root_top bes
     not_away h n goes.place leaf m (λ e. other (sym root_m ∙ e ∙ at)) (λ e. left (sym (first.place.belongs top leaf.key) ∙ sym (same top leaf.key) ∙ subst (λ t. h.belongs m t leaf.key ≡ true) at e)) away in
     let second = changed_tree h g n top c (GoesAway h n goes.place leaf) walks.sound rem.sound goes.only at bare first.place.stands (first.place.root ∙ root) other here in
     let tree = tree_trans f h g c first second in
-    let before = λ (key d : ℕ) (is : IsNamed g c key d).
+    let before = λ (key d : ℕ) (is : IsRootOf g c key d).
     let stood = removed_roots f g top leaf rem d is.stands is.root in
     named_back f g c key d tree.place stood (removed_place f g top leaf rem d stood is.stands) is in
-    let below = λ (key d : ℕ) (is : IsNamed f c key d).
+    let below = λ (key d : ℕ) (is : IsRootOf f c key d).
     (rem.above d is.stands (named_apart f top c key d sound none root_top is) (λ e. named_left f top leaf.key c key d other left is (subst (λ t. f.belongs d t leaf.key ≡ true) root_top e))).place in
     record {
       place = tree.place;
@@ -183,9 +183,9 @@ removes_others fields f g old new was now top leaf sound stands_top root_top bes
 -- A PFS comes
 
 -- a root that a leaf of another tree names isn't the one that was planted
-put_before : (f g : Forest) (top own c key d : ℕ) → {new : ℕ} → ((t k : ℕ) → IsNamed g t k new → (t ≡ top) × (k ≡ own)) → ((m : ℕ) → g.stands m ≡ true → (m ≡ new) ⊎ (f.stands m ≡ true)) → (c ≡ top → ⊥) → IsNamed g c key d → f.stands d ≡ true
+put_before : (f g : Forest) (top own c key d : ℕ) → {new : ℕ} → ((t k : ℕ) → IsRootOf g t k new → (t ≡ top) × (k ≡ own)) → ((m : ℕ) → g.stands m ≡ true → (m ≡ new) ⊎ (f.stands m ≡ true)) → (c ≡ top → ⊥) → IsRootOf g c key d → f.stands d ≡ true
 put_before f g top own c key d only came other is = elim (came d is.stands) as (λ _. f.stands d ≡ true) [
-  | inl e ↦ absurd (other (only c key (subst (λ m. IsNamed g c key m) e is)).0)
+  | inl e ↦ absurd (other (only c key (subst (λ m. IsRootOf g c key m) e is)).0)
   | inr stood ↦ stood
 ]
 
@@ -209,7 +209,7 @@ founds_others fields f g old new was now top leaf inode sound stands_top root_to
     let fourth = all_tree it.put g c it.inserts.sound (λ m st. Same-Stays it.put g m (it.plants.brings.same m st)) third.place.stands (it.plants.brings.same c third.place.stands).set in
     let tree = tree_trans f it.put g c (tree_trans f b it.put c two third) fourth in
     let new_fields = held_by fields new in
-    let before = λ (key d : ℕ) (is : IsNamed g c key d).
+    let before = λ (key d : ℕ) (is : IsRootOf g c key d).
     let in_put = put_before it.put g top leaf.key c key d it.plants.only it.plants.brings.new other is in
     let in_put_root = sym (it.plants.brings.same d in_put).place.root ∙ is.root in
     let in_a = inserted_roots a it.put top leaf None it.readies.sound top_a.stands it.inserts d in_put in_put_root in

@@ -5,10 +5,10 @@ use Rattle.std.specs.Cmp.Lexicographic.{pointwise}
 use Rattle.std.proofs.lemmas.Slice.Eq.{bytes_eq-Decides}
 use Rattle.std.proofs.lemmas.Option.{none-some}
 use Rattle.h2_ref.specs.declared.reference.Ref.{Ref}
-use Rattle.h2_set.specs.Forest.{Forest, IsSound, Reaches}
+use Rattle.h2_set.specs.Forest.{Forest, IsSound, Reaches, IsRootOf}
 use Rattle.h2_set.specs.Calls.{KeepsBeside}
 use Rattle.h2_tree.specs.Changes.{IsFree}
-use Rattle.h2_inode.specs.Nodes.{Fields, held_by, HasInode, IsNamed, Visits}
+use Rattle.h2_inode.specs.Nodes.{Fields, held_by, HasInode, Visits}
 use Rattle.h2_inode.specs.VisitLaws.{visits_name, visits_inode}
 use Rattle.h2_inode.specs.Access.{OneByOne}
 use Rattle.h2_inode.specs.PfsList.{ListedPfs}
@@ -51,7 +51,7 @@ found_free fields f g old new top id name sound visits beside stands none it m s
         let stood = (sound.held m held_f).0 in
         let other = none m id held_f (sym ((visits.stays m stood).place.belongs top id) ∙ belongs) in
         let named = visits_name f g top id other.node visits stands other.named in
-        let at = it.met.only other.node (subst (λ k. IsNamed g top k other.node) (sym it.key) named) in
+        let at = it.met.only other.node (subst (λ k. IsRootOf g top k other.node) (sym it.key) named) in
         let has = visits_inode fields f g old new other.node other.inode visits beside other.has in
         let there = subst (λ n. HasInode g (held_by fields new) n other.inode) at has in
         let same = ap (λ (x : Fields). x.name) (same_fields g (held_by fields new) it.met.node other.inode it.met.inode there it.met.has) in

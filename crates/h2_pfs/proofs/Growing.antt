@@ -2,9 +2,9 @@
 use Rattle.std.proofs.Common.{◌≡◌, ◌≤◌, ◌+◌, ◌^◌, arith, refl, ◌∙◌, ℕ, List, [], ◌∷◌, ◌++◌, Option, Some, take, slice_get}
 use Rattle.h2_ref.specs.declared.reference.Ref.{Ref}
 use Rattle.h2_set.specs.Ranges.{Rising}
-use Rattle.h2_set.specs.Forest.{Forest}
+use Rattle.h2_set.specs.Forest.{Forest, IsRootOf}
 use Rattle.h2_set.specs.Calls.{KeepsBeside}
-use Rattle.h2_inode.specs.Nodes.{Fields, Told, fields_of, held_by, IsInodeLeaf, IsNamed, Seeks, Visits}
+use Rattle.h2_inode.specs.Nodes.{Fields, Told, fields_of, held_by, IsInodeLeaf, Seeks, Visits}
 use Rattle.h2_inode.specs.Access.{OneByOne}
 use Rattle.h2_inode.specs.PfsList.{ListedPfs}
 use Rattle.h2_pfs.specs.Meets.{MetBy}
@@ -13,7 +13,7 @@ use Rattle.h2_pfs.proofs.Visiting.{seeks_named, seeks_met, tells_before}
 
 -- no root is named by the leaves from this place on that wasn't before
 abbrev pub NamesNoMore : Forest → Forest → ℕ → List Ref → ℕ → Type 0
-NamesNoMore f g top leaves i = (j c : ℕ) (r : Ref) → i ≤ j → slice_get leaves j ≡ Some r → IsNamed g top r.key c → IsNamed f top r.key c
+NamesNoMore f g top leaves i = (j c : ℕ) (r : Ref) → i ≤ j → slice_get leaves j ≡ Some r → IsRootOf g top r.key c → IsRootOf f top r.key c
 
 pub front_met : {B : Type 0} (fields : B → Option Fields) (f h k : Forest) (old mid new : ℕ → B) (was then : Ref → Option Told) (top i c : ℕ) (leaves : List Ref) (pfss : List ListedPfs) (r : Ref) (p : ListedPfs) → Rising 0 (2 ^ 64) leaves → slice_get leaves i ≡ Some r → IsInodeLeaf f top r → Visits f h → KeepsBeside f h old mid → ((r : Ref) (x : Told) → was r ≡ Some x → then r ≡ Some x) → NamesNoMore f h top leaves i → Seeks h k top r.key c → KeepsBeside h k mid new → OneByOne (MetBy f h (held_by fields old) (held_by fields mid) was top) (take i leaves) pfss → MetBy h k (held_by fields mid) (held_by fields new) then top r p → OneByOne (MetBy f k (held_by fields old) (held_by fields new) was top) (take (i + 1) leaves) (pfss ++ p ∷ [])
 front_met fields f h k old mid new was then top i c leaves pfss r p rising read leaf visits beside told named seek beside_too all met =

@@ -2,9 +2,9 @@
 use Rattle.std.proofs.Common.{◌≡◌, ◌⊎◌, ◌<◌, ℕ, true, false, arith, refl, sym, ◌∙◌, subst, inl, inr, List, [], ◌∷◌, length}
 use Rattle.std.proofs.lemmas.Bool.{cases_Bool}
 use Rattle.h2_ref.specs.declared.reference.Ref.{Ref}
-use Rattle.h2_set.specs.Forest.{Forest, IsSound}
+use Rattle.h2_set.specs.Forest.{Forest, IsSound, IsRootOf}
 use Rattle.h2_tree.specs.Changes.{LoadsIn}
-use Rattle.h2_inode.specs.Nodes.{IsInodeLeaf, IsNamed, Seeks, Visits}
+use Rattle.h2_inode.specs.Nodes.{IsInodeLeaf, Seeks, Visits}
 use Rattle.h2_inode.specs.VisitLaws.{seeks_visit, visits_leaf, visits_name}
 use Rattle.h2_pfs.specs.Meets.{AreLeaves, IsNamedRoot, LoadsPfss}
 
@@ -20,7 +20,7 @@ tree_loads f g top from to root h = record { only = λ m gone stands. inl (h.tre
 pub seek_loads : (f g : Forest) (top c : ℕ) (leaf : Ref) → IsSound f → IsInodeLeaf f top leaf → Seeks f g top leaf.key c → LoadsPfss f g top
 seek_loads f g top c leaf sound is h = record {
   only = λ m gone stands. elim (h.brings.new m stands) as (λ _. (g.root m ≡ top) ⊎ IsNamedRoot g top m) [
-    | inl e ↦ inr (leaf, visits_leaf f g top leaf sound (seeks_visit f g top leaf.key c h) is, subst (λ n. IsNamed g top leaf.key n) (sym e) h.named)
+    | inl e ↦ inr (leaf, visits_leaf f g top leaf sound (seeks_visit f g top leaf.key c h) is, subst (λ n. IsRootOf g top leaf.key n) (sym e) h.named)
     | inr stood ↦ let clash : true ≡ false = sym stood ∙ gone in absurd (cc)
   ];
 }

@@ -4,14 +4,14 @@ use Rattle.std.specs.Prelude.{◌↔◌}
 use Rattle.h2_ref.specs.declared.reference.Kind.TheVariants.{Inode as Inode_kind}
 use Rattle.h2_ref.specs.declared.reference.Ref.{Ref}
 use Rattle.h2_set.specs.RefSet.{RefSet}
-use Rattle.h2_set.specs.Forest.{Forest, refs, IsSound}
+use Rattle.h2_set.specs.Forest.{Forest, refs, IsSound, IsRootOf}
 use Rattle.h2_set.specs.Calls.{AllRenewed, Fixed, InPlace, Renews, KeepsBeside}
 use Rattle.h2_inode.specs.declared.kind.InodeKind.{InodeKind}
 use Rattle.h2_inode.specs.declared.kind.InodeKind.TheVariants.{Pfs as Pfs_kind}
 use Rattle.h2_inode.specs.declared.inode.Body.{Body}
 use Rattle.h2_inode.specs.declared.inode.Body.TheVariants.{Refs, Bytes}
 use Rattle.h2_inode.specs.declared.inode.Inode.{Inode}
-use Rattle.h2_inode.specs.Nodes.{Fields, Told, held_by, fields_of, bytes_of, set_of, IsTreeOf, HasInode, IsNamed, MayHave}
+use Rattle.h2_inode.specs.Nodes.{Fields, Told, held_by, fields_of, bytes_of, set_of, IsTreeOf, HasInode, MayHave}
 use Rattle.h2_inode.specs.NodeLaws.{named_stays}
 use Rattle.h2_inode.specs.Access.{OneByOne}
 use Rattle.h2_inode.specs.Loaded.{loaded_nodes, at_root, no_content}
@@ -22,7 +22,7 @@ use Rattle.h2_pfs.specs.Meets.{IsMet}
 pub record IsLoadedPfs (f : Forest) (holds : ℕ → Option Fields) (top : ℕ) (r : Ref) (p : ListedPfs) : Type 0 where
   pub kind_is : r.kind ≡ Inode_kind
   pub node : ℕ
-  pub named : IsNamed f top r.key node
+  pub named : IsRootOf f top r.key node
   pub inode : Inode
   pub has : HasInode f holds node inode
   pub pfs_is : inode.kind ≡ Pfs_kind

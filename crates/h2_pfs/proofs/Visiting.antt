@@ -2,12 +2,12 @@
 use Rattle.std.proofs.Common.{◌≡◌, ℕ, ◌⊎◌, inl, inr, Bool, true, false, refl, sym, ◌∙◌, ap, subst, Option, Some}
 use Rattle.std.specs.Prelude.{◌↔◌}
 use Rattle.h2_ref.specs.declared.reference.Ref.{Ref}
-use Rattle.h2_set.specs.Forest.{Forest, IsSound}
+use Rattle.h2_set.specs.Forest.{Forest, IsSound, IsRootOf}
 use Rattle.h2_set.specs.Calls.{InPlace, Walks, KeepsBeside}
 use Rattle.h2_set.specs.StayLaws.{Walks-refl}
 use Rattle.h2_tree.specs.Changes.{LoadsTouched}
 use Rattle.h2_inode.specs.declared.inode.Inode.{Inode}
-use Rattle.h2_inode.specs.Nodes.{Fields, Told, held_by, fields_of, HasInode, IsInodeLeaf, IsNamed, IsUnloaded, IsAsTold, Seeks, Visits}
+use Rattle.h2_inode.specs.Nodes.{Fields, Told, held_by, fields_of, HasInode, IsInodeLeaf, IsUnloaded, IsAsTold, Seeks, Visits}
 use Rattle.h2_inode.specs.VisitLaws.{walks_visit, seeks_visit, visits_name, visits_inode, visits_leaf}
 use Rattle.h2_inode.specs.Loaded.{Tree, at_root, NamesInode}
 use Rattle.h2_inode.specs.PfsList.{ListedPfs}
@@ -18,11 +18,11 @@ own_root : (f : Forest) (top key : ℕ) → IsSound f → f.stands top ≡ true 
 own_root f top key sound stands root belongs = (sound.owner top top key stands belongs).other root
 
 -- a root that a leaf names belongs to it
-belongs_to : (f : Forest) (top key c : ℕ) → IsNamed f top key c → f.belongs c top key ≡ true
+belongs_to : (f : Forest) (top key c : ℕ) → IsRootOf f top key c → f.belongs c top key ≡ true
 belongs_to f top key c named = (named.belongs top key).1 (inl (refl, refl))
 
 -- which leaf names a root was so before, where both roots stood
-named_before : (f g : Forest) (top key c : ℕ) → InPlace f g top → InPlace f g c → f.stands c ≡ true → IsNamed g top key c → IsNamed f top key c
+named_before : (f g : Forest) (top key c : ℕ) → InPlace f g top → InPlace f g c → f.stands c ≡ true → IsRootOf g top key c → IsRootOf f top key c
 named_before f g top key c above here stands h = record {
   stands = stands;
   root = sym here.root ∙ h.root;
@@ -32,9 +32,9 @@ named_before f g top key c above here stands h = record {
 }
 
 -- the load of one inode names no root for another leaf
-pub seeks_named : (f g : Forest) (top key other c d : ℕ) → f.stands top ≡ true → f.root top ≡ top → Seeks f g top key c → (other ≡ key → ⊥) → IsNamed g top other d → IsNamed f top other d
+pub seeks_named : (f g : Forest) (top key other c d : ℕ) → f.stands top ≡ true → f.root top ≡ top → Seeks f g top key c → (other ≡ key → ⊥) → IsRootOf g top other d → IsRootOf f top other d
 seeks_named f g top key other c d stands root h differs named =
-    elim (h.brings.new d named.stands) as (λ _. IsNamed f top other d) [
+    elim (h.brings.new d named.stands) as (λ _. IsRootOf f top other d) [
       | inr stood ↦ named_before f g top other d (h.brings.same top stands).place (h.brings.same d stood).place stood named
       | inl is_new ↦ absurd (elim ((h.named.belongs top other).0 (subst (λ m. g.belongs m top other ≡ true) is_new (belongs_to g top other d named))) as (λ _. ⊥) [
         | inl same ↦ differs same.1
@@ -43,13 +43,13 @@ seeks_named f g top key other c d stands root h differs named =
     ]
 
 -- loads of indirect blocks name no root
-pub walks_named : (f g : Forest) (top key from to d : ℕ) → f.stands top ≡ true → Walks f g → LoadsTouched f g from to → IsNamed g top key d → IsNamed f top key d
+pub walks_named : (f g : Forest) (top key from to d : ℕ) → f.stands top ≡ true → Walks f g → LoadsTouched f g from to → IsRootOf g top key d → IsRootOf f top key d
 walks_named f g top key from to d stands walks touched named =
     let stood = walks.roots d named.stands named.root in
     named_before f g top key d (walks.stays top stands).place (walks.stays d stood).place stood named
 
 -- what is known of the inode that a leaf names stays so, where no new root is named by the leaf
-pub known_stays : {B : Type 0} (fields : B → Option Fields) (f g : Forest) (old new : ℕ → B) (was now : Ref → Option Told) (top : ℕ) (r : Ref) (i : Inode) (t : Tree) → Visits f g → KeepsBeside f g old new → f.stands top ≡ true → ((r : Ref) (x : Told) → was r ≡ Some x → now r ≡ Some x) → ((d : ℕ) → IsNamed g top r.key d → IsNamed f top r.key d) → NamesInode f (held_by fields old) was (at_root top) r i t → NamesInode g (held_by fields new) now (at_root top) r i t
+pub known_stays : {B : Type 0} (fields : B → Option Fields) (f g : Forest) (old new : ℕ → B) (was now : Ref → Option Told) (top : ℕ) (r : Ref) (i : Inode) (t : Tree) → Visits f g → KeepsBeside f g old new → f.stands top ≡ true → ((r : Ref) (x : Told) → was r ≡ Some x → now r ≡ Some x) → ((d : ℕ) → IsRootOf g top r.key d → IsRootOf f top r.key d) → NamesInode f (held_by fields old) was (at_root top) r i t → NamesInode g (held_by fields new) now (at_root top) r i t
 known_stays fields f g old new was now top r i t visits beside stands told back known =
     elim known as (λ _. NamesInode g (held_by fields new) now (at_root top) r i t) [
       | inl near ↦ inl (near.0, visits_name f g top r.key near.0 visits stands near.1, visits_inode fields f g old new near.0 i visits beside near.2, near.3)
@@ -65,7 +65,7 @@ walks_known fields f g old new was now top from to r i t h touched beside stands
     known_stays fields f g old new was now top r i t (walks_visit f g h) beside stands told (λ d named. walks_named f g top r.key from to d stands h touched named) known
 
 -- a PFS that was met stays so, where no new root is named by the leaf
-abbrev pub met_stays : {B : Type 0} (fields : B → Option Fields) (f g : Forest) (old new : ℕ → B) (top : ℕ) (r : Ref) (p : ListedPfs) → IsSound f → Visits f g → KeepsBeside f g old new → f.stands top ≡ true → ((d : ℕ) → IsNamed g top r.key d → IsNamed f top r.key d) → IsMet f (held_by fields old) top r p → IsMet g (held_by fields new) top r p
+abbrev pub met_stays : {B : Type 0} (fields : B → Option Fields) (f g : Forest) (old new : ℕ → B) (top : ℕ) (r : Ref) (p : ListedPfs) → IsSound f → Visits f g → KeepsBeside f g old new → f.stands top ≡ true → ((d : ℕ) → IsRootOf g top r.key d → IsRootOf f top r.key d) → IsMet f (held_by fields old) top r p → IsMet g (held_by fields new) top r p
 met_stays fields f g old new top r p sound visits beside stands back met = record {
   leaf = visits_leaf f g top r sound visits met.leaf;
   node = met.node;
@@ -97,7 +97,7 @@ same_fields f holds c i j a b =
     one_fields x y e = (cc)
 
 -- the load of an inode leaves one root that its leaf names
-pub seeks_only : (f g : Forest) (top key c d : ℕ) → f.stands top ≡ true → Seeks f g top key c → IsNamed g top key d → d ≡ c
+pub seeks_only : (f g : Forest) (top key c d : ℕ) → f.stands top ≡ true → Seeks f g top key c → IsRootOf g top key d → d ≡ c
 seeks_only f g top key c d stands h named =
     elim (h.brings.new d named.stands) as (λ _. d ≡ c) [
       | inl is_new ↦ is_new
@@ -151,6 +151,6 @@ pub visits_same : (f : Forest) → IsSound f → Visits f f
 visits_same f sound = walks_visit f f (Walks-refl f sound)
 
 -- the fields that are told by what is known later are those of what was known before
-pub tells_before : {B : Type 0} (fields : B → Option Fields) (f g : Forest) (old new : ℕ → B) (was now : Ref → Option Told) (top : ℕ) (r : Ref) (x : Fields) → Visits f g → KeepsBeside f g old new → f.stands top ≡ true → ((r : Ref) (x : Told) → was r ≡ Some x → now r ≡ Some x) → ((d : ℕ) → IsNamed g top r.key d → IsNamed f top r.key d) → TellsFields g (held_by fields new) now top r x → TellsFields f (held_by fields old) was top r x
+pub tells_before : {B : Type 0} (fields : B → Option Fields) (f g : Forest) (old new : ℕ → B) (was now : Ref → Option Told) (top : ℕ) (r : Ref) (x : Fields) → Visits f g → KeepsBeside f g old new → f.stands top ≡ true → ((r : Ref) (x : Told) → was r ≡ Some x → now r ≡ Some x) → ((d : ℕ) → IsRootOf g top r.key d → IsRootOf f top r.key d) → TellsFields g (held_by fields new) now top r x → TellsFields f (held_by fields old) was top r x
 tells_before fields f g old new was now top r x visits beside stands told back tells i t known =
     tells i t (known_stays fields f g old new was now top r i t visits beside stands told back known)

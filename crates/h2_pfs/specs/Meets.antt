@@ -2,10 +2,10 @@
 use Rattle.std.specs.Prelude.{◌≡◌, ◌⊎◌, ℕ, ◌-◌, ◌^◌, true, false, List, Option, Some, slice_get}
 use Rattle.h2_ref.specs.declared.reference.Ref.{Ref}
 use Rattle.h2_set.specs.Ranges.{Rising}
-use Rattle.h2_set.specs.Forest.{Forest}
+use Rattle.h2_set.specs.Forest.{Forest, IsRootOf}
 use Rattle.h2_tree.specs.Changes.{Lists}
 use Rattle.h2_inode.specs.declared.inode.Inode.{Inode}
-use Rattle.h2_inode.specs.Nodes.{Fields, Told, fields_of, HasInode, IsInodeLeaf, IsNamed, IsUnloaded}
+use Rattle.h2_inode.specs.Nodes.{Fields, Told, fields_of, HasInode, IsInodeLeaf, IsUnloaded}
 use Rattle.h2_inode.specs.Access.{OneByOne}
 use Rattle.h2_inode.specs.Loaded.{Tree, at_root, NamesInode}
 use Rattle.h2_inode.specs.PfsList.{ListedPfs}
@@ -15,9 +15,9 @@ use Rattle.h2_pfs.specs.Listing.{id_of}
 pub record IsMet (f : Forest) (holds : ℕ → Option Fields) (top : ℕ) (r : Ref) (p : ListedPfs) : Type 0 where
   pub leaf : IsInodeLeaf f top r
   pub node : ℕ
-  pub named : IsNamed f top r.key node
+  pub named : IsRootOf f top r.key node
   -- the leaf names no other root
-  pub only : (c : ℕ) → IsNamed f top r.key c → c ≡ node
+  pub only : (c : ℕ) → IsRootOf f top r.key c → c ≡ node
   pub inode : Inode
   pub has : HasInode f holds node inode
   pub numbered : inode.number ≡ r.key
@@ -62,7 +62,7 @@ MetBy f g old new tells top r p = (met : IsMet g new top r p) × TellsFields f o
 
 -- root m is that of an inode that a leaf of the tree names
 abbrev pub IsNamedRoot : Forest → ℕ → ℕ → Type 0
-IsNamedRoot f top m = (leaf : Ref) × IsInodeLeaf f top leaf × IsNamed f top leaf.key m
+IsNamedRoot f top m = (leaf : Ref) × IsInodeLeaf f top leaf × IsRootOf f top leaf.key m
 
 -- each node that was loaded is of the super-root's tree, or the root of an inode that a leaf of it names
 pub record LoadsPfss (f g : Forest) (top : ℕ) : Type 0 where

@@ -1,11 +1,11 @@
 -- How a PFS is removed.
 use Rattle.std.specs.Prelude.{◌≡◌, ℕ, true, false, List, Option, Some, None}
 use Rattle.h2_ref.specs.declared.reference.Ref.{Ref}
-use Rattle.h2_set.specs.Forest.{Forest, Reaches}
+use Rattle.h2_set.specs.Forest.{Forest, Reaches, IsRootOf}
 use Rattle.h2_set.specs.Calls.{KeepsBeside}
 use Rattle.h2_tree.specs.Changes.{Removes, KeepsPaths}
 use Rattle.h2_inode.specs.declared.inode.Inode.{Inode}
-use Rattle.h2_inode.specs.Nodes.{Fields, Told, HasInode, IsNamed, Visits}
+use Rattle.h2_inode.specs.Nodes.{Fields, Told, HasInode, Visits}
 use Rattle.h2_inode.specs.PfsList.{ListedPfs}
 use Rattle.h2_inode.specs.Loaded.{StandsAlike}
 use Rattle.h2_pfs.specs.Listing.{id_of, without_id, HasPfss}
@@ -15,7 +15,7 @@ use Rattle.h2_pfs.specs.Others.{KeepsOtherTrees}
 -- the leaf with this key names a PFS that is loaded and has another name
 pub record HasOtherName (f : Forest) (holds : ℕ → Option Fields) (top key : ℕ) (name : List ℕ) : Type 0 where
   pub node : ℕ
-  pub named : IsNamed f top key node
+  pub named : IsRootOf f top key node
   pub inode : Inode
   pub has : HasInode f holds node inode
   pub other : inode.name ≡ name → ⊥

@@ -1,7 +1,7 @@
 use Rattle.std.proofs.Common.{ℕ, List, sym, ◌∙◌, rules}
 use Rattle.std.proofs.lemmas.Option.{none-some}
 use Rattle.h2_set.specs.Calls.{IsBad}
-use Rattle.h2_dir.specs.Names.{IsNamed}
+use Rattle.h2_dir.specs.Names.{IsEntryNamed}
 use Rattle.h2_dir.proofs.Known.{no_bad_name}
 use Rattle.h2_set.specs.MetLaws.{MeetsNone-refl, handed_none_met}
 use Rattle.h2_dir.proofs.listing.entry_of.Goals as goal
@@ -19,7 +19,7 @@ pub returns-in_err-told-clause-good : goal.returns-in_err-told-clause-good
 returns-in_err-told-clause-good g c =
     let f = g.N.Sets.forest c.args.n.now in
     let entry = c.requires.leaf.entry in
-    let good : (own : List ℕ) → IsNamed f c.args.leaf.now own → IsBad c.in_err-told.field-0.0 → ⊥ = λ own named bad. no_bad_name f c.args.leaf.now entry own c.in_err-told.field-0.0 c.requires.leaf.entry_is (λ short. c.in_err-told.ensures.unread entry c.requires.leaf.entry_is short) c.in_err-told.ensures.good named bad in
+    let good : (own : List ℕ) → IsEntryNamed f c.args.leaf.now own → IsBad c.in_err-told.field-0.0 → ⊥ = λ own named bad. no_bad_name f c.args.leaf.now entry own c.in_err-told.field-0.0 c.requires.leaf.entry_is (λ short. c.in_err-told.ensures.unread entry c.requires.leaf.entry_is short) c.in_err-told.ensures.good named bad in
     search (good, rules)
 
 pub returns-in_err-told-clause-none_met_refused : goal.returns-in_err-told-clause-none_met_refused

@@ -1,6 +1,6 @@
 use Rattle.std.proofs.Common.{ℕ, List, rules}
 use Rattle.h2_set.specs.Calls.{IsBad}
-use Rattle.h2_dir.specs.Names.{IsNamed}
+use Rattle.h2_dir.specs.Names.{IsEntryNamed}
 use Rattle.h2_dir.proofs.Known.{no_bad_name}
 use Rattle.h2_set.specs.MetLaws.{MeetsNone-refl, handed_none_met}
 use Rattle.h2_dir.proofs.naming.has_name.Goals as goal
@@ -10,7 +10,7 @@ returns-in_err-told-clause-good g c =
     let f = g.N.Sets.forest c.args.n.now in
     let e = c.in_err-told.field-0.0 in
     let entry = c.in-Some.entry in
-    let good : (own : List ℕ) → IsNamed f c.args.leaf.now own → IsBad e → ⊥ = λ own named bad. no_bad_name f c.args.leaf.now entry own e c.in-Some.is (λ short. c.in_err-told.ensures.unread entry c.in-Some.is short) c.in_err-told.ensures.good named bad in
+    let good : (own : List ℕ) → IsEntryNamed f c.args.leaf.now own → IsBad e → ⊥ = λ own named bad. no_bad_name f c.args.leaf.now entry own e c.in-Some.is (λ short. c.in_err-told.ensures.unread entry c.in-Some.is short) c.in_err-told.ensures.good named bad in
     search (good, rules)
 
 pub returns-in_err-told-clause-none_met_refused : goal.returns-in_err-told-clause-none_met_refused

@@ -1,8 +1,8 @@
 use Rattle.std.proofs.Common.{◌≡◌, ◌∷◌, Some, Err, subst, sym, Option, inl, inr}
 use Rattle.h2_ref.specs.declared.reference.Ref.{Ref}
-use Rattle.h2_set.specs.Forest.{Reaches}
+use Rattle.h2_set.specs.Forest.{Reaches, IsRootOf}
 use Rattle.h2_set.specs.Ranges.{find as leaf_with}
-use Rattle.h2_inode.specs.Nodes.{held_by, IsNamed, IsUnloaded, Seeks}
+use Rattle.h2_inode.specs.Nodes.{held_by, IsUnloaded, Seeks}
 use Rattle.h2_inode.specs.VisitLaws.{walks_visit, seeks_visit, unchanged_visits, visits_trans, visits_leaf}
 use Rattle.h2_dir.specs.declared.fault.DirFault.TheVariants as fault
 use Rattle.h2_dir.specs.Walking.{IsMember, StepEnds, LoadsStep, by_inode}
@@ -81,7 +81,7 @@ returns-in-Ok-clause-ends g c =
       leaf = c.in-Some.leaf;
       is_leaf = visits_leaf h k c.args.pfs.0 c.in-Some.leaf walks.sound (seeks_visit _ _ _ _ _ seeks) there.0;
       key_is = there.1;
-      named = subst (λ n. IsNamed k c.args.pfs.0 n c.in_ok-dir.dir.0) there.1 seeks.named;
+      named = subst (λ n. IsRootOf k c.args.pfs.0 n c.in_ok-dir.dir.0) there.1 seeks.named;
       has = has;
     } in
     step_found g.N.Nodes.fields k _ _ _ c.args.pfs.0 c.args.number c.in_ok-dir.dir.0 c.in-Ok._key inode c.args.name.now c.in-Ok.entry seeks.brings.sound (walks_visit _ _ c.in-Ok.ensures.walks) c.in-Ok.ensures.beside member (c.in-Ok.ensures.kind inode has) c.in-Ok.ensures.found
@@ -101,7 +101,7 @@ returns-in-Err-clause-ends g c =
       leaf = c.in-Some.leaf;
       is_leaf = visits_leaf h k c.args.pfs.0 c.in-Some.leaf walks.sound (seeks_visit _ _ _ _ _ seeks) there.0;
       key_is = there.1;
-      named = subst (λ n. IsNamed k c.args.pfs.0 n c.in_ok-dir.dir.0) there.1 seeks.named;
+      named = subst (λ n. IsRootOf k c.args.pfs.0 n c.in_ok-dir.dir.0) there.1 seeks.named;
       has = has;
     } in
     step_fails g.N.Nodes.fields _ k _ _ _ c.args.pfs.0 c.args.number c.in_ok-dir.dir.0 inode c.args.name.now c.in-Err.fault c.requires.sound seeks.brings.sound (visits_trans _ _ _ (walks_visit _ _ walks) (seeks_visit _ _ _ _ _ seeks)) (walks_visit _ _ c.in-Err.ensures.walks) c.in-Err.ensures.beside member (c.in-Err.ensures.err inode has)
@@ -189,7 +189,7 @@ returns-in-Ok-clause-loads g c =
       leaf = c.in-Some.leaf;
       is_leaf = visits_leaf h k c.args.pfs.0 c.in-Some.leaf walks.sound (seeks_visit _ _ _ _ _ seeks) there.0;
       key_is = there.1;
-      named = subst (λ n. IsNamed k c.args.pfs.0 n c.in_ok-dir.dir.0) there.1 seeks.named;
+      named = subst (λ n. IsRootOf k c.args.pfs.0 n c.in_ok-dir.dir.0) there.1 seeks.named;
       has = has;
     } in
     let f = g.N.Sets.forest c.args.n.now in
@@ -213,7 +213,7 @@ returns-in-Err-clause-loads g c =
       leaf = c.in-Some.leaf;
       is_leaf = visits_leaf h k c.args.pfs.0 c.in-Some.leaf walks.sound (seeks_visit _ _ _ _ _ seeks) there.0;
       key_is = there.1;
-      named = subst (λ n. IsNamed k c.args.pfs.0 n c.in_ok-dir.dir.0) there.1 seeks.named;
+      named = subst (λ n. IsRootOf k c.args.pfs.0 n c.in_ok-dir.dir.0) there.1 seeks.named;
       has = has;
     } in
     let f = g.N.Sets.forest c.args.n.now in

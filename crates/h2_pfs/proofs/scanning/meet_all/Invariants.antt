@@ -2,7 +2,8 @@ use Rattle.std.proofs.Common.{◌≡◌, ◌≤◌, ℕ, List, Some, take, slice
 use Rattle.std.specs.Prelude.{map}
 use Rattle.h2_ref.specs.declared.reference.Ref.{Ref}
 use Rattle.h2_set.specs.Calls.{MeetsNone, KeepsBeside}
-use Rattle.h2_inode.specs.Nodes.{held_by, IsNamed, Visits}
+use Rattle.h2_set.specs.Forest.{IsRootOf}
+use Rattle.h2_inode.specs.Nodes.{held_by, Visits}
 use Rattle.h2_inode.specs.Access.{OneByOne}
 use Rattle.h2_inode.specs.Loaded.{StandsAlike, view_of}
 use Rattle.h2_inode.specs.PfsList.{ListedPfs}
@@ -22,5 +23,5 @@ invariant-loop-i g l =
       later : g.N.Sets.later l.fn.n l.n;
       none_met : MeetsNone f now;
       met : (pfss : List ListedPfs) × OneByOne (MetBy f now (held_by g.N.Nodes.fields (g.N.Sets.beside l.fn.n)) (held_by g.N.Nodes.fields (g.N.Sets.beside l.n)) (g.N.Nodes.told l.fn.n) l.root.0) (take l.i l.leaves) pfss × (l.out.items ≡ map met_of pfss);
-      named : (j c : ℕ) (r : Ref) → l.i ≤ j → slice_get l.leaves j ≡ Some r → IsNamed now l.root.0 r.key c → IsNamed f l.root.0 r.key c;
+      named : (j c : ℕ) (r : Ref) → l.i ≤ j → slice_get l.leaves j ≡ Some r → IsRootOf now l.root.0 r.key c → IsRootOf f l.root.0 r.key c;
     }
