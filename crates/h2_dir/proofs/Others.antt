@@ -6,6 +6,7 @@ use Rattle.h2_set.specs.RefSet.{RefSet}
 use Rattle.h2_set.specs.Forest.{Forest, refs, IsSound}
 use Rattle.h2_set.specs.Calls.{InPlace, Fixed, Renews, OnWay, inside, across}
 use Rattle.h2_tree.specs.Changes.{Inserts, Removes, GoesAway, below_it, named}
+use Rattle.h2_tree.specs.OtherTrees.{KeepsOtherLeaves, removed_leaves}
 use Rattle.h2_inode.specs.declared.inode.Inode.{Inode}
 use Rattle.h2_inode.specs.declared.kind.InodeKind.TheVariants.{Directory}
 use Rattle.h2_inode.specs.Nodes.{Fields, HasInode}
@@ -44,6 +45,9 @@ module _ (f g : Forest) (dir : ℕ) (leaf : Ref) (sound : IsSound f) (stands : f
 module _ (f g : Forest) (holds : ℕ → Option Fields) (dir : ℕ) (inode : Inode) (leaf : Ref) (sound : IsSound f) (has : HasInode f holds dir inode) (kind : inode.kind ≡ Directory) (out : Removes f g dir leaf) where
   free : (m : ℕ) → f.stands m ≡ true → f.belongs m dir leaf.key ≡ true → ⊥
   free m there belongs = nothing_belongs f holds dir inode m leaf.key sound has kind there belongs
+
+  pub removed_free : KeepsOtherLeaves f g dir
+  removed_free = removed_leaves f g dir leaf has.stands out (λ m there belongs. free m there (subst (λ n. f.belongs m n leaf.key ≡ true) has.root belongs))
 
   pub removed_renews : (m : ℕ) → f.stands m ≡ true → (f.root m ≡ dir → ⊥) → Renews f g m
   removed_renews m there other = out.above m there (λ e. other (e ∙ has.root)) (λ belongs. free m there (subst (λ n. f.belongs m n leaf.key ≡ true) has.root belongs))

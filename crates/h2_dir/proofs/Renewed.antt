@@ -1,22 +1,25 @@
 -- The trees of other roots, where one directory's tree was changed and its inode got another size.
-use Rattle.std.specs.Prelude.{◌≡◌, ◌↔◌, ℕ, suc, true, List, [], ◌∷◌, Option, Some, slice_get, refl}
+use Rattle.std.specs.Prelude.{◌≡◌, ◌↔◌, ℕ, suc, true, false, List, [], ◌∷◌, Option, Some, slice_get, refl}
 use Rattle.std.proofs.Common.{ap, sym, ◌∙◌, inl, inr, subst}
 use Rattle.std.proofs.lemmas.Option.{same_Some}
 use Rattle.h2_ref.specs.declared.reference.Kind.TheVariants as kinds
 use Rattle.h2_ref.specs.declared.reference.Ref.{Ref}
+use Rattle.h2_set.specs.Ranges.{is_indirect}
 use Rattle.h2_set.specs.RefSet.{RefSet}
 use Rattle.h2_set.specs.Forest.{Forest, refs, loaded, IsSound, IsRootOf}
 use Rattle.h2_set.specs.Calls.{InPlace, Fixed, Alike, AllRenewed, Renews, Same, Stays}
 use Rattle.h2_set.specs.StayLaws.{Alike-refl, InPlace-trans, leaves_stay}
 use Rattle.h2_set.specs.ChangeLaws.{same_or_not}
-use Rattle.h2_set.specs.RenewLaws.{Keeps-Renews, Renews-trans, trees_renewed}
+use Rattle.h2_set.specs.RenewLaws.{Keeps-Renews, Renews-trans}
 use Rattle.h2_set.specs.PathLaws.{reaches_stay, reaches_renew}
+use Rattle.h2_tree.specs.OtherTrees.{KeepsOtherLeaves}
 use Rattle.h2_inode.specs.declared.kind.InodeKind.{InodeKind}
 use Rattle.h2_inode.specs.declared.kind.InodeKind.TheVariants.{Directory, File, Pfs}
 use Rattle.h2_inode.specs.declared.inode.Body.{Body}
 use Rattle.h2_inode.specs.declared.inode.Body.TheVariants.{Refs, Bytes}
 use Rattle.h2_inode.specs.declared.inode.Inode.{Inode}
-use Rattle.h2_inode.specs.Nodes.{Fields, Told, bytes_of, set_of, MayHave, HasInode, IsUnloaded, Replaces}
+use Rattle.h2_inode.specs.Nodes.{Fields, Told, bytes_of, set_of, MayHave, HasInode, IsUnloaded, IsBare, Replaces}
+use Rattle.h2_inode.specs.BareLaws.{bare_stays, list_renewed, path_same}
 use Rattle.h2_inode.specs.NodeLaws.{named_stays, named_back, inode_held}
 use Rattle.h2_inode.specs.Others.{body_with, with_set, KeepsTree, RenewsTree}
 use Rattle.h2_dir.proofs.Resized.{others_same}
@@ -65,6 +68,7 @@ set_with (Bytes x) s t is renewed capacity =
 module _ (f h g : Forest) (dir : ℕ) (sound : IsSound f) (sound_then : IsSound h) (place : InPlace f h dir) (root : f.root dir ≡ dir)
     (renews : (m : ℕ) → f.stands m ≡ true → (f.root m ≡ dir → ⊥) → Renews f h m)
     (exact : (m i : ℕ) (r : Ref) → f.stands m ≡ true → (f.root m ≡ dir → ⊥) → NamesNone f (f.root m) → slice_get (refs f m) i ≡ Some r → slice_get (refs h m) i ≡ Some r)
+    (stood : f.stands dir ≡ true) (exact_leaves : KeepsOtherLeaves f h dir)
     (fixed : Fixed f h) (resizes : Replaces h g dir (h.set dir))
     (roots : (m : ℕ) → g.stands m ≡ true → g.root m ≡ m → f.stands m ≡ true) (placed : (m : ℕ) → f.stands m ≡ true → g.stands m ≡ true → InPlace f g m) where
   same_on : (m : ℕ) → f.stands m ≡ true → (f.root m ≡ dir → ⊥) → Same h g m
@@ -116,8 +120,16 @@ module _ (f h g : Forest) (dir : ℕ) (sound : IsSound f) (sound_then : IsSound 
   -- and no others
   unloaded_on : (c : ℕ) → InPlace f g c → (key : ℕ) → IsUnloaded f c key → IsUnloaded g c key
   unloaded_on c above key none d is =
-      let stood = roots d is.stands is.root in
-      none d (named_back f g c key d above stood (placed d stood is.stands) is)
+      let before = roots d is.stands is.root in
+      none d (named_back f g c key d above before (placed d before is.stands) is)
+
+  bare_on : (c key : ℕ) → IsBare f c key → IsBare g c key
+  bare_on c key bare = bare_stays f g c key roots placed bare
+
+  -- no leaf of another tree changes that doesn't name the directory, or what the directory belongs to
+  leaves_same : KeepsOtherLeaves f g dir
+  leaves_same m i r stands other read leaf free =
+      ap (λ (s : RefSet). slice_get s.refs i) (same_on m stands (λ e. other (e ∙ sym root))).set ∙ exact_leaves m i r stands other read leaf free
 
   -- a tree whose leaves name no inodes is the same
   pub keeps_tree : (old new : ℕ → Option Fields) (was then : Ref → Option Told) (c : ℕ) (i : Inode) → HasInode f old c i → (i.kind ≡ Pfs → ⊥) → (c ≡ dir → ⊥) → (g.stands c ≡ true → new c ≡ old c) → KeepsTree (record { forest = f; holds = old; tells = was }) (record { forest = g; holds = new; tells = then }) c
@@ -138,6 +150,7 @@ module _ (f h g : Forest) (dir : ℕ) (sound : IsSound f) (sound_then : IsSound 
         paths = λ key o path. reaches_stay f g P closed stay (is.stands, is.root) path;
         named = named_on c now.place;
         unloaded = unloaded_on c now.place;
+        bare = bare_on c;
       }
 
   inode_renewed : (old new : ℕ → Option Fields) (c : ℕ) (i : Inode) → (f.root c ≡ dir → ⊥) → new c ≡ old c → HasInode f old c i → HasInode g new c (with_set i (g.set c))
@@ -160,13 +173,18 @@ module _ (f h g : Forest) (dir : ℕ) (sound : IsSound f) (sound_then : IsSound 
   pub renews_tree : (old new : ℕ → Option Fields) (was then : Ref → Option Told) (c : ℕ) → f.stands c ≡ true → f.root c ≡ c → (c ≡ dir → ⊥) → (g.stands c ≡ true → new c ≡ old c) → RenewsTree (record { forest = f; holds = old; tells = was }) (record { forest = g; holds = new; tells = then }) c
   renews_tree old new was then c stands own ne beside =
       let other : f.root c ≡ dir → ⊥ = λ e. ne (sym own ∙ e) in
-      let P : ℕ → Type 0 = λ m. (f.stands m ≡ true) × (f.root m ≡ dir → ⊥) in
-      let closed : (m k d : ℕ) → P m → f.link m k ≡ loaded d → P d = λ m k d p link. let child = (sound.node m p.0).child k d link in (child.stands, λ e. p.1 (sym child.root ∙ e)) in
+      let P : ℕ → Type 0 = λ m. (f.stands m ≡ true) × (f.root m ≡ c) in
+      let closed : (m k d : ℕ) → P m → f.link m k ≡ loaded d → P d = λ m k d p link. let child = (sound.node m p.0).child k d link in (child.stands, child.root ∙ p.1) in
+      let renew : (m : ℕ) → P m → Renews f g m = λ m p. both m p.0 (λ e. ne (sym p.1 ∙ e)) in
+      let same : (m i : ℕ) (r : Ref) → P m → slice_get (refs f m) i ≡ Some r → is_indirect r ≡ false → IsBare f c r.key → slice_get (refs g m) i ≡ Some r =
+      λ m i r p read leaf bare. leaves_same m i r p.0 (λ e. ne (sym p.1 ∙ e ∙ root)) read leaf (λ e. bare dir stood root (subst (λ t. f.belongs dir t r.key ≡ true) p.1 e)) in
       record {
         place = (both c stands other).place;
         inode = λ i is. inode_renewed old new c i other (beside (both c stands other).place.stands) is;
-        leaves = λ l leaves. trees_renewed f g dir sound both c stands other l leaves;
-        paths = λ key o path. reaches_renew f g P closed (λ m p. both m p.0 p.1) (stands, other) path;
+        leaves = λ l leaves. list_renewed f g c P closed renew same (stands, own) l leaves;
+        paths = λ key o path. reaches_renew f g P closed renew (stands, own) path;
         named = named_on c (both c stands other).place;
         unloaded = unloaded_on c (both c stands other).place;
+        bare = bare_on c;
+        same = λ key r bare path. path_same f g c P closed renew same (stands, own) key r bare path;
       }

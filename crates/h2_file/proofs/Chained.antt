@@ -11,6 +11,7 @@ use Rattle.h2_set.specs.LeafLaws.{outside_holds}
 use Rattle.h2_set.specs.ChangeLaws.{Keeps-refl}
 use Rattle.h2_set.specs.RenewLaws.{Keeps-Renews, Renews-trans}
 use Rattle.h2_tree.specs.Changes.{ChangesOnly, TakesIn, replaced, placed, parted, Inserts}
+use Rattle.h2_tree.specs.OtherTrees.{KeepsOtherLeaves, leaves_trans, inserted_leaves}
 use Rattle.h2_file.proofs.Parts.{take_from, take_next}
 use Rattle.h2_file.specs.Linking.{IsBlock, FollowFrom, IsRun, blocks, behind_zero, AreBlocks, put_each, Puts, PutsEach, none, first}
 
@@ -107,6 +108,7 @@ pub record PutAll (f g : Forest) (at : ℕ) (rs : List Ref) : Type 0 where
   pub still : (m : ℕ) → f.stands m ≡ true → InPlace f g m
   pub roots : (m : ℕ) → g.stands m ≡ true → g.root m ≡ m → f.stands m ≡ true
   pub above : (m : ℕ) → f.stands m ≡ true → (f.root m ≡ f.root at → ⊥) → Renews f g m
+  pub exact : KeepsOtherLeaves f g at
   pub room : f.room ≤ g.room + 63 * length rs
   pub room_falls : g.room ≤ f.room
   pub spare : f.spare ≤ g.spare + length rs
@@ -122,6 +124,7 @@ puts_all {at} (none {f = f}) sound stands = record {
   still = λ m st. InPlace-refl f m st;
   roots = λ m st own. st;
   above = λ m st root. Keeps-Renews f f m (Keeps-refl f m st);
+  exact = λ m i x st other read leaf free. read;
   room = omega arith;
   room_falls = omega arith;
   spare = omega arith;
@@ -140,6 +143,7 @@ puts_all {at} (first {f = f} {h = h} {g = g} {r = r} {rs = rs} step rest) sound 
       still = λ m st. let there = ins.still m st in InPlace-trans f h g m there (tail.still m there.stands);
       roots = λ m st own. let there = tail.roots m st own in inserted_root sound stands ins m there (sym (tail.still m there).root ∙ own);
       above = λ m st root. let there = ins.above m st root in Renews-trans f h g m there (tail.above m there.place.stands (λ e. root (sym there.place.root ∙ e ∙ ins.place.root)));
+      exact = leaves_trans f h g at ins.place (λ m st other. ins.still m st) (inserted_leaves f h at r step.old stands ins) tail.exact;
       room = omega (arith, ins.room, tail.room, n);
       room_falls = omega (arith, ins.room_falls, tail.room_falls);
       spare = omega (arith, ins.spare, tail.spare, n);

@@ -22,7 +22,8 @@ use Rattle.h2_file.proofs.Answering.{In-on}
 use Rattle.h2_file.proofs.Parts.{Alike-take, take_from, taken_at}
 use Rattle.h2_file.proofs.Fronts.{same_holds}
 use Rattle.h2_file.proofs.Trees.{IsWithin, descends_within, in_ref}
-use Rattle.h2_file.proofs.CutNodes.{fewer_behind, leads_down, taken_whole, there_at}
+use Rattle.h2_file.proofs.CutNodes.{leads_down, taken_whole, there_at}
+use Rattle.h2_file.proofs.CutGone.{front_refs, front_length, stand_over, gone_over}
 
 -- A node of which the child below one reference was cut, which is left its references up to that one
 
@@ -169,109 +170,14 @@ module _ (f h k g : Forest) (at count c size : ℕ) (last : Option Ref) (r : Ref
         omega (arith, n, a)
   ]
 
-  -- what goes, in both steps
-
   at_alike : Alike (refs t at) (refs k at)
   at_alike = subst (λ (s : RefSet). Alike s.refs (refs k at)) (sym (nodes.walks.sets at stands)) at_k.alike
 
   at_front : refs g at ≡ take count (refs k at)
-  at_front = ap (λ (s : RefSet). s.refs) keeps.set
+  at_front = front_refs k g at count keeps
 
   front_size : length (refs g at) ≡ min count (length (refs k at))
-  front_size = ap length at_front ∙ length-take count (refs k at)
-
-  dead : (m : ℕ) → k.stands m ≡ false → g.stands m ≡ false
-  dead m out = elim (cases_Bool (g.stands m)) as (λ _. g.stands m ≡ false) [
-    | inl st ↦ absurd (let clash : true ≡ false = sym (keeps.none_new m st) ∙ out in cc)
-    | inr out ↦ out
-  ]
-
-  shorter : (n : ℕ) → k.stands n ≡ true → g.stands n ≡ true → length (refs g n) ≤ length (refs k n)
-  shorter n st st' = elim (same_or_not n at) as (λ _. length (refs g n) ≤ length (refs k n)) [
-    | inl e ↦ subst (λ z. length (refs g z) ≤ length (refs k z)) (sym e) (let l = front_size in omega (arith, l))
-    | inr ne ↦ let l = keeps.lengths n st st' ne in omega (arith, l)
-  ]
-
-  -- what goes with the second step stood below a reference of the node before the first one
-  later : (n : ℕ) → t.stands n ≡ true → k.stands n ≡ true → GoesBehind k at count n → GoesBehind t at (length (refs g at)) n
-  later n st st' goes =
-      let place = nodes.still n st st' in
-      let own = at_tk in
-      let it = like_at (refs k at) (refs t at) (Alike-sym (refs t at) (refs k at) at_alike) goes.place goes.ref goes.read in
-      record {
-        place = goes.place;
-        ref = it.ref;
-        read = it.read;
-        behind = (let l = front_size in let b = goes.behind in omega (arith, l, b));
-        tree = sym place.root ∙ goes.tree ∙ own.root;
-        fewer = (let a = place.bits in let b = own.bits in let fewer = goes.fewer in omega (arith, a, b, fewer));
-        held = subst (λ z. holds z it.ref ≡ true) place.low (same_holds (k.low n) goes.ref it.ref true it.like goes.held);
-      }
-
-  -- and what would have gone in the first one below it goes
-  both : (m n : ℕ) → t.stands n ≡ true → k.stands n ≡ true → GoesBehind k at count n → (count' : ℕ) → GoesBehind t n count' m → GoesPast t g m
-  both m n st st' goes count' below_n =
-      let it = later n st st' goes in
-      let range = in_ref t at n it.place it.ref nodes.walks.sound at_t.stands st it.tree it.fewer it.read it.held in
-      let node_n = nodes.walks.sound.node n st in
-      let held = holds_inside (t.low m) below_n.ref below_n.held in
-      let low = place_above _ _ (refs t n) below_n.place below_n.ref node_n.inside below_n.read in
-      let high = below_high _ _ (refs t n) below_n.place below_n.ref node_n.inside below_n.read in
-      record {
-        node = at;
-        stood = at_t.stands;
-        stays = keeps.place.stands;
-        behind = record {
-          place = it.place;
-          ref = it.ref;
-          read = it.read;
-          behind = it.behind;
-          tree = below_n.tree ∙ it.tree;
-          fewer = (let a = below_n.fewer in let b = it.fewer in omega (arith, a, b));
-          held = in_holds (t.low m) it.ref (omega (arith, range.0, low, held.0)) (omega (arith, range.1, high, held.1));
-        };
-      }
-
-  stand_first : (m : ℕ) → t.stands m ≡ true → (GoesPast t g m → ⊥) → GoesPast t k m → ⊥
-  stand_first m st none past = elim (cases_Bool (g.stands past.node)) as (λ _. ⊥) [
-    | inl there ↦ none (record { node = past.node; stood = past.stood; stays = there; behind = fewer_behind (shorter past.node past.stays there) past.behind })
-    | inr out ↦
-        let there = keeps.stand past.node past.stays (λ goes. none (both m past.node past.stood past.stays goes _ past.behind)) in
-        let clash : true ≡ false = sym there ∙ out in
-        cc
-  ]
-
-  stand_over : (m : ℕ) → t.stands m ≡ true → (GoesPast t g m → ⊥) → g.stands m ≡ true
-  stand_over m st none =
-      let there = nodes.stand m st (stand_first m st none) in
-      keeps.stand m there (λ goes. none (record { node = at; stood = at_t.stands; stays = keeps.place.stands; behind = later m st there goes }))
-
-  earlier : (m : ℕ) → t.stands m ≡ true → k.stands m ≡ true → GoesBehind t at (length (refs g at)) m → GoesBehind k at count m
-  earlier m st st' goes =
-      let place = nodes.still m st st' in
-      let own = at_tk in
-      let it = like_at (refs t at) (refs k at) at_alike goes.place goes.ref goes.read in
-      record {
-        place = goes.place;
-        ref = it.ref;
-        read = it.read;
-        behind = (let l = front_size in let b = goes.behind in let w = slice_get_within (refs k at) goes.place it.ref it.read in omega (arith, l, b, w));
-        tree = place.root ∙ goes.tree ∙ sym own.root;
-        fewer = (let a = place.bits in let b = own.bits in let fewer = goes.fewer in omega (arith, a, b, fewer));
-        held = subst (λ z. holds z it.ref ≡ true) (sym place.low) (same_holds (t.low m) goes.ref it.ref true it.like goes.held);
-      }
-
-  gone_over : (m : ℕ) → t.stands m ≡ true → GoesPast t g m → g.stands m ≡ false
-  gone_over m st past = elim (cases_Bool (k.stands m)) as (λ _. g.stands m ≡ false) [
-    | inr out ↦ dead m out
-    | inl there ↦ elim (same_or_not past.node at) as (λ _. g.stands m ≡ false) [
-      | inl e ↦ keeps.gone m there (earlier m st there (subst (λ z. GoesBehind t z (length (refs g z)) m) e past.behind))
-      | inr ne ↦
-          let was = keeps.none_new past.node past.stays in
-          let n = keeps.lengths past.node was past.stays ne in
-          dead m (nodes.gone m st (record { node = past.node; stood = past.stood; stays = was; behind = fewer_behind (omega (arith, n)) past.behind }))
-    ]
-  ]
+  front_size = front_length k g at count keeps
 
   -- what is left
 
@@ -391,8 +297,8 @@ module _ (f h k g : Forest) (at count c size : ℕ) (last : Option Ref) (r : Ref
     none_new = λ m st. nodes.none_new m (keeps.none_new m st);
     left = left_on;
     still = λ m st st'. InPlace-trans t k g m (nodes.still m st (keeps.none_new m st')) (keeps.still m st');
-    stand = stand_over;
-    gone = gone_over;
+    stand = stand_over t k g at count nodes.walks.sound at_t.stands at_tk at_alike nodes.still nodes.stand nodes.gone keeps;
+    gone = gone_over t k g at count nodes.walks.sound at_t.stands at_tk at_alike nodes.still nodes.stand nodes.gone keeps;
     link = link_over;
     alike = alike_over;
     renewed = renewed_over;

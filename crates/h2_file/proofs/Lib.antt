@@ -8,6 +8,7 @@ mod Trees
 mod CutLevels
 mod CutChild
 mod CutNodes
+mod CutGone
 mod CutOver
 mod CutWhole
 mod Sized

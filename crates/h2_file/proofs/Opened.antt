@@ -9,6 +9,7 @@ use Rattle.h2_set.specs.StayLaws.{InPlace-trans, leaves_stay}
 use Rattle.h2_set.specs.ChangeLaws.{Keeps-Stays, Same-Keeps, same_or_not}
 use Rattle.h2_set.specs.PathLaws.{alters_path}
 use Rattle.h2_set.specs.RenewLaws.{Keeps-Renews, Renews-trans}
+use Rattle.h2_tree.specs.OtherTrees.{KeepsOtherLeaves, same_leaves, leaves_trans, off_leaf}
 use Rattle.h2_inode.specs.Nodes.{Replaces, Replaceable}
 use Rattle.h2_inode.specs.declared.kind.InodeKind.TheVariants.{File}
 use Rattle.h2_file.specs.Linking.{empty_set, Opens, body_of_refs, body_of_bytes}
@@ -22,6 +23,7 @@ pub record Opened (f g : Forest) (at : ℕ) : Type 0 where
   pub paths : (key : ℕ) (o : Option Ref) → Reaches f key at o → Reaches g key at o
   pub still : (m : ℕ) → f.stands m ≡ true → InPlace f g m
   pub others : (m : ℕ) → f.stands m ≡ true → (f.root m ≡ at → ⊥) → Renews f g m
+  pub exact : KeepsOtherLeaves f g at
   pub leaf_bits : (m : ℕ) → f.stands m ≡ true → g.leaf_bits m ≡ f.leaf_bits m
   pub allows : (m : ℕ) (r : Ref) → f.stands m ≡ true → (m ≡ at → ⊥) → g.allows m r ≡ f.allows m r
   pub held : (m : ℕ) → g.held m ≡ f.held m
@@ -53,6 +55,7 @@ module _ (f h : Forest) (at : ℕ) (sound : IsSound f) (stands : f.stands at ≡
     paths = λ key o reached. alters_path sound alters stands refl reached;
     still = place_h;
     others = λ m st root. alters.above m st (λ e. root (e ∙ top));
+    exact = λ m i r st other read leaf free. alters.exact m i r st read (off_leaf f m at i r sound st stands read leaf other free);
     leaf_bits = λ m st. alters.fixed.leaf_bits m st (place_h m st).stands;
     allows = λ m r st ne. alters.fixed.allows m r st (place_h m st).stands;
     held = alters.fixed.held;
@@ -110,6 +113,7 @@ module _ (h : Forest) (at : ℕ) (bare : (let s = h.set at in s ≡ empty_set)) 
       paths = λ key o reached. subst (Reaches g key at) (sym (empty_path reached no_refs)) (nowhere (λ i r read. absurd (none-some r (subst (λ (rs : List Ref). slice_get rs i ≡ Some r) refs_g read))));
       still = place_g;
       others = λ m st root. Keeps-Renews h g m (Same-Keeps h g m (same_on m st (λ e. root (ap h.root e ∙ top))));
+      exact = same_leaves h g at (λ m st other. (same_on m st (λ e. other (ap h.root e))).set);
       leaf_bits = λ m st. changes.leaf_bits m st (place_g m st).stands;
       allows = λ m r st ne. changes.allows m r st (place_g m st).stands ne;
       held = changes.held;
@@ -131,6 +135,7 @@ opened_on f h g at top a b = record {
   paths = λ key o reached. b.paths key o (a.paths key o reached);
   still = λ m st. let there = a.still m st in InPlace-trans f h g m there (b.still m there.stands);
   others = λ m st root. let there = a.others m st root in Renews-trans f h g m there (b.others m there.place.stands (λ e. root (sym there.place.root ∙ e)));
+  exact = leaves_trans f h g at a.place (λ m st other. a.still m st) a.exact b.exact;
   leaf_bits = λ m st. b.leaf_bits m (a.still m st).stands ∙ a.leaf_bits m st;
   allows = λ m r st ne. b.allows m r (a.still m st).stands ne ∙ a.allows m r st ne;
   held = λ m. b.held m ∙ a.held m;

@@ -38,5 +38,7 @@ pub mod NamesOneLaws
 pub mod LoadedOne
 pub mod Others
 pub mod OthersLaws
+pub mod RenewedLaws
+pub mod BareLaws
 pub mod ContentsApart
 pub mod LeafReading

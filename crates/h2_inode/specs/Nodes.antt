@@ -99,6 +99,10 @@ NamesOne f = (top key c d : ℕ) → IsRootOf f top key c → IsRootOf f top key
 abbrev pub IsUnloaded : Forest → ℕ → ℕ → Type 0
 IsUnloaded f top key = (c : ℕ) → IsRootOf f top key c → ⊥
 
+-- no root stands that belongs to the leaf with this key in the tree of root top: of what the leaf names nothing is loaded
+abbrev pub IsBare : Forest → ℕ → ℕ → Type 0
+IsBare f top key = (c : ℕ) → f.stands c ≡ true → f.root c ≡ c → f.belongs c top key ≡ true → ⊥
+
 -- what the block of an inode is known to hold: the inode, and the leaves of its tree
 pub record Told : Type 0 where
   pub inode : Inode

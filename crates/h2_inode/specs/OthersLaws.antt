@@ -7,22 +7,23 @@ use Rattle.h2_ref.specs.declared.reference.Ref.{Ref}
 use Rattle.h2_ref.specs.declared.reference.Dirent.{Dirent}
 use Rattle.h2_set.specs.RefSet.{RefSet}
 use Rattle.h2_set.specs.Forest.{LeavesOf}
-use Rattle.h2_set.specs.Calls.{names_node, IsRenewed, AllRenewed}
-use Rattle.h2_set.specs.StayLaws.{Alike-refl, InPlace-refl, InPlace-trans}
-use Rattle.h2_set.specs.RenewLaws.{Alike-renewed, AllRenewed-trans}
+use Rattle.h2_set.specs.Calls.{names_node, IsRenewed}
+use Rattle.h2_set.specs.StayLaws.{InPlace-refl, InPlace-trans}
+use Rattle.h2_set.specs.RenewLaws.{AllRenewed-trans}
 use Rattle.h2_set.specs.PathLaws.{AnswerRenewed, answer_same}
 use Rattle.h2_inode.specs.declared.inode.Body.{Body}
 use Rattle.h2_inode.specs.declared.inode.Body.TheVariants.{Refs, Bytes}
 use Rattle.h2_inode.specs.declared.inode.Inode.{Inode}
-use Rattle.h2_inode.specs.Nodes.{set_of, HasInode}
+use Rattle.h2_inode.specs.Nodes.{set_of, HasInode, IsBare}
 use Rattle.h2_inode.specs.Access.{HasLeaves, OneByOne}
 use Rattle.h2_inode.specs.Contents.{IsPart, IsContents}
 use Rattle.h2_inode.specs.Directory.{Entries, IsNameOf, IsEntry, IsDirectory}
 use Rattle.h2_inode.specs.Following.{SameLeaf, Follows}
 use Rattle.h2_inode.specs.FollowLaws.{same_inode}
-use Rattle.h2_inode.specs.ListLaws.{through, all_through, all_beside, hole_carried, rising_carried}
+use Rattle.h2_inode.specs.ListLaws.{through, each_mapped, all_through, all_beside, hole_carried, rising_carried}
 use Rattle.h2_inode.specs.Loaded.{Tree, at_root, of_leaves, HasAsLeaves, IsTold, NamesInode, View, reading}
-use Rattle.h2_inode.specs.Others.{body_with, with_set, KeepsTree, RenewsTree, RenewsOthers, KeepsTrees, IsTreeOf, over_change}
+use Rattle.h2_inode.specs.BareLaws.{LeafRenewed-refl}
+use Rattle.h2_inode.specs.Others.{body_with, with_set, KeepsTree, LeafRenewed, RenewsTree, RenewsOthers, KeepsTrees, IsTreeOf, over_change}
 
 -- Kept trees
 
@@ -34,6 +35,7 @@ KeepsTree-refl u c stands = record {
   paths = λ key o path. path;
   named = λ key d is. is;
   unloaded = λ key none. none;
+  bare = λ key bare. bare;
 }
 
 pub KeepsTree-trans : (u v w : View) (c : ℕ) → KeepsTree u v c → KeepsTree v w c → KeepsTree u w c
@@ -44,12 +46,10 @@ KeepsTree-trans u v w c a b = record {
   paths = λ key o path. b.paths key o (a.paths key o path);
   named = λ key d is. b.named key d (a.named key d is);
   unloaded = λ key none. b.unloaded key (a.unloaded key none);
+  bare = λ key bare. b.bare key (a.bare key bare);
 }
 
 -- Renewed trees
-
-AllRenewed-refl : (l : List Ref) → AllRenewed l l
-AllRenewed-refl l = Alike-renewed l l (Alike-refl l)
 
 answer_trans : (o p q : Option Ref) → AnswerRenewed o p → AnswerRenewed p q → AnswerRenewed o q
 answer_trans None None None a b = tt
@@ -79,10 +79,12 @@ pub keeps_renews : (u v : View) (c : ℕ) → KeepsTree u v c → RenewsTree u v
 keeps_renews u v c h = record {
   place = h.place;
   inode = λ i is. let now = h.inode i is in subst (λ j. HasInode v.forest v.holds c j) (sym (own_set v c i now)) now;
-  leaves = λ l has. record { list = l; leaves = h.leaves l has; renewed = AllRenewed-refl l };
+  leaves = λ l has. record { list = l; leaves = h.leaves l has; each = all_beside (LeafRenewed u.forest c) l (λ r at. LeafRenewed-refl u.forest c r) };
   paths = λ key o path. record { answer = o; path = h.paths key o path; renewed = answer_same o };
   named = h.named;
   unloaded = h.unloaded;
+  bare = h.bare;
+  same = λ key r bare path. h.paths key (Some r) path;
 }
 
 pub RenewsTree-refl : (u : View) (c : ℕ) → u.forest.stands c ≡ true → RenewsTree u u c
@@ -95,14 +97,30 @@ RenewsTree-trans u v w c a b = record {
   leaves = λ l has.
       let first = a.leaves l has in
       let second = b.leaves first.list first.leaves in
-      record { list = second.list; leaves = second.leaves; renewed = AllRenewed-trans l first.list second.list first.renewed second.renewed };
+      record { list = second.list; leaves = second.leaves; each = leaves_trans l first.list second.list first.each second.each };
   paths = λ key o path.
       let first = a.paths key o path in
       let second = b.paths key first.answer first.path in
       record { answer = second.answer; path = second.path; renewed = answer_trans o first.answer second.answer first.renewed second.renewed };
   named = λ key d is. b.named key d (a.named key d is);
   unloaded = λ key none. b.unloaded key (a.unloaded key none);
+  bare = λ key bare. b.bare key (a.bare key bare);
+  same = λ key r bare path. b.same key r (a.bare r.key bare) (a.same key r bare path);
 }
+  where
+    leaf_trans : (r q p : Ref) → LeafRenewed u.forest c r q → LeafRenewed v.forest c q p → LeafRenewed u.forest c r p
+    leaf_trans r q p x y = record {
+      renewed = (AllRenewed-trans (r ∷ []) (q ∷ []) (p ∷ []) (x.renewed, tt) (y.renewed, tt)).0;
+      same = λ bare. y.same (a.bare q.key (subst (λ k. IsBare u.forest c k) (sym x.renewed.key) bare)) ∙ x.same bare;
+    }
+
+    leaves_trans : (l m n : List Ref) → OneByOne (LeafRenewed u.forest c) l m → OneByOne (LeafRenewed v.forest c) m n → OneByOne (LeafRenewed u.forest c) l n
+    leaves_trans [] [] [] p q = tt
+    leaves_trans [] [] (z ∷ n) p q = absurd q
+    leaves_trans [] (y ∷ m) n p q = absurd p
+    leaves_trans (x ∷ l) [] n p q = absurd p
+    leaves_trans (x ∷ l) (y ∷ m) [] p q = absurd q
+    leaves_trans (x ∷ l) (y ∷ m) (z ∷ n) p q = (leaf_trans x y z p.0 q.0, leaves_trans l m n p.1 q.1)
 
 pub RenewsOthers-trans : (u v w : View) (at : ℕ) → RenewsOthers u v at → RenewsOthers v w at → RenewsOthers u w at
 RenewsOthers-trans u v w at a b = λ c stands root other.
@@ -111,12 +129,6 @@ RenewsOthers-trans u v w at a b = λ c stands root other.
 
 -- What renewed trees stand for: the leaves of files and directories name no nodes
 
-renewed_beside : (l m : List Ref) → AllRenewed l m → OneByOne IsRenewed l m
-renewed_beside [] [] a = tt
-renewed_beside [] (y ∷ ys) a = absurd a
-renewed_beside (x ∷ xs) [] a = absurd a
-renewed_beside (x ∷ xs) (y ∷ ys) a = (a.0, renewed_beside xs ys a.1)
-
 renewed_like : (r s : Ref) → IsRenewed r s → SameLeaf r s
 renewed_like r s h = record { kind = h.kind; key = h.key; keybits = h.keybits; dirent = h.dirent }
 
@@ -124,7 +136,7 @@ module _ (u v : View) (c : ℕ) (h : RenewsTree u v c) (Content : Ref → Places
   leaves_renewed : (l : List Ref) → HasLeaves (reading u Content) (at_root c) l → (m : List Ref) × HasLeaves (reading v Content) (at_root c) m × OneByOne IsRenewed l m
   leaves_renewed l has =
       let now = h.leaves l has.read in
-      let beside = renewed_beside l now.list now.renewed in
+      let beside = each_mapped (LeafRenewed u.forest c) IsRenewed (λ r s like. like.renewed) l now.list now.each in
       (now.list, record { read = now.leaves; ordered = rising_carried IsRenewed renewed_like l now.list beside 0 _ has.ordered }, beside)
 
   part_renewed : (size : ℕ) (bytes : List ℕ) (r s : Ref) → IsRenewed r s → IsPart (reading u Content) (at_root c) size bytes r → IsPart (reading v Content) (at_root c) size bytes s

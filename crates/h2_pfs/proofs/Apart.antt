@@ -10,7 +10,8 @@ use Rattle.h2_set.specs.PathLaws.{reaches_stay}
 use Rattle.h2_tree.specs.Changes.{Descends, arrived, onward, ChangesOnly, GoesAway, below_it, named, Removes}
 use Rattle.h2_tree.specs.RootLaws.{inserted_roots, removed_roots, removed_place}
 use Rattle.h2_inode.specs.declared.inode.Inode.{Inode}
-use Rattle.h2_inode.specs.Nodes.{Fields, Told, held_by, HasInode}
+use Rattle.h2_inode.specs.Nodes.{Fields, Told, held_by, HasInode, IsBare}
+use Rattle.h2_inode.specs.BareLaws.{bare_stays}
 use Rattle.h2_inode.specs.Loaded.{view_of}
 use Rattle.h2_inode.specs.NodeLaws.{named_stays, named_back, inode_held}
 use Rattle.h2_pfs.specs.Others.{BelongsToNone, KeepsOtherTrees}
@@ -178,6 +179,7 @@ removes_others fields f g old new was now top leaf sound stands_top root_top bes
       paths = tree.paths;
       named = λ key d is. named_stays f g c key d tree.place (below key d is) is;
       unloaded = λ key none_d d is. none_d d (before key d is);
+      bare = λ key b. bare_stays f g c key (removed_roots f g top leaf rem) (removed_place f g top leaf rem) b;
     }
 
 -- A PFS comes
@@ -187,6 +189,33 @@ put_before : (f g : Forest) (top own c key d : ℕ) → {new : ℕ} → ((t k : 
 put_before f g top own c key d only came other is = elim (came d is.stands) as (λ _. f.stands d ≡ true) [
   | inl e ↦ absurd (other (only c key (subst (λ m. IsRootOf g c key m) e is)).0)
   | inr stood ↦ stood
+]
+
+-- a root that stood before that one was planted stood at first, in its place
+founded_place : (f g : Forest) (holds : ℕ → Option Fields) (top : ℕ) (leaf : Ref) (inode : Inode) (it : Founds f g holds top leaf inode) → f.stands top ≡ true → (d : ℕ) → (let p = it.put in p.stands d ≡ true) → g.root d ≡ d → (f.stands d ≡ true) × InPlace f g d
+founded_place f g holds top leaf inode it stands_top d in_put own =
+    let a = it.ready in
+    let top_a = (it.readies.same top stands_top).place in
+    let last = (it.plants.brings.same d in_put).place in
+    let in_a = inserted_roots a it.put top leaf None it.readies.sound top_a.stands it.inserts d in_put (sym last.root ∙ own) in
+    let stood = it.readies.none_new d in_a in
+    (stood, InPlace-trans f it.put g d (InPlace-trans f a it.put d (it.readies.same d stood).place (it.inserts.still d in_a)) last)
+
+-- the root that was planted belongs to no leaf of another tree
+founded_bare : (f g : Forest) (holds : ℕ → Option Fields) (top : ℕ) (leaf : Ref) (inode : Inode) (c : ℕ) (it : Founds f g holds top leaf inode) → f.stands top ≡ true → BelongsToNone f top → (c ≡ top → ⊥) → (key : ℕ) → IsBare f c key → IsBare g c key
+founded_bare f g holds top leaf inode c it stands_top none other key bare d stands own belongs = elim (it.plants.brings.new d stands) as (λ _. ⊥) [
+  | inl is_new ↦ elim ((it.plants.named.belongs c key).0 (subst (λ m. g.belongs m c key ≡ true) is_new belongs)) as (λ _. ⊥) [
+    | inl same ↦ other same.0
+    | inr above ↦
+        let first = (it.readies.same top stands_top).place in
+        let second = it.inserts.still top first.stands in
+        let third = (it.plants.brings.same top second.stands).place in
+        none c key (sym (first.belongs c key) ∙ sym (second.belongs c key) ∙ sym (third.belongs c key) ∙ above)
+  ]
+  | inr in_put ↦
+      let was = founded_place f g holds top leaf inode it stands_top d in_put own in
+      let place = was.1 in
+      bare d was.0 (sym place.root ∙ own) (sym (place.belongs c key) ∙ belongs)
 ]
 
 -- other trees stay
@@ -211,11 +240,8 @@ founds_others fields f g old new was now top leaf inode sound stands_top root_to
     let new_fields = held_by fields new in
     let before = λ (key d : ℕ) (is : IsRootOf g c key d).
     let in_put = put_before it.put g top leaf.key c key d it.plants.only it.plants.brings.new other is in
-    let in_put_root = sym (it.plants.brings.same d in_put).place.root ∙ is.root in
-    let in_a = inserted_roots a it.put top leaf None it.readies.sound top_a.stands it.inserts d in_put in_put_root in
-    let stood = it.readies.none_new d in_a in
-    let place_d = InPlace-trans f it.put g d (InPlace-trans f a it.put d (it.readies.same d stood).place (it.inserts.still d in_a)) (it.plants.brings.same d in_put).place in
-    named_back f g c key d tree.place stood place_d is in
+    let was = founded_place f g new_fields top leaf inode it stands_top d in_put is.root in
+    named_back f g c key d tree.place was.0 was.1 is in
     record {
       place = tree.place;
       inode = λ i has. tree_inode fields f g old new c i tree (steps_rules f g new_fields top leaf inode c it stands) beside has;
@@ -223,4 +249,5 @@ founds_others fields f g old new was now top leaf inode sound stands_top root_to
       paths = tree.paths;
       named = λ key d is. named_stays f g c key d tree.place (steps_renew f g new_fields top leaf inode d it is.stands (named_apart f top c key d sound none root_top is) stands_top).place is;
       unloaded = λ key none_d d is. none_d d (before key d is);
+      bare = founded_bare f g new_fields top leaf inode c it stands_top none other;
     }

@@ -4,6 +4,7 @@ use Rattle.h2_set.specs.Ranges.{put, holds, find}
 use Rattle.h2_set.specs.Forest.{Reaches, LeavesOf}
 use Rattle.h2_set.specs.LeafLaws.{reaches_find}
 use Rattle.h2_tree.specs.Changes.{Takes}
+use Rattle.h2_tree.specs.OtherTrees.{inserted_leaves}
 use Rattle.h2_inode.specs.declared.inode.Inode.{Inode}
 use Rattle.h2_inode.specs.declared.kind.InodeKind.TheVariants.{Directory, Pfs}
 use Rattle.h2_inode.specs.Nodes.{Fields, held_by, HasInode}
@@ -117,7 +118,7 @@ returns-clause-others g c m i has not ne =
     let now = g.N.Sets.forest c.resize.new.n in
     let adds : Adds f now dir leaf = record { between = h; inserts = ins; paths = c.put_in.ensures.paths; path = c.put_in.ensures.path; resizes = c.resize.ensures.replaces } in
     let kept = beside_on _ _ _ _ _ _ _ (λ m old new. c.resize.ensures.replaces.none_new m new) c.put_in.ensures.beside c.resize.ensures.beside in
-    keeps_tree f h now dir c.requires.sound ins.sound ins.place d.has.root (inserted_renews f h dir leaf c.requires.sound d.has.stands d.has.root ins) (inserted_exact f h dir leaf c.requires.sound d.has.stands d.has.root ins) ins.fixed c.resize.ensures.replaces (added_roots f now dir leaf c.requires.sound d.has.stands adds) (added_place f now dir leaf c.requires.sound d.has.stands adds) _ _ _ _ m i has not ne
+    keeps_tree f h now dir c.requires.sound ins.sound ins.place d.has.root (inserted_renews f h dir leaf c.requires.sound d.has.stands d.has.root ins) (inserted_exact f h dir leaf c.requires.sound d.has.stands d.has.root ins) d.has.stands (inserted_leaves f h dir leaf None d.has.stands ins) ins.fixed c.resize.ensures.replaces (added_roots f now dir leaf c.requires.sound d.has.stands adds) (added_place f now dir leaf c.requires.sound d.has.stands adds) _ _ _ _ m i has not ne
     (λ stands. ap g.N.Nodes.fields (kept.same m ne has.stands stands))
 
 pub returns-clause-above : goal.returns-clause-above
@@ -131,7 +132,7 @@ returns-clause-above g c m stands root ne =
     let now = g.N.Sets.forest c.resize.new.n in
     let adds : Adds f now dir leaf = record { between = h; inserts = ins; paths = c.put_in.ensures.paths; path = c.put_in.ensures.path; resizes = c.resize.ensures.replaces } in
     let kept = beside_on _ _ _ _ _ _ _ (λ m old new. c.resize.ensures.replaces.none_new m new) c.put_in.ensures.beside c.resize.ensures.beside in
-    renews_tree f h now dir c.requires.sound ins.sound ins.place d.has.root (inserted_renews f h dir leaf c.requires.sound d.has.stands d.has.root ins) (inserted_exact f h dir leaf c.requires.sound d.has.stands d.has.root ins) ins.fixed c.resize.ensures.replaces (added_roots f now dir leaf c.requires.sound d.has.stands adds) (added_place f now dir leaf c.requires.sound d.has.stands adds) _ _ _ _ m stands root ne
+    renews_tree f h now dir c.requires.sound ins.sound ins.place d.has.root (inserted_renews f h dir leaf c.requires.sound d.has.stands d.has.root ins) (inserted_exact f h dir leaf c.requires.sound d.has.stands d.has.root ins) d.has.stands (inserted_leaves f h dir leaf None d.has.stands ins) ins.fixed c.resize.ensures.replaces (added_roots f now dir leaf c.requires.sound d.has.stands adds) (added_place f now dir leaf c.requires.sound d.has.stands adds) _ _ _ _ m stands root ne
     (λ now. ap g.N.Nodes.fields (kept.same m ne stands now))
 
 pub returns-clause-later : goal.returns-clause-later

@@ -15,7 +15,7 @@ use Rattle.h2_dir.proofs.Leaf.{entry_free, entry_kind, of_entry, leaf_refs}
 use Rattle.h2_dir.proofs.Growing.{same_but_set, writable_out, beside_on}
 use Rattle.h2_dir.proofs.Resized.{root_leaves, root_path, same_fields, regrown}
 use Rattle.h2_dir.proofs.Renewed.{keeps_tree, renews_tree}
-use Rattle.h2_dir.proofs.Others.{removed_renews, removed_exact}
+use Rattle.h2_dir.proofs.Others.{removed_renews, removed_exact, removed_free}
 use Rattle.h2_dir.proofs.Entries.{tree_rising, entries_same, entries_less, entry_number}
 use Rattle.h2_dir.proofs.RootLaws.{taken_roots, taken_place, taken_one}
 use Rattle.h2_set.specs.MetLaws.{MeetsNone-trans}
@@ -125,7 +125,7 @@ returns-clause-others g c m i has not ne =
     let now = g.N.Sets.forest c.resize.new.n in
     let away : TakesAway f now dir leaf = record { between = h; removes = out; paths = c.take_out-leaf.ensures.paths; path = subst (λ k. Reaches h k dir None) (sym c.take_out-leaf.ensures.key) c.take_out-leaf.ensures.path; resizes = c.resize.ensures.replaces } in
     let kept = beside_on _ _ _ _ _ _ _ (λ m old new. c.resize.ensures.replaces.none_new m new) c.take_out-leaf.ensures.beside c.resize.ensures.beside in
-    keeps_tree f h now dir c.requires.sound out.sound out.place d.has.root (removed_renews f h _ dir d.inode leaf c.requires.sound d.has d.kind out) (removed_exact f h _ dir d.inode leaf c.requires.sound d.has d.kind out) out.fixed c.resize.ensures.replaces (taken_roots f now dir leaf away) (taken_place f now dir leaf away) _ _ _ _ m i has not ne
+    keeps_tree f h now dir c.requires.sound out.sound out.place d.has.root (removed_renews f h _ dir d.inode leaf c.requires.sound d.has d.kind out) (removed_exact f h _ dir d.inode leaf c.requires.sound d.has d.kind out) d.has.stands (removed_free f h _ dir d.inode leaf c.requires.sound d.has d.kind out) out.fixed c.resize.ensures.replaces (taken_roots f now dir leaf away) (taken_place f now dir leaf away) _ _ _ _ m i has not ne
     (λ stands. ap g.N.Nodes.fields (kept.same m ne has.stands stands))
 
 pub returns-clause-above : goal.returns-clause-above
@@ -139,7 +139,7 @@ returns-clause-above g c m stands root ne =
     let now = g.N.Sets.forest c.resize.new.n in
     let away : TakesAway f now dir leaf = record { between = h; removes = out; paths = c.take_out-leaf.ensures.paths; path = subst (λ k. Reaches h k dir None) (sym c.take_out-leaf.ensures.key) c.take_out-leaf.ensures.path; resizes = c.resize.ensures.replaces } in
     let kept = beside_on _ _ _ _ _ _ _ (λ m old new. c.resize.ensures.replaces.none_new m new) c.take_out-leaf.ensures.beside c.resize.ensures.beside in
-    renews_tree f h now dir c.requires.sound out.sound out.place d.has.root (removed_renews f h _ dir d.inode leaf c.requires.sound d.has d.kind out) (removed_exact f h _ dir d.inode leaf c.requires.sound d.has d.kind out) out.fixed c.resize.ensures.replaces (taken_roots f now dir leaf away) (taken_place f now dir leaf away) _ _ _ _ m stands root ne
+    renews_tree f h now dir c.requires.sound out.sound out.place d.has.root (removed_renews f h _ dir d.inode leaf c.requires.sound d.has d.kind out) (removed_exact f h _ dir d.inode leaf c.requires.sound d.has d.kind out) d.has.stands (removed_free f h _ dir d.inode leaf c.requires.sound d.has d.kind out) out.fixed c.resize.ensures.replaces (taken_roots f now dir leaf away) (taken_place f now dir leaf away) _ _ _ _ m stands root ne
     (λ now. ap g.N.Nodes.fields (kept.same m ne stands now))
 
 pub returns-clause-entries : goal.returns-clause-entries

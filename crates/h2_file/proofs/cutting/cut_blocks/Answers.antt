@@ -24,7 +24,7 @@ pub returns-clause-later : goal.returns-clause-later
 returns-clause-later g c = g.met.N.Sets.later_later _ _ _ c.in_ok-cut_tree.ensures.later c.set_size.ensures.later
 
 pub returns-clause-others : goal.returns-clause-others
-returns-clause-others g c = cut_others g.N.Nodes.fields _ _ c.args.inode.0 c.args.size c.args.last _ _ _ _ c.requires.sound (returns-clause-cuts g c) (returns-clause-beside g c)
+returns-clause-others g c = cut_others g.N.Nodes.fields _ _ c.args.inode.0 c.args.size c.args.last _ _ _ _ c.requires.sound c.requires.file.has.stands c.requires.file.has.root (returns-clause-cuts g c) (returns-clause-beside g c)
 
 pub returns-in_err-cut_tree-clause-one : goal.returns-in_err-cut_tree-clause-one
 returns-in_err-cut_tree-clause-one g c names = walks_one _ _ names c.in_err-cut_tree.ensures.walks

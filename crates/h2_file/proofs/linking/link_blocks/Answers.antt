@@ -93,7 +93,7 @@ pub returns-clause-later : goal.returns-clause-later
 returns-clause-later g c = g.met.N.Sets.later_later _ _ _ (g.met.N.Sets.later_later _ _ _ (g.met.N.Sets.later_later _ _ _ c.in_ok-prepare.ensures.later c.open_body.ensures.later) c.put_blocks.ensures.later) c.set_size.ensures.later
 
 pub returns-clause-others : goal.returns-clause-others
-returns-clause-others g c = linked_others g.N.Nodes.fields _ _ c.args.inode.0 c.args.refs.now _ _ _ _ c.requires.sound (returns-clause-links g c) (returns-clause-beside g c)
+returns-clause-others g c = linked_others g.N.Nodes.fields _ _ c.args.inode.0 c.args.refs.now _ _ _ _ c.requires.sound c.requires.file.has.stands c.requires.file.has.root (returns-clause-links g c) (returns-clause-beside g c)
 
 pub returns-clause-lifted : goal.returns-clause-lifted
 returns-clause-lifted g c = λ blocks i body bytes new has is embeds covers puts.

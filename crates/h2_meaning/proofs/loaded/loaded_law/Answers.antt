@@ -1,7 +1,8 @@
 use Rattle.std.specs.Prelude.{◌≡◌, true, Some, refl}
 use Rattle.h2_inode.specs.Loaded.{at_root}
-use Rattle.h2_inode.specs.Others.{over_change}
+use Rattle.h2_inode.specs.Others.{over_change, over_renewal}
 use Rattle.h2_inode.specs.OthersLaws.{kept_follow}
+use Rattle.h2_inode.specs.RenewedLaws.{renewed_follow}
 use Rattle.h2_inode.specs.ContentsApart.{over_contents, more_follow}
 use Rattle.h2_meaning.specs.CarryLaws.{table_carried, forest_carried}
 use Rattle.h2_meaning.specs.LoadedLaws.{table_alike, forest_alike}
@@ -24,3 +25,11 @@ returns-clause-more_forests c = λ u block more t next forest told.
 pub returns-clause-kept_tables : goal.returns-clause-kept_tables
 returns-clause-kept_tables c = λ u v stay block at next table keeps is.
     table_carried (over_change u v (λ m. stay m ≡ true) (λ r b. block r ≡ Some b)) (kept_follow u v (λ m. stay m ≡ true) keeps (λ r b. block r ≡ Some b)) (at_root at) (at_root at) next table (refl, is)
+
+pub returns-clause-renewed_tables : goal.returns-clause-renewed_tables
+returns-clause-renewed_tables c = λ u v stay block at next table renews plain is.
+    table_carried (over_renewal u v (λ m. stay m ≡ true) (λ r b. block r ≡ Some b)) (renewed_follow u v (λ m. stay m ≡ true) renews (λ r b. block r ≡ Some b) plain) (at_root at) (at_root at) next table (refl, is)
+
+pub returns-clause-renewed_forests : goal.returns-clause-renewed_forests
+returns-clause-renewed_forests c = λ u v stay block at next forest renews plain is.
+    forest_carried (over_renewal u v (λ m. stay m ≡ true) (λ r b. block r ≡ Some b)) (renewed_follow u v (λ m. stay m ≡ true) renews (λ r b. block r ≡ Some b) plain) (at_root at) (at_root at) next forest (refl, is)
