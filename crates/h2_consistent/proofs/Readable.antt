@@ -9,6 +9,7 @@ use Rattle.h2_forest.specs.Table.{bytes_of}
 use Rattle.h2_forest.specs.Steps.{given}
 use Rattle.h2_forest.specs.Ids.{Ascend, IdsAscend}
 use Rattle.h2_forest.specs.Forest.{PlainForest, first_from, pfs_with_id, opened_in, read_reply}
+use Rattle.h2_command.specs.declared.reply.Reply.{Reply}
 use Rattle.h2_command.specs.declared.reply.Reply.TheVariants.{Got, NoHandle}
 use Rattle.h2_contents.specs.Bytes.{read_at}
 use Rattle.h2_consistent.specs.Handles.{HasFile, HandlesStand, IsRead}
@@ -49,21 +50,28 @@ abbrev opened_with : ℕ → Option (ℕ × Pfs) → Option (ℕ × (Pfs × ℕ)
 opened_with number o = elim o [ Some found ↦ Some (found.0, (found.1, number)) | None ↦ None ]
 
 module _ (f : PlainForest) (ids : IdsAscend f) (client handle off len : ℕ) where
-  read_of : (o : Option (List ℕ)) → IsSome o → (bytes : List ℕ) × ((read_reply f o off len).0 ≡ Got (read_at bytes off len))
-  read_of (Some bytes) h = (bytes, refl)
+  -- what a read gives of an open file
+  abbrev answered : Option (ℕ × (Pfs × ℕ)) → Reply
+  answered o = (given f o NoHandle (λ file. read_reply f (bytes_of (get file.1.0.table file.1.1)) off len)).0
+
+  read_of : (o : Option (List ℕ)) → IsSome o → (bytes : List ℕ) × ((o ≡ Some bytes) × ((read_reply f o off len).0 ≡ Got (read_at bytes off len)))
+  read_of (Some bytes) h = (bytes, (refl, refl))
   read_of None h = absurd (cc)
 
-  file_read : (id number : ℕ) → HasFile f id number → (bytes : List ℕ) × ((given f (opened_in f (Some (id, number))) NoHandle (λ file. read_reply f (bytes_of (get file.1.0.table file.1.1)) off len)).0 ≡ Got (read_at bytes off len))
+  file_read : (id number : ℕ) (here : HasFile f id number) → (bytes : List ℕ) × ((bytes_of (get here.pfs.table number) ≡ Some bytes) × (answered (opened_in f (Some (id, number))) ≡ Got (read_at bytes off len)))
   file_read id number here =
       let found = found_by_id 0 f.next_pfs 0 f.pfss here.pfs ids here.listed in
       let is : pfs_with_id id f.pfss ≡ Some (found.0, here.pfs) = ap (λ n. pfs_with_id n f.pfss) (sym here.id_is) ∙ found.1 in
       let read = read_of (bytes_of (get here.pfs.table number)) here.file in
       let there : opened_in f (Some (id, number)) ≡ Some (found.0, (here.pfs, number)) = ap (opened_with number) is in
-      (read.0, ap (λ (o : Option (ℕ × (Pfs × ℕ))). (given f o NoHandle (λ file. read_reply f (bytes_of (get file.1.0.table file.1.1)) off len)).0) there ∙ read.1)
+      (read.0, (read.1.0, ap answered there ∙ read.1.1))
 
   pub open_read : HandlesStand f → contains_key f.handles (client, handle) ≡ true → IsRead f client handle off len
   open_read stand held = by (get f.handles (client, handle)) refl held
     where
-      by : (o : Option (ℕ × ℕ)) → get f.handles (client, handle) ≡ o → is_some o ≡ true → (bytes : List ℕ) × ((given f (opened_in f o) NoHandle (λ file. read_reply f (bytes_of (get file.1.0.table file.1.1)) off len)).0 ≡ Got (read_at bytes off len))
-      by (Some at) is e = file_read at.0 at.1 (stand client handle at.0 at.1 is)
+      by : (o : Option (ℕ × ℕ)) → get f.handles (client, handle) ≡ o → is_some o ≡ true → IsRead f client handle off len
+      by (Some at) is e =
+          let here = stand client handle at.0 at.1 is in
+          let read = file_read at.0 at.1 here in
+          record { id = at.0; number = at.1; held = is; file = here; bytes = read.0; bytes_are = read.1.0; reply_is = ap (λ o. answered (opened_in f o)) is ∙ read.1.1 }
       by None is e = absurd (cc)

@@ -32,7 +32,12 @@ OrphansAreOpen f = (p : Pfs) (number : ℕ) → Contains f.pfss p → is_orphan 
 abbrev pub HasNoOrphans : PlainForest → Type 0
 HasNoOrphans f = (p : Pfs) (number : ℕ) → Contains f.pfss p → is_orphan (get p.table number) ≡ false
 
--- a read by a client's handle is answered with bytes of a file
-abbrev pub IsRead : PlainForest → ℕ → ℕ → ℕ → ℕ → Type 0
-IsRead f client handle off len =
-    (bytes : List ℕ) × ((answer f client (ReadAt handle off len)).0 ≡ Got (read_at bytes off len))
+-- a read by a client's handle is answered with the bytes of the file that it names
+pub record IsRead (f : PlainForest) (client handle off len : ℕ) : Type 0 where
+  pub id : ℕ
+  pub number : ℕ
+  pub held : get f.handles (client, handle) ≡ Some (id, number)
+  pub file : HasFile f id number
+  pub bytes : List ℕ
+  pub bytes_are : bytes_of (get file.pfs.table number) ≡ Some bytes
+  pub reply_is : (answer f client (ReadAt handle off len)).0 ≡ Got (read_at bytes off len)
