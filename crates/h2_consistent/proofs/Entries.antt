@@ -25,4 +25,5 @@ Exactly (suc k) P = (x : EntryName) × (P x × Exactly k (λ y. P y × (y ≢ x)
 -- the numbers that are reached from number 1 by entries: it is one, and so is what an entry of a reached one names
 pub data IsReachedBy (number_of : EntryName → Option ℕ) : ℕ → Type 0 where
   root : IsReachedBy number_of 1
-  below : (entry : EntryName) (number : ℕ) → IsReachedBy number_of entry.0 → number_of entry ≡ Some number → IsReachedBy number_of number
+  below : (entry : EntryName) (number : ℕ) → IsReachedBy number_of entry.0 → number_of entry ≡ Some number
+      → IsReachedBy number_of number

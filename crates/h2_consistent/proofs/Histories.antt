@@ -35,11 +35,13 @@ module _ (B : PlainForest → Type 0) (kept : (f : PlainForest) (client : ℕ) (
   from_keeps n [] f g h e = absurd (nothing_frozen g e)
   from_keeps n (x ∷ items) f g h e = by (is_freeze n x) e (from_keeps n items (after_item f x) g (item_keeps f x h))
     where
-      by : (b : Bool) → cond b (Some f) (frozen_from n (after_item f x) items) ≡ Some g → (frozen_from n (after_item f x) items ≡ Some g → B g) → B g
+      by : (b : Bool) → cond b (Some f) (frozen_from n (after_item f x) items) ≡ Some g
+          → (frozen_from n (after_item f x) items ≡ Some g → B g) → B g
       by true e later = subst B (same_frozen f g e) h
       by false e later = later e
 
-  pub frozen_keeps : (opened : ℕ) (first : PlainForest) (items : List Item) (n : ℕ) (g : PlainForest) → B first → B (closed first) → frozen_forest opened first items n ≡ Some g → B g
+  pub frozen_keeps : (opened : ℕ) (first : PlainForest) (items : List Item) (n : ℕ) (g : PlainForest) → B first
+      → B (closed first) → frozen_forest opened first items n ≡ Some g → B g
   frozen_keeps opened first items n g h closing e = by (nat_eq n opened) e
     where
       by : (b : Bool) → cond b (Some first) (frozen_from n (closed first) items) ≡ Some g → B g

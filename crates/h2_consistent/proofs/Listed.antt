@@ -38,20 +38,24 @@ module _ {K X : Type 0} (R : K → K → Ordering) where
 
   module _ (o : IsTotalOrder R) (exact : IsAntisymmetric R) where
     pub found_first : (e : K × X) (es : List (K × X)) (q : K) → q ≡ e.0 → find R q (e ∷ es) ≡ Some e.1
-    found_first e es q s = ap (λ x. find R x (e ∷ es)) s ∙ ap (λ b. cond b (Some e.1) (find R e.0 es)) ((eq_by_cmp_equiv o).refl e.0)
+    found_first e es q s =
+        ap (λ x. find R x (e ∷ es)) s ∙ ap (λ b. cond b (Some e.1) (find R e.0 es)) ((eq_by_cmp_equiv o).refl e.0)
 
     pub found_later : (e : K × X) (es : List (K × X)) (q : K) → q ≢ e.0 → find R q (e ∷ es) ≡ find R q es
     found_later e es q d = ap (λ b. cond b (Some e.1) (find R q es)) (told_apart o exact q e.0 d)
 
     pub later_none : (e : K × X) (es : List (K × X)) (q : K) → T (is_sorted R (e ∷ es)) → q ≡ e.0 → find R q es ≡ None
-    later_none e es q h s = ap (λ x. find R x es) s ∙ nothing_below e.0 es (both_parts (below_all R e.0 es) (is_sorted R es) h).0
+    later_none e es q h s =
+        ap (λ x. find R x es) s ∙ nothing_below e.0 es (both_parts (below_all R e.0 es) (is_sorted R es) h).0
 
 -- One property or another, where none has both
 
-no_both : (P Q : EntryName → Type 0) (x : EntryName) → ((y : EntryName) → P y → Q y → ⊥) → P x → (y : EntryName) → Q y → y ≢ x
+no_both : (P Q : EntryName → Type 0) (x : EntryName) → ((y : EntryName) → P y → Q y → ⊥) → P x → (y : EntryName)
+    → Q y → y ≢ x
 no_both P Q x apart p y q s = apart x p (subst Q s q)
 
-exactly_either : (j k : ℕ) (P Q : EntryName → Type 0) → ((y : EntryName) → P y → Q y → ⊥) → Exactly j P → Exactly k Q → Exactly (j + k) (λ y. P y ⊎ Q y)
+exactly_either : (j k : ℕ) (P Q : EntryName → Type 0) → ((y : EntryName) → P y → Q y → ⊥) → Exactly j P
+    → Exactly k Q → Exactly (j + k) (λ y. P y ⊎ Q y)
 exactly_either zero k P Q apart p q =
     let none : k ≡ 0 + k = omega arith in
     subst (λ n. Exactly n (λ y. P y ⊎ Q y)) none (exactly_same k Q (λ y. P y ⊎ Q y) (λ y at. inr at) only q)
@@ -108,7 +112,8 @@ module _ (dir n : ℕ) where
   abbrev Within : List (List ℕ × ℕ) → EntryName → Type 0
   Within es x = (x.0 ≡ dir) × (find (slice_cmp nat_cmp) x.1 es ≡ Some n)
 
-  exactly_within : (es : List (List ℕ × ℕ)) → T (is_sorted (slice_cmp nat_cmp) es) → Exactly (count_by (λ e. nat_eq e.1 n) es) (Within es)
+  exactly_within : (es : List (List ℕ × ℕ)) → T (is_sorted (slice_cmp nat_cmp) es)
+      → Exactly (count_by (λ e. nat_eq e.1 n) es) (Within es)
   exactly_within [] h = λ x at. some_none n None refl at.1
   exactly_within (e ∷ es) h =
       subst (λ k. Exactly k (Within (e ∷ es))) (sym (sum_by-cons (λ (e : List ℕ × ℕ). cond (nat_eq e.1 n) 1 0) e es)) (by (nat_eq e.1 n) refl (exactly_within es (both_parts (below_all (slice_cmp nat_cmp) e.0 es) (is_sorted (slice_cmp nat_cmp) es) h).1))
@@ -126,7 +131,8 @@ module _ (dir n : ℕ) where
       kept y (inl s) at = absurd (some_none n (find (slice_cmp nat_cmp) y.1 es) (gone y.1 s) at.1)
       kept y (inr d) at = (at.0, later y.1 d ∙ at.1)
 
-      dropped : (y : EntryName) → ((y.1 ≡ e.0) ⊎ (y.1 ≢ e.0)) → (y.1 ≡ e.0 → ⊥) ⊎ (e.1 ≢ n) → Within (e ∷ es) y → Within es y
+      dropped : (y : EntryName) → ((y.1 ≡ e.0) ⊎ (y.1 ≢ e.0)) → (y.1 ≡ e.0 → ⊥) ⊎ (e.1 ≢ n) → Within (e ∷ es) y
+          → Within es y
       dropped y (inl s) (inl apart) at = absurd (apart s)
       dropped y (inl s) (inr other) at = absurd (other (same_some e.1 n (sym (first y.1 s) ∙ at.1)))
       dropped y (inr d) why at = (at.0, sym (later y.1 d) ∙ at.1)
@@ -134,7 +140,8 @@ module _ (dir n : ℕ) where
       other_name : (y : EntryName) → y ≢ (dir, e.0) → Within (e ∷ es) y → y.1 ≡ e.0 → ⊥
       other_name y d at s = d (pair_of y.0 dir y.1 e.0 at.0 s)
 
-      by : (b : Bool) → nat_eq e.1 n ≡ b → Exactly (count_by (λ e. nat_eq e.1 n) es) (Within es) → Exactly (cond b 1 0 + count_by (λ e. nat_eq e.1 n) es) (Within (e ∷ es))
+      by : (b : Bool) → nat_eq e.1 n ≡ b → Exactly (count_by (λ e. nat_eq e.1 n) es) (Within es)
+          → Exactly (cond b 1 0 + count_by (λ e. nat_eq e.1 n) es) (Within (e ∷ es))
       by true is rest =
           let k = count_by (λ (e : List ℕ × ℕ). nat_eq e.1 n) es in
           let more : suc k ≡ 1 + k = omega arith in
@@ -166,7 +173,8 @@ module _ (n : ℕ) where
   abbrev Among : List (ℕ × Node) → EntryName → Type 0
   Among ns x = number_in (entries_of (find nat_cmp x.0 ns)) x.1 ≡ Some n
 
-  exactly_among : (ns : List (ℕ × Node)) → T (is_sorted nat_cmp ns) → Exactly (sum (map (λ (e : ℕ × Node). names_in n e.1) ns)) (Among ns)
+  exactly_among : (ns : List (ℕ × Node)) → T (is_sorted nat_cmp ns)
+      → Exactly (sum (map (λ (e : ℕ × Node). names_in n e.1) ns)) (Among ns)
   exactly_among [] h = λ x at. some_none n None refl at
   exactly_among (e ∷ ns) h =
       subst (λ k. Exactly k (Among (e ∷ ns))) (sym (sum_by-cons (λ (k : ℕ). k) (names_in n e.1) (map (λ (e : ℕ × Node). names_in n e.1) ns)))

@@ -25,7 +25,8 @@ above low next (x ∷ ps) p a has = by (has_which x p ps has) (above (x.id + 1) 
     by (inr there) later = let first : low ≤ x.id = a.0 in let rest : x.id + 1 ≤ p.id = later there in omega arith
 
 -- each PFS is found by its id
-found_by_id : (low next k : ℕ) (ps : List Pfs) (p : Pfs) → Ascend low ps next → Contains ps p → (i : ℕ) × (first_from (λ q. nat_eq q.id p.id) k ps ≡ Some (i, p))
+found_by_id : (low next k : ℕ) (ps : List Pfs) (p : Pfs) → Ascend low ps next → Contains ps p
+    → (i : ℕ) × (first_from (λ q. nat_eq q.id p.id) k ps ≡ Some (i, p))
 found_by_id low next k [] p a has = absurd (has_none p has)
 found_by_id low next k (x ∷ ps) p a has = by (has_which x p ps has) (found_by_id (x.id + 1) next (k + 1) ps p a.1)
   where
@@ -38,7 +39,8 @@ found_by_id low next k (x ∷ ps) p a has = by (has_which x p ps has) (found_by_
     apart : x.id + 1 ≤ p.id → x.id ≢ p.id
     apart le s = let above : x.id + 1 ≤ p.id = le in let same : x.id ≡ p.id = s in omega arith
 
-    by : ((x ≡ p) ⊎ Contains ps p) → (Contains ps p → (i : ℕ) × (first_from (λ q. nat_eq q.id p.id) (k + 1) ps ≡ Some (i, p))) → Found
+    by : ((x ≡ p) ⊎ Contains ps p)
+        → (Contains ps p → (i : ℕ) × (first_from (λ q. nat_eq q.id p.id) (k + 1) ps ≡ Some (i, p))) → Found
     by (inl s) later =
         (k, ap (λ b. cond b (Some (k, x)) (first_from (λ q. nat_eq q.id p.id) (k + 1) ps)) (ap (λ (q : Pfs). nat_eq q.id p.id) s ∙ here) ∙ ap (λ (q : Pfs). Some (k, q)) s)
     by (inr there) later =
@@ -54,11 +56,13 @@ module _ (f : PlainForest) (ids : IdsAscend f) (client handle off len : ℕ) whe
   abbrev answered : Option (ℕ × (Pfs × ℕ)) → Reply
   answered o = (given f o NoHandle (λ file. read_reply f (bytes_of (get file.1.0.table file.1.1)) off len)).0
 
-  read_of : (o : Option (List ℕ)) → IsSome o → (bytes : List ℕ) × ((o ≡ Some bytes) × ((read_reply f o off len).0 ≡ Got (read_at bytes off len)))
+  read_of : (o : Option (List ℕ)) → IsSome o
+      → (bytes : List ℕ) × ((o ≡ Some bytes) × ((read_reply f o off len).0 ≡ Got (read_at bytes off len)))
   read_of (Some bytes) h = (bytes, (refl, refl))
   read_of None h = absurd (cc)
 
-  file_read : (id number : ℕ) (here : HasFile f id number) → (bytes : List ℕ) × ((bytes_of (get here.pfs.table number) ≡ Some bytes) × (answered (opened_in f (Some (id, number))) ≡ Got (read_at bytes off len)))
+  file_read : (id number : ℕ) (here : HasFile f id number)
+      → (bytes : List ℕ) × ((bytes_of (get here.pfs.table number) ≡ Some bytes) × (answered (opened_in f (Some (id, number))) ≡ Got (read_at bytes off len)))
   file_read id number here =
       let found = found_by_id 0 f.next_pfs 0 f.pfss here.pfs ids here.listed in
       let is : pfs_with_id id f.pfss ≡ Some (found.0, here.pfs) = ap (λ n. pfs_with_id n f.pfss) (sym here.id_is) ∙ found.1 in

@@ -52,21 +52,28 @@ none_open f none client handle id number at = absurd (no_number (id, number) (sy
 pub closed_stand : (f : PlainForest) → HandlesStand (closed f)
 closed_stand f = none_open (closed f) refl
 
+pub closed_empty : (f : PlainForest) (client handle : ℕ) → contains_key (closed f).handles (client, handle) ≡ false
+closed_empty f client handle = ap is_some (get-empty handle_cmp (client, handle))
+
 pub fresh_stand : HandlesStand fresh
 fresh_stand = none_open fresh refl
 
 -- a PFS with a name is one of the forest
-named_has : (f : PlainForest) (name : List ℕ) (found : ℕ × Pfs) → pfs_named name f.pfss ≡ Some found → Contains f.pfss found.1
+named_has : (f : PlainForest) (name : List ℕ) (found : ℕ × Pfs) → pfs_named name f.pfss ≡ Some found
+    → Contains f.pfss found.1
 named_has f name found is = found_all (Contains f.pfss) (λ p. pointwise nat_eq p.name name) 0 f.pfss found is (All-contains_itself f.pfss)
 
 module _ (f : PlainForest) (stand : HandlesStand f) where
   -- another PFS in the place of one, with its id and its files
-  set_stand : (i : ℕ) (p q : Pfs) → slice_index_or f.pfss i p ≡ p → Stays p q → HandlesStand (record f { pfss = slice_set f.pfss i q })
+  set_stand : (i : ℕ) (p q : Pfs) → slice_index_or f.pfss i p ≡ p → Stays p q
+      → HandlesStand (record f { pfss = slice_set f.pfss i q })
   set_stand i p q at stays client handle id number is =
       let here = stand client handle id number is in
       by here (has_set f.pfss i p q here.pfs at here.listed)
     where
-      by : (here : HasFile f id number) → Contains (slice_set f.pfss i q) here.pfs ⊎ ((here.pfs ≡ p) × Contains (slice_set f.pfss i q) q) → HasFile (record f { pfss = slice_set f.pfss i q }) id number
+      by : (here : HasFile f id number)
+          → Contains (slice_set f.pfss i q) here.pfs ⊎ ((here.pfs ≡ p) × Contains (slice_set f.pfss i q) q)
+          → HasFile (record f { pfss = slice_set f.pfss i q }) id number
       by here (inl there) = record { pfs = here.pfs; listed = there; id_is = here.id_is; file = here.file }
       by here (inr there) = record {
         pfs = q;
@@ -81,7 +88,8 @@ module _ (f : PlainForest) (stand : HandlesStand f) where
       record { pfs = here.pfs; listed = Contains-append_left f.pfss (record { id = f.next_pfs; name = name; next = next; table = table } ∷ []) here.pfs here.listed; id_is = here.id_is; file = here.file }
 
   -- a PFS in which no handle is open goes
-  remove_stand : (i : ℕ) (p : Pfs) → slice_index_or f.pfss i p ≡ p → handles_in f.handles p.id ≡ 0 → HandlesStand (record f { pfss = remove f.pfss i })
+  remove_stand : (i : ℕ) (p : Pfs) → slice_index_or f.pfss i p ≡ p → handles_in f.handles p.id ≡ 0
+      → HandlesStand (record f { pfss = remove f.pfss i })
   remove_stand i p at none client handle id number is =
       let here = stand client handle id number is in
       by here (has_left f.pfss i p here.pfs at here.listed)
@@ -89,12 +97,14 @@ module _ (f : PlainForest) (stand : HandlesStand f) where
       used : p.id ≡ id → ⊥
       used s = found_counted handle_cmp (λ (at : ℕ × ℕ). nat_eq at.0 p.id) (client, handle) (entries f.handles) (id, number) (sym (get-entries f.handles (client, handle)) ∙ is) (ap (λ n. nat_eq n p.id) (sym s) ∙ itself p.id) none
 
-      by : (here : HasFile f id number) → Contains (remove f.pfss i) here.pfs ⊎ (here.pfs ≡ p) → HasFile (record f { pfss = remove f.pfss i }) id number
+      by : (here : HasFile f id number) → Contains (remove f.pfss i) here.pfs ⊎ (here.pfs ≡ p)
+          → HasFile (record f { pfss = remove f.pfss i }) id number
       by here (inl there) = record { pfs = here.pfs; listed = there; id_is = here.id_is; file = here.file }
       by here (inr s) = absurd (used (sym (ap (λ (x : Pfs). x.id) s) ∙ here.id_is))
 
   -- a handle of a file is opened
-  open_stand : (client handle id number : ℕ) → HasFile f id number → HandlesStand (record f { handles = map.insert f.handles (client, handle) (id, number) })
+  open_stand : (client handle id number : ℕ) → HasFile f id number
+      → HandlesStand (record f { handles = map.insert f.handles (client, handle) (id, number) })
   open_stand client handle id number new c h i n is = by (same_key handles_total exact_handles (c, h) (client, handle))
     where
       g : PlainForest
@@ -125,7 +135,8 @@ module _ (f : PlainForest) (stand : HandlesStand f) where
 
   -- The commands
 
-  in_pfs_stand : (name : List ℕ) (command : Pfs → Reply × Pfs) → ((p : Pfs) → Contains f.pfss p → Stays p (command p).1) → HandlesStand (in_pfs f name command).1
+  in_pfs_stand : (name : List ℕ) (command : Pfs → Reply × Pfs)
+      → ((p : Pfs) → Contains f.pfss p → Stays p (command p).1) → HandlesStand (in_pfs f name command).1
   in_pfs_stand name command step =
       given_keeps HandlesStand f stand (pfs_named name f.pfss) _ _ (λ found is.
       set_stand found.0 found.1 (command found.1).1 (at_found (λ p. pointwise nat_eq p.name name) f.pfss found is) (step found.1 (named_has f name found is)))
@@ -133,7 +144,8 @@ module _ (f : PlainForest) (stand : HandlesStand f) where
   ask_pfs_stand : (name : List ℕ) (question : Pfs → Reply) → HandlesStand (ask_pfs f name question).1
   ask_pfs_stand name question = given_keeps HandlesStand f stand (pfs_named name f.pfss) _ _ (λ found is. stand)
 
-  file_stand : (client number : ℕ) (here : ℕ × (Pfs × ℕ)) (change : List ℕ → List ℕ) → opened f client number ≡ Some here → HandlesStand (with_file f here change)
+  file_stand : (client number : ℕ) (here : ℕ × (Pfs × ℕ)) (change : List ℕ → List ℕ)
+      → opened f client number ≡ Some here → HandlesStand (with_file f here change)
   file_stand client number here change is =
       set_stand here.0 here.1.0 (record here.1.0 { table = rewritten here.1.0.table here.1.1 change }) (opened_at f (get f.handles (client, number)) here is) (rewritten_stays here.1.0 here.1.1 change)
 
@@ -183,13 +195,15 @@ module _ (f : PlainForest) (stand : HandlesStand f) where
     holds_of p has = agrees p (All-contains IsConsistent f.pfss p c has)
 
     -- what names lead to is a file where it isn't a directory
-    led_to : (p : Pfs) (names : List (List ℕ)) (number : ℕ) → Contains f.pfss p → walk p.table 1 names ≡ Ok number → is_some (entries_at p.table number) ≡ false → HasFile f p.id number
+    led_to : (p : Pfs) (names : List (List ℕ)) (number : ℕ) → Contains f.pfss p → walk p.table 1 names ≡ Ok number
+        → is_some (entries_at p.table number) ≡ false → HasFile f p.id number
     led_to p names number has way plain =
         let h = holds_of p has in
         let there = walk_stands p.table p.next h names 1 number way (λ gone. missing_directory (sym gone ∙ h.first)) in
         record { pfs = p; listed = has; id_is = refl; file = has_bytes (get p.table number) (links_of (get p.table number)) (a_file p h (get p.table number) there plain) }
 
-    attach_stand : (client place : ℕ) (names : List (List ℕ)) (p : Pfs) → Contains f.pfss p → HandlesStand (attached f client place names p).1
+    attach_stand : (client place : ℕ) (names : List (List ℕ)) (p : Pfs) → Contains f.pfss p
+        → HandlesStand (attached f client place names p).1
     attach_stand client place names p has =
         on_keeps HandlesStand f stand (walk p.table 1 names) _ (λ inode way.
         refuse_keeps HandlesStand f stand (is_some (entries_at p.table inode)) _ _ (λ plain.

@@ -69,7 +69,8 @@ left_stays : (t : Table) (dir : ℕ) (name : List ℕ) → FilesStay t (left t d
 left_stays t dir name = changed_stays t dir (λ es. remove es name)
 
 -- another inode in the place of one, which is a file where that one was
-put_stays : (t : Table) (n : ℕ) (node : Node) → (IsFileKind t n → (links : ℕ) × (kind_of (Some node) ≡ file links)) → FilesStay t (insert t n node)
+put_stays : (t : Table) (n : ℕ) (node : Node) → (IsFileKind t n → (links : ℕ) × (kind_of (Some node) ≡ file links))
+    → FilesStay t (insert t n node)
 put_stays t n node here m is = by (same_number m n)
   where
     by : ((m ≡ n) ⊎ (m ≢ n)) → IsFileKind (insert t n node) m
@@ -87,7 +88,8 @@ relinked_stays t n links = by (get t n) refl
     by (Some (Directory es)) is = put_stays t n (Directory es) (λ here. absurd (file_directory here.0 (sym here.1 ∙ ap kind_of is)))
 
 -- without files that have no link, a kept one stays
-pub kept_stays : (t : Table) (kept : ℕ → Bool) (n : ℕ) → kept n ≡ true → IsFileAt t n → IsFileAt (without_orphans t kept) n
+pub kept_stays : (t : Table) (kept : ℕ → Bool) (n : ℕ) → kept n ≡ true → IsFileAt t n
+    → IsFileAt (without_orphans t kept) n
 kept_stays t kept n is h = subst (λ o. IsSome (bytes_of o)) (sym (thinned t kept n ∙ ap (λ b. cond (b || not (is_orphan (get t n))) (get t n) None) is)) h
 
 -- Each command
@@ -97,7 +99,8 @@ module _ (p : Pfs) where
   stays_itself = (refl, λ n is. is)
 
   module _ (h : Holds p) where
-    new_stays : (t : Table) (node : Node) → FilesStay p.table t → ((n : ℕ) → kind_at t n ≡ kind_at p.table n) → FilesStay p.table (insert t p.next node)
+    new_stays : (t : Table) (node : Node) → FilesStay p.table t → ((n : ℕ) → kind_at t n ≡ kind_at p.table n)
+        → FilesStay p.table (insert t p.next node)
     new_stays t node stay same = then_stays p.table t (insert t p.next node) stay (put_stays t p.next node (λ here. absurd (missing_file here.0 (sym none ∙ here.1))))
       where
         none : kind_at t p.next ≡ missing
@@ -140,7 +143,8 @@ module _ (p : Pfs) where
             (relinked_stays (left p.table dir (last names)) number (links_of (get p.table number) - 1)),
       ))))
 
-  gone_stays : (dir number : ℕ) (name : List ℕ) (es : Entries) → entries_at p.table number ≡ Some es → FilesStay p.table (remove (left p.table dir name) number)
+  gone_stays : (dir number : ℕ) (name : List ℕ) (es : Entries) → entries_at p.table number ≡ Some es
+      → FilesStay p.table (remove (left p.table dir name) number)
   gone_stays dir number name es is m here =
       let off = left_stays p.table dir name m here in
       (off.0, (kind_removed (left p.table dir name) number).1 m apart ∙ off.1)

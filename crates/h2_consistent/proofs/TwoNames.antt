@@ -35,8 +35,11 @@ module _ (links : ℕ) where
   stands_at : (n : ℕ) → get (two_names links) n ≡ find nat_cmp n ((1, Directory two_entries) ∷ (2, File [] links) ∷ [])
   stands_at n = get-entries (two_names links) n ∙ ap (find nat_cmp n) table_listed
 
-  counted : (n : ℕ) → names_of (two_names links) n ≡ sum (count_by (λ (e : List ℕ × ℕ). nat_eq e.1 n) ((97 ∷ [], 2) ∷ (98 ∷ [], 2) ∷ []) ∷ 0 ∷ [])
-  counted n = ap (λ es. sum (map (λ (e : ℕ × Node). names_in n e.1) es)) table_listed ∙ ap (λ es. sum (count_by (λ (e : List ℕ × ℕ). nat_eq e.1 n) es ∷ 0 ∷ [])) two_listed
+  counted : (n : ℕ)
+      → names_of (two_names links) n ≡ sum (count_by (λ (e : List ℕ × ℕ). nat_eq e.1 n) ((97 ∷ [], 2) ∷ (98 ∷ [], 2) ∷ []) ∷ 0 ∷ [])
+  counted n =
+      ap (λ es. sum (map (λ (e : ℕ × Node). names_in n e.1) es)) table_listed
+      ∙ ap (λ es. sum (count_by (λ (e : List ℕ × ℕ). nat_eq e.1 n) es ∷ 0 ∷ [])) two_listed
 
   none_node : (x : Node) → None ≡ Some x → ⊥
   none_node x e = cc
@@ -45,7 +48,8 @@ module _ (links : ℕ) where
   same_node x y e = cc
 
   -- there are two inodes
-  which : (n : ℕ) (x : Node) → get (two_names links) n ≡ Some x → ((n ≡ 1) × (Directory two_entries ≡ x)) ⊎ ((n ≡ 2) × (File [] links ≡ x))
+  which : (n : ℕ) (x : Node) → get (two_names links) n ≡ Some x
+      → ((n ≡ 1) × (Directory two_entries ≡ x)) ⊎ ((n ≡ 2) × (File [] links ≡ x))
   which n x is = by (same_number n 1) (same_number n 2)
     where
       at : find nat_cmp n ((1, Directory two_entries) ∷ (2, File [] links) ∷ []) ≡ Some x
@@ -54,18 +58,21 @@ module _ (links : ℕ) where
       apart : (k : ℕ) → n ≢ k → eq_by_cmp nat_cmp n k ≡ false
       apart k d = told_apart nat_cmp_total nat_cmp-IsAntisymmetric n k d
 
-      by : ((n ≡ 1) ⊎ (n ≢ 1)) → ((n ≡ 2) ⊎ (n ≢ 2)) → ((n ≡ 1) × (Directory two_entries ≡ x)) ⊎ ((n ≡ 2) × (File [] links ≡ x))
+      by : ((n ≡ 1) ⊎ (n ≢ 1)) → ((n ≡ 2) ⊎ (n ≢ 2))
+          → ((n ≡ 1) × (Directory two_entries ≡ x)) ⊎ ((n ≡ 2) × (File [] links ≡ x))
       by (inl s) other = inl (s, same_node (Directory two_entries) x (sym (ap (λ m. find nat_cmp m ((1, Directory two_entries) ∷ (2, File [] links) ∷ [])) s) ∙ at))
       by (inr d) (inl s) = inr (s, same_node (File [] links) x (sym (ap (λ m. find nat_cmp m ((1, Directory two_entries) ∷ (2, File [] links) ∷ [])) s) ∙ at))
       by (inr d) (inr off) = absurd (none_node x (sym (ap (λ b. cond b (Some (Directory two_entries)) (cond (eq_by_cmp nat_cmp n 2) (Some (File [] links)) None)) (apart 1 d) ∙ ap (λ b. cond b (Some (File [] links)) None) (apart 2 off)) ∙ at))
 
 -- both names are of number 2
-named_two : (o : Option ℕ) (a b : Bool) → cond a (Some 2) (cond b (Some 2) None) ≡ o → (number : ℕ) → o ≡ Some number → number ≡ 2
+named_two : (o : Option ℕ) (a b : Bool) → cond a (Some 2) (cond b (Some 2) None) ≡ o → (number : ℕ)
+    → o ≡ Some number → number ≡ 2
 named_two o true b e number is = let same : Some 2 ≡ Some number = e ∙ is in cc
 named_two o false true e number is = let same : Some 2 ≡ Some number = e ∙ is in cc
 named_two o false false e number is = let same : None ≡ Some number = e ∙ is in absurd (cc)
 
-a_directory : (o : Option Node) (name : List ℕ) (number : ℕ) → number_in (entries_of o) name ≡ Some number → (es : Entries) × ((o ≡ Some (Directory es)) × (get es name ≡ Some number))
+a_directory : (o : Option Node) (name : List ℕ) (number : ℕ) → number_in (entries_of o) name ≡ Some number
+    → (es : Entries) × ((o ≡ Some (Directory es)) × (get es name ≡ Some number))
 a_directory (Some (Directory es)) name number is = (es, (refl, is))
 a_directory (Some (File bytes links)) name number is = let e : None ≡ Some number = is in absurd (cc)
 a_directory None name number is = let e : None ≡ Some number = is in absurd (cc)
@@ -96,22 +103,32 @@ two_links_tree = record {
     file_there : IsSome (get (two_names 2) 2)
     file_there = subst IsSome (sym (stands_at 2 2)) refl
 
-    named : (dir number : ℕ) (name : List ℕ) → ((es : Entries) × ((get (two_names 2) dir ≡ Some (Directory es)) × (get es name ≡ Some number))) → IsSome (get (two_names 2) number)
+    named : (dir number : ℕ) (name : List ℕ)
+        → ((es : Entries) × ((get (two_names 2) dir ≡ Some (Directory es)) × (get es name ≡ Some number)))
+        → IsSome (get (two_names 2) number)
     named dir number name is = by (which 2 dir (Directory is.0) is.1.0)
       where
-        by : ((dir ≡ 1) × (Directory two_entries ≡ Directory is.0)) ⊎ ((dir ≡ 2) × (File [] 2 ≡ Directory is.0)) → IsSome (get (two_names 2) number)
+        by : ((dir ≡ 1) × (Directory two_entries ≡ Directory is.0)) ⊎ ((dir ≡ 2) × (File [] 2 ≡ Directory is.0))
+            → IsSome (get (two_names 2) number)
         by (inl e) = subst (λ n. IsSome (get (two_names 2) n)) (sym (two_at name number (ap (λ (es : Entries). get es name) (same_entries two_entries is.0 e.1) ∙ is.1.1))) file_there
         by (inr e) = absurd (file_no_directory [] 2 is.0 e.1)
 
-    links_are : (number links : ℕ) (bytes : List ℕ) → ((number ≡ 1) × (Directory two_entries ≡ File bytes links)) ⊎ ((number ≡ 2) × (File [] 2 ≡ File bytes links)) → names_of (two_names 2) number ≡ links
+    links_are : (number links : ℕ) (bytes : List ℕ)
+        → ((number ≡ 1) × (Directory two_entries ≡ File bytes links)) ⊎ ((number ≡ 2) × (File [] 2 ≡ File bytes links))
+        → names_of (two_names 2) number ≡ links
     links_are number links bytes (inl e) = absurd (file_no_directory bytes links two_entries (sym e.1))
-    links_are number links bytes (inr e) = ap (names_of (two_names 2)) e.0 ∙ counted 2 2 ∙ same_links [] bytes 2 links e.1
+    links_are number links bytes (inr e) =
+        ap (names_of (two_names 2)) e.0 ∙ counted 2 2 ∙ same_links [] bytes 2 links e.1
 
-    once : (number : ℕ) (es : Entries) → number ≢ 1 → ((number ≡ 1) × (Directory two_entries ≡ Directory es)) ⊎ ((number ≡ 2) × (File [] 2 ≡ Directory es)) → names_of (two_names 2) number ≡ 1
+    once : (number : ℕ) (es : Entries) → number ≢ 1
+        → ((number ≡ 1) × (Directory two_entries ≡ Directory es)) ⊎ ((number ≡ 2) × (File [] 2 ≡ Directory es))
+        → names_of (two_names 2) number ≡ 1
     once number es other (inl e) = absurd (other e.0)
     once number es other (inr e) = absurd (file_no_directory [] 2 es e.1)
 
-    reached : (number : ℕ) (es : Entries) → ((number ≡ 1) × (Directory two_entries ≡ Directory es)) ⊎ ((number ≡ 2) × (File [] 2 ≡ Directory es)) → IsReached (two_names 2) number
+    reached : (number : ℕ) (es : Entries)
+        → ((number ≡ 1) × (Directory two_entries ≡ Directory es)) ⊎ ((number ≡ 2) × (File [] 2 ≡ Directory es))
+        → IsReached (two_names 2) number
     reached number es (inl e) = ([], ap Ok (sym e.0))
     reached number es (inr e) = absurd (file_no_directory [] 2 es e.1)
 

@@ -31,7 +31,8 @@ pub record IsFileTree (next : ℕ) (t : Table) : Type 0 where
   -- each entry names an inode
   pub named : (dir number : ℕ) (name : List ℕ) → HasEntry t dir name number → IsSome (get t number)
   -- a file's links are the entries that name it
-  pub links_are : (number links : ℕ) (bytes : List ℕ) → get t number ≡ Some (File bytes links) → names_of t number ≡ links
+  pub links_are : (number links : ℕ) (bytes : List ℕ) → get t number ≡ Some (File bytes links)
+      → names_of t number ≡ links
   -- each other directory has one entry, and names lead to it
   pub once : (number : ℕ) (es : Entries) → get t number ≡ Some (Directory es) → number ≢ 1 → names_of t number ≡ 1
   pub reached : (number : ℕ) (es : Entries) → get t number ≡ Some (Directory es) → IsReached t number

@@ -18,7 +18,8 @@ pub record HasFile (f : PlainForest) (id number : ℕ) : Type 0 where
 
 -- each open handle names a file that stands
 abbrev pub HandlesStand : PlainForest → Type 0
-HandlesStand f = (client handle id number : ℕ) → get f.handles (client, handle) ≡ Some (id, number) → HasFile f id number
+HandlesStand f =
+    (client handle id number : ℕ) → get f.handles (client, handle) ≡ Some (id, number) → HasFile f id number
 
 -- an open handle names the file with a number in the PFS with an id
 abbrev pub IsOpen : PlainForest → ℕ → ℕ → Type 0
@@ -26,7 +27,8 @@ IsOpen f id number = (client : ℕ) × ((handle : ℕ) × (get f.handles (client
 
 -- each file without a link has an open handle
 abbrev pub OrphansAreOpen : PlainForest → Type 0
-OrphansAreOpen f = (p : Pfs) (number : ℕ) → Contains f.pfss p → is_orphan (get p.table number) ≡ true → IsOpen f p.id number
+OrphansAreOpen f =
+    (p : Pfs) (number : ℕ) → Contains f.pfss p → is_orphan (get p.table number) ≡ true → IsOpen f p.id number
 
 -- each file has a link
 abbrev pub HasNoOrphans : PlainForest → Type 0

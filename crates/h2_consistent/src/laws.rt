@@ -1,4 +1,4 @@
-ghost use Rattle.std.specs.Prelude.{◌≡◌, ℕ, List, Some, true};
+ghost use Rattle.std.specs.Prelude.{◌≡◌, ℕ, List, Some, false, true};
 ghost use Rattle.std.specs.FinMap.{contains_key};
 ghost use Rattle.h2_command.specs.declared.command.Command.{Command};
 ghost use Rattle.h2_command.specs.declared.history.Item.{Item};
@@ -23,8 +23,8 @@ pub fn consistent_law()
 {}
 
 /// Laws: in the forest of a formatted volume each open handle names a file that stands, and each command keeps that
-/// in a consistent forest, whatever it answers. Taking out the files without a link keeps it, and leaves only those
-/// that a handle names; where the handles were closed before, none is left. So it holds at each place of a history,
+/// in a consistent forest, whatever it answers; after closing all, none is open. Taking out the files without a link
+/// keeps it, and leaves only those that a handle names; where the handles were closed before, none is left. So it holds at each place of a history,
 /// which begins without handles, and of the forest that was frozen for a header. A read by an open handle is then
 /// answered with the bytes of the file that it names, where the PFSs stand in the order of their ids.
 pub fn handles_law()
@@ -32,6 +32,7 @@ pub fn handles_law()
     ensures kept { (f : PlainForest) (client : ℕ) (command : Command) → AreConsistent f → HandlesStand f → HandlesStand (answer f client command).1 }
     ensures trimmed { (f : PlainForest) → HandlesStand f → HandlesStand (trim f) }
     ensures closed { (f : PlainForest) → HandlesStand (closed f) }
+    ensures none_open { (f : PlainForest) (client handle : ℕ) → contains_key (closed f).handles (client, handle) ≡ false }
     ensures cleaned { (f : PlainForest) → HandlesStand (clean f) }
     ensures orphans { (f : PlainForest) → OrphansAreOpen (trim f) }
     ensures no_orphans { (f : PlainForest) → HasNoOrphans (clean f) }

@@ -1,7 +1,7 @@
 use Rattle.h2_forest.specs.Forest.{closed}
 use Rattle.h2_consistent.proofs.Forests.{closed_consistent}
 use Rattle.h2_consistent.proofs.Histories.{forest_keeps, frozen_keeps}
-use Rattle.h2_consistent.proofs.Standing.{fresh_stand, answer_stand, trim_stand, closed_stand, trim_orphans, clean_orphans, Sound, sound_kept}
+use Rattle.h2_consistent.proofs.Standing.{fresh_stand, answer_stand, trim_stand, closed_stand, closed_empty, trim_orphans, clean_orphans, Sound, sound_kept}
 use Rattle.h2_consistent.proofs.Readable.{open_read}
 use Rattle.h2_consistent.proofs.laws.handles_law.Goals as goal
 
@@ -16,6 +16,9 @@ returns-clause-trimmed c = trim_stand
 
 pub returns-clause-closed : goal.returns-clause-closed
 returns-clause-closed c = closed_stand
+
+pub returns-clause-none_open : goal.returns-clause-none_open
+returns-clause-none_open c = closed_empty
 
 pub returns-clause-cleaned : goal.returns-clause-cleaned
 returns-clause-cleaned c = λ f. trim_stand (closed f) (closed_stand f)
