@@ -24,9 +24,10 @@ pub fn consistent_law()
 
 /// Laws: in the forest of a formatted volume each open handle names a file that stands, and each command keeps that
 /// in a consistent forest, whatever it answers; after closing all, none is open. Taking out the files without a link
-/// keeps it, and leaves only those that a handle names; where the handles were closed before, none is left. So it holds at each place of a history,
-/// which begins without handles, and of the forest that was frozen for a header. A read by an open handle is then
-/// answered with the bytes of the file that it names, where the PFSs stand in the order of their ids.
+/// keeps it, and leaves only those that a handle names; where the handles were closed before, none is left. So it
+/// holds at each place of a history, which begins without handles, and of the forest that was frozen for a header. A
+/// read by an open handle is then answered with the bytes of the file that it names, where the PFSs stand in the
+/// order of their ids.
 pub fn handles_law()
     ensures fresh { HandlesStand fresh }
     ensures kept { (f : PlainForest) (client : ℕ) (command : Command) → AreConsistent f → HandlesStand f → HandlesStand (answer f client command).1 }
