@@ -15,7 +15,7 @@ use Rattle.h2_memory_sets.specs.declared.node.Place.{Place}
 use Rattle.h2_memory_sets.specs.Inodes.{sought, with_inode, IsSought}
 use Rattle.h2_memory_sets.specs.Kept.{AreKept}
 use Rattle.h2_memory_sets.specs.Later.{IsLost, is_open, StaysBelow, same, moved as moved_below, KeepsNode, KeepsBlocks, FailsAsPlanned, waits, came, SpoilsAsPlanned}
-use Rattle.h2_memory_sets.specs.LaterLaws.{node_refl, blocks_refl, blocks_trans}
+use Rattle.h2_memory_sets.specs.LaterLaws.{node_refl, blocks_trans}
 use Rattle.h2_memory_sets.specs.Owners.{refit}
 use Rattle.h2_memory_sets.specs.View.{is_up, is_away, IsLoadable, stands_of, writable_of, with_set, with_dirty, with_copies, marked_all, recounted_all, count_copied, place_of, is_above, is_over, lost, goes, goes_with, dropped, dropped_all, brought, moved, moved_up, moved_all, new_node, parted}
 use Rattle.h2_memory_sets.proofs.Bringing.{away_parts}

@@ -1,6 +1,6 @@
 -- What the calls of the traits keep of a value: the names, the blocks but for those that they write or lose, and which
 -- loads and calls are still to fail.
-use Rattle.std.specs.Prelude.{◌≡◌, ◌≤◌, ◌<◌, ℕ, Bool, true, false, ◌&&◌, List, length, Option, Some, None, slice_get}
+use Rattle.std.specs.Prelude.{◌≡◌, ◌≤◌, ◌<◌, ℕ, Bool, false, ◌&&◌, List, length, Option, Some, None, slice_get}
 use Rattle.h2_num.specs.Causes.{Rose, one_more}
 use Rattle.h2_memory_sets.specs.declared.node.Node.{Node}
 use Rattle.h2_memory_sets.specs.declared.memory.MemorySets.{MemorySets}

@@ -1,9 +1,9 @@
 -- A value goes on as itself, and what goes on from a later value does so from an earlier one.
-use Rattle.std.proofs.Common.{◌≡◌, ◌≤◌, ◌<◌, ℕ, false, List, length, Option, Some, slice_get, arith, refl, sym, ◌∙◌, ap, subst, zero, suc}
+use Rattle.std.proofs.Common.{◌≤◌, ℕ, List, length, Option, arith, refl, ◌∙◌, ap, zero, suc}
 use Rattle.h2_num.specs.Causes.{Rose, one_more}
 use Rattle.h2_memory_sets.specs.declared.node.Node.{Node}
 use Rattle.h2_memory_sets.specs.declared.memory.MemorySets.{MemorySets}
-use Rattle.h2_memory_sets.specs.Later.{IsLost, StaysBelow, same, moved, KeepsNode, KeepsBlocks, FailsAsPlanned, waits, came, SpoilsAsPlanned, GoesOn}
+use Rattle.h2_memory_sets.specs.Later.{StaysBelow, same, moved, KeepsNode, KeepsBlocks, FailsAsPlanned, waits, came, SpoilsAsPlanned, GoesOn}
 
 -- Nodes and blocks
 

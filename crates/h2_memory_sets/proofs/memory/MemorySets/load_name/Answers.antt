@@ -1,6 +1,6 @@
 use Rattle.std.proofs.Common.{arith, refl}
 use Rattle.h2_memory_sets.proofs.Nodes.{unchanged_nodes}
-use Rattle.h2_memory_sets.specs.LaterLaws.{blocks_refl, fails_still, spoils_still}
+use Rattle.h2_memory_sets.specs.LaterLaws.{blocks_refl, spoils_still}
 use Rattle.h2_memory_sets.proofs.Going.{fails_now, fails_later, spoils_now, spoils_later, not_due}
 use Rattle.h2_memory_sets.proofs.memory.MemorySets.load_name.Goals as goal
 
