@@ -6,7 +6,7 @@ use Rattle.std.proofs.lemmas.List.{drop_all}
 use Rattle.h2_num.specs.Places.{Holds, Places, Same, SameOutside}
 use Rattle.h2_num.specs.PlaceLaws.{outside}
 use Rattle.h2_num.specs.Causes.{one_more}
-use Rattle.h2_disk.specs.Disk.{HasCause}
+use Rattle.h2_disk.specs.Disk.{HasCause, CountsWant}
 use Rattle.h2_disk.specs.declared.disk.DiskFault.{DiskFault}
 use Rattle.h2_disk.specs.declared.disk.DiskFault.TheVariants.{Failed, NoMemory}
 use Rattle.h2_checkpoint.specs.Queue.{Entry, IsAmong, InEntries, entry_of, overlay_all}
@@ -23,6 +23,10 @@ ticked m n e before = elim (cases_lt m (2 ^ 64 - 2)) [ inl lt ↦ omega arith | 
 pub cause_since : (a b c : ℕ) (fault : DiskFault) → a ≤ b → HasCause b c fault → HasCause a c fault
 cause_since a b c Failed le rose = let r : one_more b ≤ c = rose in omega arith
 cause_since a b c NoMemory le rose = tt
+
+-- what a call counts of wants of memory, an earlier one counts that wanted none before it
+pub want_since : (a b c : ℕ) (fault : DiskFault) → b ≡ a → CountsWant b c fault → CountsWant a c fault
+want_since a b c fault same counts = subst (λ (n : ℕ). CountsWant n c fault) same counts
 
 pub piece_among : (pieces : List Piece) (k : ℕ) (piece : Piece) → k < length pieces → piece ≡ slice_index_or pieces k piece → IsAmong (queue_of pieces) (entry_of piece)
 piece_among [] k piece lt is = absurd (omega arith)

@@ -1,7 +1,7 @@
 ghost use Rattle.std.specs.Prelude.{◌≡◌, ◌≤◌, ◌+◌, ◌^◌, ℕ, length, IsTrue, IfErr, OnOk, OnErr, All};
 ghost use Rattle.h2_num.specs.Places.{Same, SameOutside};
 ghost use Rattle.h2_num.specs.Causes.{one_more};
-ghost use Rattle.h2_disk.specs.Disk.{HasCause, Keeps, Syncs, Writes};
+ghost use Rattle.h2_disk.specs.Disk.{HasCause, CountsWants, Keeps, Syncs, Writes};
 ghost use Rattle.h2_checkpoint.specs.Queue.{InEntries, overlay_all};
 ghost use Rattle.h2_checkpoint.specs.Stands.{disk_state};
 ghost use Rattle.h2_checkpoint.specs.Steps.{queue_of, WritesPieces, FailsToWritePieces, SecuresBlocks, FailsToSync, SendsHeader, FailsToSend, CompletesCheckpoint};
@@ -28,7 +28,7 @@ pub(crate) fn write_pieces<D: Disk, V: VolumeFormat>(
     ensures time_most { OnErr result (D.moment disk.new ≤ D.moment disk.old + length pieces.now) }
     ensures later { D.faults disk.old ≤ D.faults disk.new }
     ensures cause { IfErr result (λ fault. HasCause (D.faults disk.old) (D.faults disk.new) fault) }
-    ensures memory { IfErr result (λ fault. IsTrue D.takes_no_memory → fault ≡ DiskFault.Failed) }
+    ensures memory { CountsWants (D.wants disk.old) (D.wants disk.new) result }
 {
     for piece in pieces {
         if let Err(fault) = disk.write(piece.at, piece.bytes.as_slice()) {
@@ -48,7 +48,7 @@ fn settle<D: Disk>(disk: &mut D) -> Result<(), DiskFault>
     ensures time_failed { OnErr result (D.moment disk.new ≡ one_more (D.moment disk.old)) }
     ensures later { D.faults disk.old ≤ D.faults disk.new }
     ensures cause { IfErr result (λ fault. HasCause (D.faults disk.old) (D.faults disk.new) fault) }
-    ensures memory { IfErr result (λ fault. IsTrue D.takes_no_memory → fault ≡ DiskFault.Failed) }
+    ensures memory { CountsWants (D.wants disk.old) (D.wants disk.new) result }
 {
     disk.sync()
 }
@@ -66,7 +66,7 @@ pub(crate) fn sync_blocks<D: Disk, V: VolumeFormat>(disk: &mut D) -> Result<(), 
     ensures time_failed { OnErr result (D.moment disk.new ≡ one_more (D.moment disk.old)) }
     ensures later { D.faults disk.old ≤ D.faults disk.new }
     ensures cause { IfErr result (λ fault. HasCause (D.faults disk.old) (D.faults disk.new) fault) }
-    ensures memory { IfErr result (λ fault. IsTrue D.takes_no_memory → fault ≡ DiskFault.Failed) }
+    ensures memory { CountsWants (D.wants disk.old) (D.wants disk.new) result }
 {
     if let Err(fault) = settle(disk) {
         return Err(fault);
@@ -92,7 +92,7 @@ pub(crate) fn write_header<D: Disk, V: VolumeFormat>(
     ensures time_failed { OnErr result (D.moment disk.new ≡ one_more (D.moment disk.old)) }
     ensures later { D.faults disk.old ≤ D.faults disk.new }
     ensures cause { IfErr result (λ fault. HasCause (D.faults disk.old) (D.faults disk.new) fault) }
-    ensures memory { IfErr result (λ fault. IsTrue D.takes_no_memory → fault ≡ DiskFault.Failed) }
+    ensures memory { CountsWants (D.wants disk.old) (D.wants disk.new) result }
 {
     if let Err(fault) = disk.write(place, header) {
         return Err(fault);
@@ -113,7 +113,7 @@ pub(crate) fn sync_header<D: Disk, V: VolumeFormat>(disk: &mut D) -> Result<(), 
     ensures time_failed { OnErr result (D.moment disk.new ≡ one_more (D.moment disk.old)) }
     ensures later { D.faults disk.old ≤ D.faults disk.new }
     ensures cause { IfErr result (λ fault. HasCause (D.faults disk.old) (D.faults disk.new) fault) }
-    ensures memory { IfErr result (λ fault. IsTrue D.takes_no_memory → fault ≡ DiskFault.Failed) }
+    ensures memory { CountsWants (D.wants disk.old) (D.wants disk.new) result }
 {
     if let Err(fault) = settle(disk) {
         return Err(fault);

@@ -1,5 +1,5 @@
 ghost use Rattle.std.specs.Prelude.{◌≡◌, ◌≤◌, ◌+◌, ◌^◌, length, IsTrue, IfErr, All};
-ghost use Rattle.h2_disk.specs.Disk.{HasCause};
+ghost use Rattle.h2_disk.specs.Disk.{HasCause, CountsWants};
 ghost use Rattle.h2_checkpoint.specs.Stands.{disk_state};
 ghost use Rattle.h2_checkpoint.specs.Steps.{StepsFlush, StepsImage, Advances, Ticks, EndsDurable, SameElsewhere};
 
@@ -26,7 +26,7 @@ pub struct Flushing {
 impl Flushing {
     /// Makes the next call of the disk: writes one piece, or makes all of them durable, writes the
     /// header, or makes it durable. A fault is the disk's own, and sets the flush back to its first
-    /// piece. It takes no memory, so memory is wanting only over a disk that takes some.
+    /// piece. It takes no memory of its own: memory is wanting exactly where the disk answered so.
     pub fn step<D: Disk, V: VolumeFormat>(&mut self, disk: &mut D) -> Result<Stepped, DiskFault>
         requires pieces_fit { All (λ piece. piece.at + length piece.bytes ≤ 2 ^ 34) self.old.pieces.items }
         requires header_fits { self.old.place + length self.old.header ≤ 2 ^ 34 }
@@ -45,7 +45,7 @@ impl Flushing {
         ensures time { Ticks result (D.moment disk.old) (D.moment disk.new) }
         ensures later { D.faults disk.old ≤ D.faults disk.new }
         ensures cause { IfErr result (λ fault. HasCause (D.faults disk.old) (D.faults disk.new) fault) }
-        ensures memory { IfErr result (λ fault. IsTrue D.takes_no_memory → fault ≡ DiskFault.Failed) }
+        ensures memory { CountsWants (D.wants disk.old) (D.wants disk.new) result }
     {
         match self.next {
             Next::Pieces(k) => {

@@ -1,7 +1,7 @@
 ghost use Rattle.std.specs.Prelude.{◌≡◌, ◌≤◌, ◌+◌, ◌^◌, length, IsTrue, IfErr, OnOk, OnErr, All};
 ghost use Rattle.h2_num.specs.Places.{Same};
 ghost use Rattle.h2_disk.specs.Trace.{IsDurable};
-ghost use Rattle.h2_disk.specs.Disk.{HasCause};
+ghost use Rattle.h2_disk.specs.Disk.{HasCause, CountsWants};
 ghost use Rattle.h2_checkpoint.specs.Stands.{disk_state};
 ghost use Rattle.h2_checkpoint.specs.Steps.{image_with, SameElsewhere};
 ghost use Rattle.h2_checkpoint.specs.Making.{MakesSafely, Makes};
@@ -17,7 +17,7 @@ use h2_disk::{Disk, DiskFault};
 /// header, or the planned volume. At Ok the volume stands and is durable. With n pieces the header's
 /// write begins at the moment n + 3 after the call's start, or the last moment, and a cut before leaves no
 /// header. A call that is Ok ends at n + 5, and one that fails at n + 4 or before. A fault is the disk's
-/// own, and memory is wanting only over a disk that takes some.
+/// own, and memory is wanting exactly where the disk answered so.
 pub fn make<D: Disk, V: VolumeFormat>(
     disk: &mut D,
     pieces: &[Piece],
@@ -40,7 +40,7 @@ pub fn make<D: Disk, V: VolumeFormat>(
     ensures time_most { OnErr result (D.moment disk.new ≤ D.moment disk.old + length pieces.now + 4) }
     ensures later { D.faults disk.old ≤ D.faults disk.new }
     ensures cause { IfErr result (λ fault. HasCause (D.faults disk.old) (D.faults disk.new) fault) }
-    ensures memory { IfErr result (λ fault. IsTrue D.takes_no_memory → fault ≡ DiskFault.Failed) }
+    ensures memory { CountsWants (D.wants disk.old) (D.wants disk.new) result }
 {
     if let Err(fault) = drive::<D, V>(disk, pieces, place, header) {
         return Err(fault);

@@ -1,7 +1,7 @@
 ghost use Rattle.std.specs.Prelude.{◌≡◌, ◌≤◌, ◌+◌, ◌^◌, length, IsTrue, IfErr, OnOk, OnErr, All};
 ghost use Rattle.h2_num.specs.Places.{Same};
 ghost use Rattle.h2_disk.specs.Trace.{IsDurable};
-ghost use Rattle.h2_disk.specs.Disk.{HasCause};
+ghost use Rattle.h2_disk.specs.Disk.{HasCause, CountsWants};
 ghost use Rattle.h2_checkpoint.specs.Stands.{disk_state};
 ghost use Rattle.h2_checkpoint.specs.Steps.{Finishes, IsSetBack, image_with, SameElsewhere};
 
@@ -17,7 +17,7 @@ use h2_disk::{Disk, DiskFault};
 /// a fault sets the flush back to the start of its queue. With n pieces the header's write begins at the
 /// moment n + 3 after the call's start, and its sync is done at n + 5. A fault up to n + 1 comes before
 /// that write. A later one, up to n + 4, leaves the header under way since its write began, at n + 3 or
-/// the last moment. A fault is the disk's own, and memory is wanting only over a disk that takes some.
+/// the last moment. A fault is the disk's own, and memory is wanting exactly where the disk answered so.
 pub fn drive<D: Disk, V: VolumeFormat>(
     disk: &mut D,
     pieces: &[Piece],
@@ -40,7 +40,7 @@ pub fn drive<D: Disk, V: VolumeFormat>(
     ensures time_most { OnErr result (D.moment disk.new ≤ D.moment disk.old + length pieces.now + 4) }
     ensures later { D.faults disk.old ≤ D.faults disk.new }
     ensures cause { IfErr result (λ fault. HasCause (D.faults disk.old) (D.faults disk.new) fault) }
-    ensures memory { IfErr result (λ fault. IsTrue D.takes_no_memory → fault ≡ DiskFault.Failed) }
+    ensures memory { CountsWants (D.wants disk.old) (D.wants disk.new) result }
 {
     if let Err(fault) = write_pieces::<D, V>(disk, pieces) {
         return Err(fault);

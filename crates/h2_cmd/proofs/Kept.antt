@@ -3,7 +3,7 @@ use Rattle.std.proofs.Common.{◌≡◌, ◌≤◌, ℕ, refl, subst, inl, inr, 
 use Rattle.std.specs.Prelude.{Option, Some, None}
 use Rattle.h2_num.specs.Places.{Places}
 use Rattle.h2_disk.specs.Trace.{Trace, latest, IsDurable}
-use Rattle.h2_disk.specs.Disk.{Keeps, HasCause}
+use Rattle.h2_disk.specs.Disk.{Keeps, HasCause, CountsWant, MayCountWant}
 use Rattle.h2_disk.specs.declared.disk.DiskFault.{DiskFault}
 use Rattle.h2_disk.specs.declared.disk.DiskFault.TheVariants.{Failed, NoMemory}
 use Rattle.h2_checkpoint.specs.Stands.{DiskState}
@@ -60,3 +60,12 @@ none_left old new found newest other = inl (none_found old.image found newest ot
 pub cause_later : (a b c : ℕ) (fault : DiskFault) → a ≤ b → HasCause b c fault → HasCause a c fault
 cause_later a b c Failed le rose = omega arith
 cause_later a b c NoMemory le h = tt
+
+-- what a call counts of wants of memory, one that takes memory of its own too may count
+pub may_want : (a b : ℕ) (fault : DiskFault) → CountsWant a b fault → MayCountWant a b fault
+may_want a b Failed same = same
+may_want a b NoMemory rose = inr rose
+
+-- what may be counted of wants in a later time, may be in the whole time where none was counted before
+pub may_want_later : (a b c : ℕ) (fault : DiskFault) → b ≡ a → MayCountWant b c fault → MayCountWant a c fault
+may_want_later a b c fault same counts = subst (λ (n : ℕ). MayCountWant n c fault) same counts

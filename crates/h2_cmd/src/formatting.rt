@@ -1,6 +1,6 @@
 ghost use Rattle.std.specs.Prelude.{◌≡◌, ◌≤◌, ◌<◌, ◌+◌, ◌*◌, ◌^◌, ℕ, IsTrue, IfOk, IfErr, OnOk, OnErr, MatchOption, length};
 ghost use Rattle.h2_num.specs.Places.{Places};
-ghost use Rattle.h2_disk.specs.Disk.{HasCause, Keeps};
+ghost use Rattle.h2_disk.specs.Disk.{HasCause, CountsWants, MayCountWants, Keeps};
 ghost use Rattle.h2_disk.specs.Trace.{IsDurable};
 ghost use Rattle.h2_checkpoint.specs.Stands.{disk_state};
 ghost use Rattle.h2_geom.specs.Geometry.{IsZoneCount};
@@ -41,7 +41,7 @@ fn read_slot<D: Disk>(
     ensures time { D.moment disk.new ≡ D.moment disk.old }
     ensures later { D.faults disk.old ≤ D.faults disk.new }
     ensures cause { IfErr result (λ fault. HasCause (D.faults disk.old) (D.faults disk.new) fault) }
-    ensures memory { IfErr result (λ fault. IsTrue D.takes_no_memory → fault ≡ DiskFault.Failed) }
+    ensures memory { CountsWants (D.wants disk.old) (D.wants disk.new) result }
 {
     if let Err(fault) = disk.read(header_place(slot), block) {
         return Err(fault);
@@ -57,7 +57,7 @@ fn read_slots<D: Disk>(disk: &mut D, block: &mut [u8]) -> Result<[Option<Header>
     ensures time { D.moment disk.new ≡ D.moment disk.old }
     ensures later { D.faults disk.old ≤ D.faults disk.new }
     ensures cause { IfErr result (λ fault. HasCause (D.faults disk.old) (D.faults disk.new) fault) }
-    ensures memory { IfErr result (λ fault. IsTrue D.takes_no_memory → fault ≡ DiskFault.Failed) }
+    ensures memory { CountsWants (D.wants disk.old) (D.wants disk.new) result }
 {
     let mut headers = [None; SLOTS];
     for slot in 0..4u32 {
@@ -83,7 +83,7 @@ fn newest_number(headers: &[Option<Header>; SLOTS]) -> Option<u64>
 }
 
 /// The number of the newest header of an image, or None where no slot has a header. The block has the
-/// bytes of a header. It takes no memory, so memory is wanting only over a disk that takes some.
+/// bytes of a header. It takes no memory of its own: memory is wanting exactly where the disk answered so.
 pub fn find_newest<D: Disk>(disk: &mut D, block: &mut [u8]) -> Result<Option<u64>, DiskFault>
     requires size { length block.old ≡ 65536 }
     ensures number { IfOk result (λ found. IsTrue D.tells → IsNewestNumber (D.image disk.old) found) }
@@ -91,7 +91,7 @@ pub fn find_newest<D: Disk>(disk: &mut D, block: &mut [u8]) -> Result<Option<u64
     ensures time { D.moment disk.new ≡ D.moment disk.old }
     ensures later { D.faults disk.old ≤ D.faults disk.new }
     ensures cause { IfErr result (λ fault. HasCause (D.faults disk.old) (D.faults disk.new) fault) }
-    ensures memory { IfErr result (λ fault. IsTrue D.takes_no_memory → fault ≡ DiskFault.Failed) }
+    ensures memory { CountsWants (D.wants disk.old) (D.wants disk.new) result }
 {
     match read_slots(disk, block) {
         Ok(headers) => Ok(newest_number(&headers)),
@@ -117,6 +117,7 @@ fn write_plan<D: Disk>(
     ensures time_failed { OnErr result (D.moment disk.old ≤ D.moment disk.new) }
     ensures later { D.faults disk.old ≤ D.faults disk.new }
     ensures cause { IfErr result (λ fault. HasCause (D.faults disk.old) (D.faults disk.new) fault) }
+    ensures memory { CountsWants (D.wants disk.old) (D.wants disk.new) result }
 {
     write_into(&plan.header, block);
     if let Err(fault) = make::<D, Volume>(disk, &plan.pieces, FIRST_SLOT_PLACE, block) {
@@ -145,6 +146,7 @@ pub fn format_volume<D: Disk>(
     ensures time_failed { OnErr result (D.moment disk.old ≤ D.moment disk.new) }
     ensures later { D.faults disk.old ≤ D.faults disk.new }
     ensures cause { IfErr result (λ fault. HasCause (D.faults disk.old) (D.faults disk.new) fault) }
+    ensures memory { MayCountWants (D.wants disk.old) (D.wants disk.new) result }
 {
     let Ok(mut block) = vec![in alloc; 0u8; HEADER_BYTES] else {
         return Err(DiskFault::NoMemory);
@@ -180,6 +182,7 @@ fn make_volume<D: Disk>(
     ensures time_failed { OnErr result (D.moment disk.old ≤ D.moment disk.new) }
     ensures later { D.faults disk.old ≤ D.faults disk.new }
     ensures cause { IfErr result (λ fault. HasCause (D.faults disk.old) (D.faults disk.new) fault) }
+    ensures memory { MayCountWants (D.wants disk.old) (D.wants disk.new) result }
 {
     let Ok(plan) = plan_volume(alloc, zones) else {
         return Err(DiskFault::NoMemory);

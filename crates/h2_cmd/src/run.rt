@@ -46,7 +46,7 @@ fn already_text(alloc: Global, number: u64) -> Result<String, AllocError>
 fn say_refusal<K: Sink>(out: &mut K, line: &[u8], status: Status) -> Status
     ensures said { (result ≡ Status.NoMemory) ⊎ ((result ≡ status)
         × (IsTrue K.tells → Prints line.now (sink_state K.held K.faults out.old) (sink_state K.held K.faults out.new))) }
-    ensures memory { IsTrue K.takes_no_memory → result ≡ status }
+    ensures memory { IsTrue K.never_wants_memory → result ≡ status }
     ensures front { IsTrue K.tells → GrowsByFront line.now (K.held out.old) (K.held out.new) }
     ensures later { K.faults out.old ≤ K.faults out.new }
 {
@@ -163,7 +163,7 @@ fn run_request<D: Disk, K: Sink>(
 /// | 8 | the image has a header; the disk is as it was | `already formatted: header N`, the newest one's number |
 ///
 /// The first cause in the order words, disk, sink decides. Where the sink fails, a front of the line of
-/// the status was printed. Words that ask for nothing give 1 where the sink takes no memory. A power cut
+/// the status was printed. Words that ask for nothing give 1 where the sink never wants memory. A power cut
 /// at any moment of a run on a durable image without a header leaves no header, or the new volume. An
 /// image that has a header is left as it was, whatever the status.
 pub fn run_alone<D: Disk, K: Sink>(
@@ -177,7 +177,7 @@ pub fn run_alone<D: Disk, K: Sink>(
     // The words come first.
     ensures usage { result.status ≡ 1 → AsksNothing (map string_bytes words.now) }
     ensures asks_nothing { AsksNothing (map string_bytes words.now) → ((result.status ≡ 1) ⊎ (result.status ≡ 7)) × (result.disk ≡ disk) }
-    ensures usage_memory { AsksNothing (map string_bytes words.now) → IsTrue K.takes_no_memory → result.status ≡ 1 }
+    ensures usage_memory { AsksNothing (map string_bytes words.now) → IsTrue K.never_wants_memory → result.status ≡ 1 }
     ensures usage_line { result.status ≡ 1 → IsTrue K.tells → Prints usage_line (sink_state K.held K.faults out.old) (sink_state K.held K.faults out.new) }
 
     // Then the disk: a fault has its cause, and a header that stands there is left as it is.

@@ -1,8 +1,8 @@
 -- What holds of the entries and the kinds of inodes of a consistent PFS, over each way in which they change.
 use Rattle.std.specs.Prelude.{◌≡◌, ◌≢◌, ◌⊎◌, ℕ, suc, ◌<◌, ◌≤◌, cond, nat_eq, Option, Some, None}
 use Rattle.std.proofs.Common.{ap, sym, ◌∙◌, subst, arith, inl, inr}
-use Rattle.h2_consistent.specs.Consistent.{Place, Exactly, IsReached, root, below}
-use Rattle.h2_consistent.proofs.Counting.{same_number, same_place, exactly_same, exactly_more, exactly_less}
+use Rattle.h2_consistent.proofs.Entries.{EntryName, Exactly, IsReachedBy, root, below}
+use Rattle.h2_consistent.proofs.Counting.{same_number, same_entry, exactly_same, exactly_more, exactly_less}
 
 -- what stands under a number: nothing, a directory, or a file with its links
 pub data Kind : Type 0 where
@@ -17,19 +17,19 @@ due n directory = cond (nat_eq n 1) 0 1
 due n (file links) = links
 
 abbrev pub Entry : Type 0
-Entry = Place → Option ℕ
+Entry = EntryName → Option ℕ
 
 -- the entries and the kinds of inodes agree
 pub record Agree (e : Entry) (kind : ℕ → Kind) (next : ℕ) : Type 0 where
   pub first : kind 1 ≡ directory
   pub free : (n : ℕ) → next ≤ n → kind n ≡ missing
   pub counts : (n : ℕ) → Exactly (due n (kind n)) (λ x. e x ≡ Some n)
-  pub places : (x : Place) (n : ℕ) → e x ≡ Some n → kind x.0 ≡ directory
-  pub reached : (n : ℕ) → kind n ≡ directory → IsReached e n
+  pub places : (x : EntryName) (n : ℕ) → e x ≡ Some n → kind x.0 ≡ directory
+  pub reached : (n : ℕ) → kind n ≡ directory → IsReachedBy e n
 
 -- one entry changes
-abbrev pub Changed : Entry → Entry → Place → Option ℕ → Type 0
-Changed e g x o = (g x ≡ o) × ((y : Place) → y ≢ x → g y ≡ e y)
+abbrev pub Changed : Entry → Entry → EntryName → Option ℕ → Type 0
+Changed e g x o = (g x ≡ o) × ((y : EntryName) → y ≢ x → g y ≡ e y)
 
 -- one kind changes
 abbrev pub Turned : (ℕ → Kind) → (ℕ → Kind) → ℕ → Kind → Type 0
@@ -51,51 +51,51 @@ same_some : (m n : ℕ) → Some m ≡ Some n → m ≡ n
 same_some m n e = cc
 
 -- an inode that an entry names isn't missing
-pub named_stands : (e : Entry) (kind : ℕ → Kind) (next : ℕ) → Agree e kind next → (x : Place) (n : ℕ) → e x ≡ Some n → kind n ≢ missing
+pub named_stands : (e : Entry) (kind : ℕ → Kind) (next : ℕ) → Agree e kind next → (x : EntryName) (n : ℕ) → e x ≡ Some n → kind n ≢ missing
 named_stands e kind next a x n is gone = subst (λ k. Exactly (due n k) (λ y. e y ≡ Some n)) gone (a.counts n) x is
 
 -- no entry names number 1
-pub named_other : (e : Entry) (kind : ℕ → Kind) (next : ℕ) → Agree e kind next → (x : Place) (n : ℕ) → e x ≡ Some n → n ≢ 1
+pub named_other : (e : Entry) (kind : ℕ → Kind) (next : ℕ) → Agree e kind next → (x : EntryName) (n : ℕ) → e x ≡ Some n → n ≢ 1
 named_other e kind next a x n is one = subst (λ k. Exactly (due 1 k) (λ y. e y ≡ Some 1)) a.first (a.counts 1) x (is ∙ ap Some one)
 
 -- How many entries name a number after one entry changed
 
 -- another number
-others : (e g : Entry) (x : Place) (o : Option ℕ) (n k : ℕ) → Changed e g x o → o ≢ Some n → e x ≢ Some n → Exactly k (λ y. e y ≡ Some n) → Exactly k (λ y. g y ≡ Some n)
+others : (e g : Entry) (x : EntryName) (o : Option ℕ) (n k : ℕ) → Changed e g x o → o ≢ Some n → e x ≢ Some n → Exactly k (λ y. e y ≡ Some n) → Exactly k (λ y. g y ≡ Some n)
 others e g x o n k c new old h = exactly_same k (λ y. e y ≡ Some n) (λ y. g y ≡ Some n) to from h
   where
-    to : (y : Place) → e y ≡ Some n → g y ≡ Some n
-    to y is = elim (same_place y x) [ inl s ↦ absurd (old (subst (λ z. e z ≡ Some n) s is)) | inr d ↦ c.1 y d ∙ is ]
+    to : (y : EntryName) → e y ≡ Some n → g y ≡ Some n
+    to y is = elim (same_entry y x) [ inl s ↦ absurd (old (subst (λ z. e z ≡ Some n) s is)) | inr d ↦ c.1 y d ∙ is ]
 
-    from : (y : Place) → g y ≡ Some n → e y ≡ Some n
-    from y is = elim (same_place y x) [ inl s ↦ absurd (new (sym c.0 ∙ subst (λ z. g z ≡ Some n) s is)) | inr d ↦ sym (c.1 y d) ∙ is ]
+    from : (y : EntryName) → g y ≡ Some n → e y ≡ Some n
+    from y is = elim (same_entry y x) [ inl s ↦ absurd (new (sym c.0 ∙ subst (λ z. g z ≡ Some n) s is)) | inr d ↦ sym (c.1 y d) ∙ is ]
 
 -- the number that the entry names now
-gained : (e g : Entry) (x : Place) (n k : ℕ) → Changed e g x (Some n) → e x ≢ Some n → Exactly k (λ y. e y ≡ Some n) → Exactly (suc k) (λ y. g y ≡ Some n)
+gained : (e g : Entry) (x : EntryName) (n k : ℕ) → Changed e g x (Some n) → e x ≢ Some n → Exactly k (λ y. e y ≡ Some n) → Exactly (suc k) (λ y. g y ≡ Some n)
 gained e g x n k c old h = exactly_more k (λ y. e y ≡ Some n) (λ y. g y ≡ Some n) x old c.0 (λ y d is. c.1 y d ∙ is) (λ y d is. sym (c.1 y d) ∙ is) h
 
 -- the number that the entry named
-lost : (e g : Entry) (x : Place) (o : Option ℕ) (n k : ℕ) → Changed e g x o → o ≢ Some n → e x ≡ Some n → Exactly k (λ y. e y ≡ Some n) → (j : ℕ) × ((k ≡ suc j) × Exactly j (λ y. g y ≡ Some n))
+lost : (e g : Entry) (x : EntryName) (o : Option ℕ) (n k : ℕ) → Changed e g x o → o ≢ Some n → e x ≡ Some n → Exactly k (λ y. e y ≡ Some n) → (j : ℕ) × ((k ≡ suc j) × Exactly j (λ y. g y ≡ Some n))
 lost e g x o n k c new old h = exactly_less k (λ y. e y ≡ Some n) (λ y. g y ≡ Some n) x old (λ is. new (sym c.0 ∙ is)) (λ y d is. c.1 y d ∙ is) (λ y d is. sym (c.1 y d) ∙ is) h
 
 -- What is reached after entries changed
 
 -- all entries stayed
-reach_more : (e g : Entry) → ((y : Place) (m : ℕ) → e y ≡ Some m → g y ≡ Some m) → (n : ℕ) → IsReached e n → IsReached g n
+reach_more : (e g : Entry) → ((y : EntryName) (m : ℕ) → e y ≡ Some m → g y ≡ Some m) → (n : ℕ) → IsReachedBy e n → IsReachedBy g n
 reach_more e g stay n root = root
 reach_more e g stay n (below y m r is) = below y n (reach_more e g stay y.0 r) (stay y n is)
 
 -- all entries stayed but those that name one number, and that one has none
-pub reach_others : (e g : Entry) (n : ℕ) → ((y : Place) (m : ℕ) → e y ≡ Some m → m ≢ n → g y ≡ Some m) → ((y : Place) (m : ℕ) → e y ≡ Some m → y.0 ≢ n) → (m : ℕ) → IsReached e m → m ≢ n → IsReached g m
+pub reach_others : (e g : Entry) (n : ℕ) → ((y : EntryName) (m : ℕ) → e y ≡ Some m → m ≢ n → g y ≡ Some m) → ((y : EntryName) (m : ℕ) → e y ≡ Some m → y.0 ≢ n) → (m : ℕ) → IsReachedBy e m → m ≢ n → IsReachedBy g m
 reach_others e g n stay bare m root apart = root
 reach_others e g n stay bare m (below y k r is) apart = below y m (reach_others e g n stay bare y.0 r (bare y m is)) (stay y m is apart)
 
--- an entry went from one place to another, whose directory is reached still
-reach_moved : (e g : Entry) (old new : Place) (n : ℕ) → e old ≡ Some n → g new ≡ Some n → IsReached g new.0 → ((y : Place) (m : ℕ) → y ≢ old → e y ≡ Some m → g y ≡ Some m) → (m : ℕ) → IsReached e m → IsReached g m
+-- an entry went from one directory or name to another, whose directory is reached still
+reach_moved : (e g : Entry) (old new : EntryName) (n : ℕ) → e old ≡ Some n → g new ≡ Some n → IsReachedBy g new.0 → ((y : EntryName) (m : ℕ) → y ≢ old → e y ≡ Some m → g y ≡ Some m) → (m : ℕ) → IsReachedBy e m → IsReachedBy g m
 reach_moved e g old new n had has there stay m root = root
-reach_moved e g old new n had has there stay m (below y k r is) = by (same_place y old) (reach_moved e g old new n had has there stay y.0 r)
+reach_moved e g old new n had has there stay m (below y k r is) = by (same_entry y old) (reach_moved e g old new n had has there stay y.0 r)
   where
-    by : ((y ≡ old) ⊎ (y ≢ old)) → IsReached g y.0 → IsReached g m
+    by : ((y ≡ old) ⊎ (y ≢ old)) → IsReachedBy g y.0 → IsReachedBy g m
     by (inl s) up = below new m there (has ∙ ap Some (same_some n m (sym had ∙ subst (λ z. e z ≡ Some m) s is)))
     by (inr d) up = below y m up (stay y m d is)
 
@@ -121,7 +121,7 @@ missing_alike : (k l : Kind) → Alike k l → k ≡ missing → l ≡ missing
 missing_alike k l (inl s) is = s ∙ is
 missing_alike k l (inr w) is = w.1
 
-pub alike : (e g : Entry) (kind turn : ℕ → Kind) (next : ℕ) → ((y : Place) → g y ≡ e y) → ((n : ℕ) → Alike (kind n) (turn n)) → Agree e kind next → Agree g turn next
+pub alike : (e g : Entry) (kind turn : ℕ → Kind) (next : ℕ) → ((y : EntryName) → g y ≡ e y) → ((n : ℕ) → Alike (kind n) (turn n)) → Agree e kind next → Agree g turn next
 alike e g kind turn next same kinds a = record {
   first = directory_alike (kind 1) (turn 1) (kinds 1) a.first;
   free = λ n le. missing_alike (kind n) (turn n) (kinds n) (a.free n le);
@@ -131,7 +131,7 @@ alike e g kind turn next same kinds a = record {
 }
 
 -- an entry comes, and one more is due to what it names
-pub comes : (e g : Entry) (kind turn : ℕ → Kind) (next more : ℕ) (x : Place) (n : ℕ) (k : Kind) → Changed e g x (Some n) → Turned kind turn n k → e x ≡ None → kind x.0 ≡ directory → kind n ≢ directory → due n k ≡ suc (due n (kind n)) → next ≤ more → n < more → Agree e kind next → Agree g turn more
+pub comes : (e g : Entry) (kind turn : ℕ → Kind) (next more : ℕ) (x : EntryName) (n : ℕ) (k : Kind) → Changed e g x (Some n) → Turned kind turn n k → e x ≡ None → kind x.0 ≡ directory → kind n ≢ directory → due n k ≡ suc (due n (kind n)) → next ≤ more → n < more → Agree e kind next → Agree g turn more
 comes e g kind turn next more x n k c t empty dir apart one le lt a = record {
   first = t.1 1 (λ s. apart (sym (ap kind s) ∙ a.first)) ∙ a.first;
   free = free;
@@ -143,7 +143,7 @@ comes e g kind turn next more x n k c t empty dir apart one le lt a = record {
     not_here : (m : ℕ) → e x ≢ Some m
     not_here m is = none_some m (sym empty ∙ is)
 
-    stay : (y : Place) (m : ℕ) → e y ≡ Some m → g y ≡ Some m
+    stay : (y : EntryName) (m : ℕ) → e y ≡ Some m → g y ≡ Some m
     stay y m is = c.1 y (λ s. not_here m (subst (λ z. e z ≡ Some m) s is)) ∙ is
 
     apart_of : (m : ℕ) → more ≤ m → m ≢ n
@@ -159,20 +159,20 @@ comes e g kind turn next more x n k c t empty dir apart one le lt a = record {
     directory_stays : (m : ℕ) → kind m ≡ directory → turn m ≡ directory
     directory_stays m is = t.1 m (λ s. apart (sym (ap kind s) ∙ is)) ∙ is
 
-    places : (y : Place) (m : ℕ) → g y ≡ Some m → turn y.0 ≡ directory
-    places y m is = directory_stays y.0 (elim (same_place y x) [ inl s ↦ subst (λ (z : Place). kind z.0 ≡ directory) (sym s) dir | inr d ↦ a.places y m (sym (c.1 y d) ∙ is) ])
+    places : (y : EntryName) (m : ℕ) → g y ≡ Some m → turn y.0 ≡ directory
+    places y m is = directory_stays y.0 (elim (same_entry y x) [ inl s ↦ subst (λ (z : EntryName). kind z.0 ≡ directory) (sym s) dir | inr d ↦ a.places y m (sym (c.1 y d) ∙ is) ])
 
-    reached : (m : ℕ) → ((m ≡ n) ⊎ (m ≢ n)) → turn m ≡ directory → IsReached g m
-    reached m (inl s) is = subst (IsReached g) (sym s) (below x n (reach_more e g stay x.0 (a.reached x.0 dir)) c.0)
+    reached : (m : ℕ) → ((m ≡ n) ⊎ (m ≢ n)) → turn m ≡ directory → IsReachedBy g m
+    reached m (inl s) is = subst (IsReachedBy g) (sym s) (below x n (reach_more e g stay x.0 (a.reached x.0 dir)) c.0)
     reached m (inr d) is = reach_more e g stay m (a.reached m (sym (t.1 m d) ∙ is))
 
 -- an entry goes, and one fewer is due to what it named, which has no entries
-pub goes : (e g : Entry) (kind turn : ℕ → Kind) (next : ℕ) (x : Place) (n : ℕ) (k : Kind) → Changed e g x None → Turned kind turn n k → e x ≡ Some n → k ≢ directory → due n (kind n) ≡ suc (due n k) → ((y : Place) (m : ℕ) → e y ≡ Some m → y.0 ≢ n) → Agree e kind next → Agree g turn next
+pub goes : (e g : Entry) (kind turn : ℕ → Kind) (next : ℕ) (x : EntryName) (n : ℕ) (k : Kind) → Changed e g x None → Turned kind turn n k → e x ≡ Some n → k ≢ directory → due n (kind n) ≡ suc (due n k) → ((y : EntryName) (m : ℕ) → e y ≡ Some m → y.0 ≢ n) → Agree e kind next → Agree g turn next
 goes e g kind turn next x n k c t had apart one bare a = record {
   first = t.1 1 (λ s. named_other e kind next a x n had (sym s)) ∙ a.first;
   free = λ m le. free m le (same_number m n);
   counts = λ m. count m (same_number m n);
-  places = λ y m is. places y m is (same_place y x);
+  places = λ y m is. places y m is (same_entry y x);
   reached = λ m is. reached m is (same_number m n);
 }
   where
@@ -196,24 +196,24 @@ goes e g kind turn next x n k c t had apart one bare a = record {
     count m (inl s) = subst (λ i. Exactly (due i (turn i)) (λ y. g y ≡ Some i)) (sym s) (subst (λ i. Exactly i (λ y. g y ≡ Some n)) (sym (ap (due n) t.0)) fewer)
     count m (inr d) = subst (λ i. Exactly i (λ y. g y ≡ Some m)) (sym (ap (due m) (t.1 m d))) (others e g x None m (due m (kind m)) c (none_some m) (here m d) (a.counts m))
 
-    places : (y : Place) (m : ℕ) → g y ≡ Some m → ((y ≡ x) ⊎ (y ≢ x)) → turn y.0 ≡ directory
+    places : (y : EntryName) (m : ℕ) → g y ≡ Some m → ((y ≡ x) ⊎ (y ≢ x)) → turn y.0 ≡ directory
     places y m is (inl s) = absurd (none_some m (sym c.0 ∙ subst (λ z. g z ≡ Some m) s is))
     places y m is (inr d) = let was : e y ≡ Some m = sym (c.1 y d) ∙ is in t.1 y.0 (bare y m was) ∙ a.places y m was
 
-    stay : (y : Place) (m : ℕ) → e y ≡ Some m → m ≢ n → g y ≡ Some m
+    stay : (y : EntryName) (m : ℕ) → e y ≡ Some m → m ≢ n → g y ≡ Some m
     stay y m is d = c.1 y (λ s. here m d (subst (λ z. e z ≡ Some m) s is)) ∙ is
 
-    reached : (m : ℕ) → turn m ≡ directory → ((m ≡ n) ⊎ (m ≢ n)) → IsReached g m
+    reached : (m : ℕ) → turn m ≡ directory → ((m ≡ n) ⊎ (m ≢ n)) → IsReachedBy g m
     reached m is (inl s) = absurd (apart (sym t.0 ∙ sym (ap turn s) ∙ is))
     reached m is (inr d) = reach_others e g n stay bare m (a.reached m (sym (t.1 m d) ∙ is)) d
 
--- an entry goes from one place to another, whose directory is reached afterwards
-pub moves : (e h g : Entry) (kind turn : ℕ → Kind) (next : ℕ) (old new : Place) (n : ℕ) → Changed e h new (Some n) → Changed h g old None → ((m : ℕ) → turn m ≡ kind m) → e old ≡ Some n → e new ≡ None → kind new.0 ≡ directory → IsReached g new.0 → Agree e kind next → Agree g turn next
+-- an entry goes from one directory or name to another, whose directory is reached afterwards
+pub moves : (e h g : Entry) (kind turn : ℕ → Kind) (next : ℕ) (old new : EntryName) (n : ℕ) → Changed e h new (Some n) → Changed h g old None → ((m : ℕ) → turn m ≡ kind m) → e old ≡ Some n → e new ≡ None → kind new.0 ≡ directory → IsReachedBy g new.0 → Agree e kind next → Agree g turn next
 moves e h g kind turn next old new n c d kinds had empty dir there a = record {
   first = kinds 1 ∙ a.first;
   free = λ m le. kinds m ∙ a.free m le;
   counts = λ m. subst (λ i. Exactly i (λ y. g y ≡ Some m)) (sym (ap (due m) (kinds m))) (count m (same_number m n));
-  places = λ y m is. kinds y.0 ∙ places y m is (same_place y old) (same_place y new);
+  places = λ y m is. kinds y.0 ∙ places y m is (same_entry y old) (same_entry y new);
   reached = λ m is. reach_moved e g old new n had has there stay m (a.reached m (sym (kinds m) ∙ is));
 }
   where
@@ -229,7 +229,7 @@ moves e h g kind turn next old new n c d kinds had empty dir there a = record {
     not_here : (m : ℕ) → e new ≢ Some m
     not_here m is = none_some m (sym empty ∙ is)
 
-    stay : (y : Place) (m : ℕ) → y ≢ old → e y ≡ Some m → g y ≡ Some m
+    stay : (y : EntryName) (m : ℕ) → y ≢ old → e y ≡ Some m → g y ≡ Some m
     stay y m off is = d.1 y off ∙ c.1 y (λ s. not_here m (subst (λ z. e z ≡ Some m) s is)) ∙ is
 
     one_less : (i j : ℕ) → suc j ≡ suc i → i ≡ j
@@ -244,7 +244,7 @@ moves e h g kind turn next old new n c d kinds had empty dir there a = record {
         others h g old None m (due m (kind m)) d (none_some m) (λ is. off (sym (same_some n m (sym mid ∙ is))))
         (others e h new (Some n) m (due m (kind m)) c (λ s. off (sym (same_some n m s))) (not_here m) (a.counts m))
 
-    places : (y : Place) (m : ℕ) → g y ≡ Some m → ((y ≡ old) ⊎ (y ≢ old)) → ((y ≡ new) ⊎ (y ≢ new)) → kind y.0 ≡ directory
+    places : (y : EntryName) (m : ℕ) → g y ≡ Some m → ((y ≡ old) ⊎ (y ≢ old)) → ((y ≡ new) ⊎ (y ≢ new)) → kind y.0 ≡ directory
     places y m is (inl s) w = absurd (none_some m (sym d.0 ∙ subst (λ z. g z ≡ Some m) s is))
-    places y m is (inr off) (inl s) = subst (λ (z : Place). kind z.0 ≡ directory) (sym s) dir
+    places y m is (inr off) (inl s) = subst (λ (z : EntryName). kind z.0 ≡ directory) (sym s) dir
     places y m is (inr off) (inr far) = a.places y m (sym (c.1 y far) ∙ sym (d.1 y off) ∙ is)

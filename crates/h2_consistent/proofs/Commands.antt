@@ -11,7 +11,7 @@ use Rattle.h2_forest.specs.Table.{Table, entries_of, entries_at, looked_up, ente
 use Rattle.h2_forest.specs.Steps.{on, given, refuse}
 use Rattle.h2_forest.specs.Pfs.{front, last, is_full, made, linked, unlinked, removed, moved}
 use Rattle.h2_command.specs.declared.reply.Reply.{Reply}
-use Rattle.h2_consistent.specs.Consistent.{Place, number_in, entry_at, Exactly, IsReached, root}
+use Rattle.h2_consistent.proofs.Entries.{EntryName, number_in, entry_at, Exactly, IsReachedBy, root}
 use Rattle.h2_consistent.proofs.Counting.{same_number}
 use Rattle.h2_consistent.proofs.Agreeing.{Kind, missing, directory, file, due, Entry, Changed, Turned, missing_directory, missing_file, file_directory, named_stands, named_other, alike, comes, goes, moves, reach_others}
 use Rattle.h2_consistent.proofs.Tables.{kind_of, kind_at, directory_of, entries_there, nothing_in, has_entry, kind_put, entries_put, kind_entered, entry_entered, kind_left, entry_left, kind_relinked, entry_relinked, same_rewritten, nothing_there, kind_removed, entry_removed}
@@ -43,11 +43,11 @@ no_key es name e = by (get es name) refl e
     by None is e = refl
     by (Some n) is e = absurd (cc)
 
--- a place without an entry
+-- a name without an entry
 vacant : (t : Table) (dir : ℕ) (name : List ℕ) (es : Entries) → entries_at t dir ≡ Some es → contains_key es name ≡ false → entry_at t (dir, name) ≡ None
 vacant t dir name es is e = ap (λ w. number_in w name) is ∙ no_key es name e
 
-then_same : (e g h : Entry) (x : Place) (o : Option ℕ) → Changed e g x o → ((y : Place) → h y ≡ g y) → Changed e h x o
+then_same : (e g h : Entry) (x : EntryName) (o : Option ℕ) → Changed e g x o → ((y : EntryName) → h y ≡ g y) → Changed e h x o
 then_same e g h x o c same = (same x ∙ c.0, λ y d. same y ∙ c.1 y d)
 
 same_then : (kind mid turn : ℕ → Kind) (n : ℕ) (k : Kind) → ((m : ℕ) → mid m ≡ kind m) → Turned mid turn n k → Turned kind turn n k
@@ -84,7 +84,7 @@ module _ (p : Pfs) (h : Holds p) where
       apart : p.next ≢ 1
       apart s = missing_directory (sym none ∙ ap (kind_at p.table) s ∙ h.first)
 
-      same : (y : Place) → entry_at t2 y ≡ entry_at t1 y
+      same : (y : EntryName) → entry_at t2 y ≡ entry_at t1 y
       same y = entries_put t1 p.next node (λ m. new.1 m ∙ sym (nothing_in (get t1 p.next) m (λ d. missing_directory (sym none ∙ sym (kind_entered p.table dir es is name p.next p.next) ∙ d)))) y
 
   pub made_holds : (names : List (List ℕ)) (node : Node) → IsNew node → Holds (made p names node).1
@@ -96,7 +96,7 @@ module _ (p : Pfs) (h : Holds p) where
       made_there dir (last names) node es new is free))))
 
   -- a number that is no directory and isn't missing is a file's
-  a_file : (o : Option Node) → kind_of o ≢ missing → is_some (entries_of o) ≡ false → kind_of o ≡ file (links_of o)
+  pub a_file : (o : Option Node) → kind_of o ≢ missing → is_some (entries_of o) ≡ false → kind_of o ≡ file (links_of o)
   a_file (Some (File bytes links)) stands plain = refl
   a_file (Some (Directory es)) stands plain = absurd (cc)
   a_file None stands plain = absurd (stands refl)
@@ -183,7 +183,7 @@ module _ (p : Pfs) (h : Holds p) where
           by (inl s) = absurd (d s)
           by (inr off) = omega (arith, off)
 
-      bare : (y : Place) (m : ℕ) → entry_at p.table y ≡ Some m → y.0 ≢ number
+      bare : (y : EntryName) (m : ℕ) → entry_at p.table y ≡ Some m → y.0 ≢ number
       bare y m is s = file_directory l (sym is_file ∙ sym (ap (kind_at p.table) s) ∙ has_entry p.table y m is)
 
   pub unlinked_holds : (names : List (List ℕ)) → Holds (unlinked p names).1
@@ -219,11 +219,11 @@ module _ (p : Pfs) (h : Holds p) where
       no_number : (m : ℕ) → None ≡ Some m → ⊥
       no_number m e = cc
 
-      empty_there : (y : Place) (m : ℕ) → entry_at p.table y ≡ Some m → y.0 ≢ number
+      empty_there : (y : EntryName) (m : ℕ) → entry_at p.table y ≡ Some m → y.0 ≢ number
       empty_there y m at s = no_number m (sym (nothing_there p.table number es is bare y.1) ∙ sym (ap (λ n. number_in (entries_at p.table n) y.1) s) ∙ at)
 
       nothing : (m : List ℕ) → number_in (entries_at t1 number) m ≡ None
-      nothing m = changed.1 (number, m) (λ s. empty_there (dir, name) number had (sym (ap (λ (w : Place). w.0) s))) ∙ nothing_there p.table number es is bare m
+      nothing m = changed.1 (number, m) (λ s. empty_there (dir, name) number had (sym (ap (λ (w : EntryName). w.0) s))) ∙ nothing_there p.table number es is bare m
 
   pub removed_holds : (names : List (List ℕ)) → Holds (removed p names).1
   removed_holds names =
@@ -279,7 +279,7 @@ module _ (p : Pfs) (h : Holds p) where
       same_some : (m n : ℕ) → Some m ≡ Some n → m ≡ n
       same_some m n e = cc
 
-      stay : (y : Place) (m : ℕ) → entry_at p.table y ≡ Some m → m ≢ number → entry_at t2 y ≡ Some m
+      stay : (y : EntryName) (m : ℕ) → entry_at p.table y ≡ Some m → m ≢ number → entry_at t2 y ≡ Some m
       stay y m at d =
           then.1 y (λ s. d (sym (same_some number m (sym had ∙ subst (λ z. entry_at p.table z ≡ Some m) s at))))
           ∙ first.1 y (λ s. no_number m (sym empty_place ∙ subst (λ z. entry_at p.table z ≡ Some m) s at)) ∙ at
@@ -289,7 +289,7 @@ module _ (p : Pfs) (h : Holds p) where
       same_kind missing = inr missing_directory
       same_kind (file l) = inr (file_directory l)
 
-      there : ((kind_at p.table number ≡ directory) ⊎ (kind_at p.table number ≢ directory)) → IsReached (entry_at t2) dir
+      there : ((kind_at p.table number ≡ directory) ⊎ (kind_at p.table number ≢ directory)) → IsReachedBy (entry_at t2) dir
       there (inl d) =
           let some : is_some (entries_at p.table number) ≡ true = ap is_some (entries_there (get p.table number) d).1 in
           walk_reached p.table (entry_at t2) number stay names 1 dir way (subst (λ b. (b && passes p.table 1 names number) ≡ false) some off) root

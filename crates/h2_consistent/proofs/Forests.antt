@@ -19,7 +19,8 @@ use Rattle.h2_command.specs.declared.command.Command.TheVariants.{Mkdir, Create,
 use Rattle.h2_command.specs.declared.path.Path.{Path}
 use Rattle.h2_contents.specs.Bytes.{written_at, cut_to}
 use Rattle.h2_contents.specs.Payload.{payload_bytes}
-use Rattle.h2_consistent.specs.Consistent.{Place, number_in, entry_at, Exactly, IsConsistent, IsReached, root, AreConsistent}
+use Rattle.h2_consistent.specs.Consistent.{IsConsistent, AreConsistent}
+use Rattle.h2_consistent.proofs.Entries.{EntryName, number_in, entry_at, Exactly, IsReachedBy, root}
 use Rattle.h2_consistent.proofs.Counting.{same_number}
 use Rattle.h2_consistent.proofs.Agreeing.{missing, directory, due, missing_directory, alike}
 use Rattle.h2_consistent.proofs.Tables.{kind_of, kind_at, kind_put, entries_put, has_entry, kind_thinned, entry_thinned}
@@ -48,7 +49,7 @@ module _ (B : Pfs → Type 0) where
   same_found x y e = cc
 
   -- the one that is found is of the list
-  found_all : (test : Pfs → Bool) (k : ℕ) (ps : List Pfs) (found : ℕ × Pfs) → first_from test k ps ≡ Some found → All B ps → B found.1
+  pub found_all : (test : Pfs → Bool) (k : ℕ) (ps : List Pfs) (found : ℕ × Pfs) → first_from test k ps ≡ Some found → All B ps → B found.1
   found_all test k [] found e h = absurd (none_found found e)
   found_all test k (x ∷ ps) found e h = by (test x) e (λ later. found_all test (k + 1) ps found later (All-tail B x ps h))
     where
@@ -95,7 +96,7 @@ bare_consistent id name = consistent (record { id = id; name = name; next = 2; t
         apart : (n : ℕ) → 2 ≤ n → n ≡ 1 → ⊥
         apart n ge s = omega (arith, s)
 
-    no_entry : (y : Place) → entry_at bare_table y ≡ None
+    no_entry : (y : EntryName) → entry_at bare_table y ≡ None
     no_entry y =
         entries_put map.empty 1 (Directory map.empty) (λ name. nothing name ∙ sym (ap (λ o. number_in (entries_of o) name) (get-empty nat_cmp 1))) y
         ∙ ap (λ o. number_in (entries_of o) y.1) (get-empty nat_cmp y.0)
@@ -103,15 +104,15 @@ bare_consistent id name = consistent (record { id = id; name = name; next = 2; t
     no_number : (n : ℕ) → None ≡ Some n → ⊥
     no_number n e = cc
 
-    none : (n : ℕ) (x : Place) → entry_at bare_table x ≡ Some n → ⊥
+    none : (n : ℕ) (x : EntryName) → entry_at bare_table x ≡ Some n → ⊥
     none n x at = no_number n (sym (no_entry x) ∙ at)
 
     counts : (n : ℕ) → ((n ≡ 1) ⊎ (n ≢ 1)) → Exactly (due n (kind_at bare_table n)) (λ x. entry_at bare_table x ≡ Some n)
     counts n (inl s) = subst (λ m. Exactly (due m (kind_at bare_table m)) (λ x. entry_at bare_table x ≡ Some m)) (sym s) (subst (λ k. Exactly (due 1 k) (λ x. entry_at bare_table x ≡ Some 1)) (sym first) (none 1))
     counts n (inr d) = subst (λ k. Exactly (due n k) (λ x. entry_at bare_table x ≡ Some n)) (sym (others n d)) (none n)
 
-    reached : (n : ℕ) → kind_at bare_table n ≡ directory → ((n ≡ 1) ⊎ (n ≢ 1)) → IsReached (entry_at bare_table) n
-    reached n is (inl s) = subst (IsReached (entry_at bare_table)) (sym s) root
+    reached : (n : ℕ) → kind_at bare_table n ≡ directory → ((n ≡ 1) ⊎ (n ≢ 1)) → IsReachedBy (entry_at bare_table) n
+    reached n is (inl s) = subst (IsReachedBy (entry_at bare_table)) (sym s) root
     reached n is (inr d) = absurd (missing_directory (sym (others n d) ∙ is))
 
 -- What a forest becomes

@@ -1,9 +1,17 @@
+mod Entries
 mod Lookups
 mod Counting
 mod Agreeing
 mod Tables
 mod Names
 mod Commands
+mod Listed
+mod Walks
 mod Consistency
 mod Forests
 mod Histories
+mod Staying
+mod Found
+mod Standing
+mod Readable
+mod TwoNames

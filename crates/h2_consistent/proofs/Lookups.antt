@@ -30,7 +30,7 @@ module _ {K : Type 0} {R : K → K → Ordering} (o : IsTotalOrder R) (exact : I
       by true e = inl (equal_keys x y e)
       by false e = inr (unequal_keys x y e)
 
-  told_apart : (x y : K) → x ≢ y → eq_by_cmp R x y ≡ false
+  pub told_apart : (x y : K) → x ≢ y → eq_by_cmp R x y ≡ false
   told_apart x y d = by (eq_by_cmp R x y) refl
     where
       by : (b : Bool) → eq_by_cmp R x y ≡ b → b ≡ false

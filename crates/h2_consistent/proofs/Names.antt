@@ -5,17 +5,17 @@ use Rattle.std.proofs.Common.{ap, subst, arith}
 use Rattle.h2_forest.specs.Node.{Entries}
 use Rattle.h2_forest.specs.Table.{Table, entries_at, found, looked_up, walk, passes}
 use Rattle.h2_command.specs.declared.reply.Reply.{Reply}
-use Rattle.h2_consistent.specs.Consistent.{Place, number_in, entry_at, IsReached, below}
+use Rattle.h2_consistent.proofs.Entries.{EntryName, number_in, entry_at, IsReachedBy, below}
 use Rattle.h2_consistent.proofs.Agreeing.{Agree, missing, named_stands}
 use Rattle.h2_consistent.proofs.Tables.{kind_at}
 
 abbrev pub Agrees : Table → ℕ → Type 0
 Agrees t next = Agree (entry_at t) (kind_at t) next
 
-not_ok : (r : Reply) (n : ℕ) → ◌≡◌ {A = Result ℕ Reply} (Err r) (Ok n) → ⊥
+pub not_ok : (r : Reply) (n : ℕ) → ◌≡◌ {A = Result ℕ Reply} (Err r) (Ok n) → ⊥
 not_ok r n e = cc
 
-same_ok : (m n : ℕ) → ◌≡◌ {A = Result ℕ Reply} (Ok m) (Ok n) → m ≡ n
+pub same_ok : (m n : ℕ) → ◌≡◌ {A = Result ℕ Reply} (Ok m) (Ok n) → m ≡ n
 same_ok m n e = cc
 
 found_number : (o : Option ℕ) (n : ℕ) → found o ≡ Ok n → o ≡ Some n
@@ -55,11 +55,11 @@ passes_first t [] from n e = one_itself n from e
 passes_first t (name ∷ names) from n e = one_itself n from (either_false (nat_eq from n) _ e).0
 
 -- where names lead by a way that doesn't pass an inode, they lead still where entries went or came that name it
-pub walk_reached : (t : Table) (g : Place → Option ℕ) (n : ℕ) → ((y : Place) (m : ℕ) → entry_at t y ≡ Some m → m ≢ n → g y ≡ Some m) → (names : List (List ℕ)) (from to : ℕ) → walk t from names ≡ Ok to → passes t from names n ≡ false → IsReached g from → IsReached g to
-walk_reached t g n stay [] from to is off here = subst (IsReached g) (same_ok from to is) here
+pub walk_reached : (t : Table) (g : EntryName → Option ℕ) (n : ℕ) → ((y : EntryName) (m : ℕ) → entry_at t y ≡ Some m → m ≢ n → g y ≡ Some m) → (names : List (List ℕ)) (from to : ℕ) → walk t from names ≡ Ok to → passes t from names n ≡ false → IsReachedBy g from → IsReachedBy g to
+walk_reached t g n stay [] from to is off here = subst (IsReachedBy g) (same_ok from to is) here
 walk_reached t g n stay (name ∷ names) from to is off here = by (looked_up (entries_at t from) name) refl (walk_reached t g n stay names) is (either_false (nat_eq from n) _ off).1
   where
-    by : (r : Result ℕ Reply) → looked_up (entries_at t from) name ≡ r → ((from to : ℕ) → walk t from names ≡ Ok to → passes t from names n ≡ false → IsReached g from → IsReached g to)
-        → ◌≡◌ {A = Result ℕ Reply} (elim r [ Ok k ↦ walk t k names | Err refusal ↦ Err refusal ]) (Ok to) → ◌≡◌ {A = Bool} (elim r [ Ok k ↦ passes t k names n | Err refusal ↦ false ]) false → IsReached g to
+    by : (r : Result ℕ Reply) → looked_up (entries_at t from) name ≡ r → ((from to : ℕ) → walk t from names ≡ Ok to → passes t from names n ≡ false → IsReachedBy g from → IsReachedBy g to)
+        → ◌≡◌ {A = Result ℕ Reply} (elim r [ Ok k ↦ walk t k names | Err refusal ↦ Err refusal ]) (Ok to) → ◌≡◌ {A = Bool} (elim r [ Ok k ↦ passes t k names n | Err refusal ↦ false ]) false → IsReachedBy g to
     by (Ok k) at later is off = later k to is off (below (from, name) k here (stay (from, name) k (looked_entry t from name k at) (passes_first t names k n off)))
     by (Err refusal) at later is off = absurd (not_ok refusal to is)

@@ -10,7 +10,7 @@ use Rattle.h2_forest.specs.declared.table.Node.{Node}
 use Rattle.h2_forest.specs.declared.table.Node.TheVariants.{File, Directory}
 use Rattle.h2_forest.specs.Node.{Entries}
 use Rattle.h2_forest.specs.Table.{Table, entries_of, entries_at, changed_entries, changed_node, entered, left, links_of, relinked, with_links, with_bytes, rewritten, is_orphan, without_orphans}
-use Rattle.h2_consistent.specs.Consistent.{Place, number_in, entry_at}
+use Rattle.h2_consistent.proofs.Entries.{EntryName, number_in, entry_at}
 use Rattle.h2_consistent.proofs.Lookups.{inserted_here, inserted_there, removed_here, removed_there}
 use Rattle.h2_consistent.proofs.Counting.{same_number, pair_of}
 use Rattle.h2_consistent.proofs.Agreeing.{Kind, missing, directory, file, Changed, Turned, Alike, missing_directory, missing_file, file_directory}
@@ -58,7 +58,7 @@ some_number (Some (File bytes links)) name n is = absurd (cc)
 some_number None name n is = absurd (cc)
 
 -- what has an entry is a directory
-pub has_entry : (t : Table) (x : Place) (n : ℕ) → entry_at t x ≡ Some n → kind_at t x.0 ≡ directory
+pub has_entry : (t : Table) (x : EntryName) (n : ℕ) → entry_at t x ≡ Some n → kind_at t x.0 ≡ directory
 has_entry t x n is = some_number (get t x.0) x.1 n is
 
 -- An inode is put into the table
@@ -74,7 +74,7 @@ module _ (t : Table) (n : ℕ) (node : Node) where
   kind_put = (ap kind_of put_here, λ m d. ap kind_of (put_there m d))
 
   -- one with the entries that stood there
-  pub entries_put : ((name : List ℕ) → number_in (entries_of (Some node)) name ≡ number_in (entries_at t n) name) → (y : Place) → entry_at (insert t n node) y ≡ entry_at t y
+  pub entries_put : ((name : List ℕ) → number_in (entries_of (Some node)) name ≡ number_in (entries_at t n) name) → (y : EntryName) → entry_at (insert t n node) y ≡ entry_at t y
   entries_put same y = by (same_number y.0 n)
     where
       by : ((y.0 ≡ n) ⊎ (y.0 ≢ n)) → entry_at (insert t n node) y ≡ entry_at t y
@@ -94,7 +94,7 @@ module _ (t : Table) (dir : ℕ) (es fs : Entries) (is : entries_at t dir ≡ So
   pub entry_changes : (name : List ℕ) (o : Option ℕ) → get fs name ≡ o → ((m : List ℕ) → m ≢ name → get fs m ≡ get es m) → Changed (entry_at t) (entry_at (insert t dir (Directory fs))) (dir, name) o
   entry_changes name o at off = (ap (λ w. number_in (entries_of w) name) (put_here t dir (Directory fs)) ∙ at, λ y apart. by y apart (same_number y.0 dir))
     where
-      by : (y : Place) → y ≢ (dir, name) → ((y.0 ≡ dir) ⊎ (y.0 ≢ dir)) → entry_at (insert t dir (Directory fs)) y ≡ entry_at t y
+      by : (y : EntryName) → y ≢ (dir, name) → ((y.0 ≡ dir) ⊎ (y.0 ≢ dir)) → entry_at (insert t dir (Directory fs)) y ≡ entry_at t y
       by y apart (inl s) =
           ap (λ w. number_in (entries_of w) y.1) (ap (get (insert t dir (Directory fs))) s ∙ put_here t dir (Directory fs))
           ∙ off y.1 (λ e. apart (pair_of y.0 dir y.1 name s e)) ∙ sym (ap (λ w. number_in w y.1) (ap (entries_at t) s ∙ is))
@@ -139,16 +139,16 @@ module _ (t : Table) (n l links : ℕ) (is : kind_at t n ≡ file l) where
   pub kind_relinked : Turned (kind_at t) (kind_at (relinked t n links)) n (file links)
   kind_relinked = subst (λ u. Turned (kind_at t) (kind_at u) n (file links)) (sym relinked_is) (kind_put t n (File there.0 links))
 
-  pub entry_relinked : (y : Place) → entry_at (relinked t n links) y ≡ entry_at t y
+  pub entry_relinked : (y : EntryName) → entry_at (relinked t n links) y ≡ entry_at t y
   entry_relinked y = ap (λ u. entry_at u y) relinked_is ∙ entries_put t n (File there.0 links) (λ name. sym (ap (λ w. number_in (entries_of w) name) there.1)) y
 
 -- a file has other bytes
 module _ (t : Table) (n : ℕ) (change : List ℕ → List ℕ) where
-  pub same_rewritten : ((y : Place) → entry_at (rewritten t n change) y ≡ entry_at t y) × ((m : ℕ) → kind_at (rewritten t n change) m ≡ kind_at t m)
+  pub same_rewritten : ((y : EntryName) → entry_at (rewritten t n change) y ≡ entry_at t y) × ((m : ℕ) → kind_at (rewritten t n change) m ≡ kind_at t m)
   same_rewritten = by (get t n) refl
     where
       Same : Option Node → Type 0
-      Same o = ((y : Place) → entry_at (changed_node t n o (with_bytes change)) y ≡ entry_at t y) × ((m : ℕ) → kind_at (changed_node t n o (with_bytes change)) m ≡ kind_at t m)
+      Same o = ((y : EntryName) → entry_at (changed_node t n o (with_bytes change)) y ≡ entry_at t y) × ((m : ℕ) → kind_at (changed_node t n o (with_bytes change)) m ≡ kind_at t m)
 
       turned : (node : Node) → kind_of (Some node) ≡ kind_at t n → (m : ℕ) → ((m ≡ n) ⊎ (m ≢ n)) → kind_at (insert t n node) m ≡ kind_at t m
       turned node kinds m (inl s) = ap (kind_at (insert t n node)) s ∙ (kind_put t n node).0 ∙ kinds ∙ sym (ap (kind_at t) s)
@@ -169,7 +169,7 @@ module _ (t : Table) (n : ℕ) (es : Entries) (is : entries_at t n ≡ Some es) 
 pub kind_removed : (t : Table) (n : ℕ) → Turned (kind_at t) (kind_at (remove t n)) n missing
 kind_removed t n = (ap kind_of (removed_here nat_cmp_total nat_cmp-IsAntisymmetric t n), λ m d. ap kind_of (removed_there nat_cmp_total nat_cmp-IsAntisymmetric t n m d))
 
-pub entry_removed : (t : Table) (n : ℕ) → ((name : List ℕ) → number_in (entries_at t n) name ≡ None) → (y : Place) → entry_at (remove t n) y ≡ entry_at t y
+pub entry_removed : (t : Table) (n : ℕ) → ((name : List ℕ) → number_in (entries_at t n) name ≡ None) → (y : EntryName) → entry_at (remove t n) y ≡ entry_at t y
 entry_removed t n bare y = by (same_number y.0 n)
   where
     by : ((y.0 ≡ n) ⊎ (y.0 ≢ n)) → entry_at (remove t n) y ≡ entry_at t y
@@ -178,7 +178,7 @@ entry_removed t n bare y = by (same_number y.0 n)
 
 -- files without a link go
 module _ (t : Table) (kept : ℕ → Bool) where
-  thinned : (n : ℕ) → get (without_orphans t kept) n ≡ cond (kept n || not (is_orphan (get t n))) (get t n) None
+  pub thinned : (n : ℕ) → get (without_orphans t kept) n ≡ cond (kept n || not (is_orphan (get t n))) (get t n) None
   thinned n = get-retain_keys t (λ m. kept m || not (is_orphan (get t m))) n (λ x e. ap (λ m. kept m || not (is_orphan (get t m))) (sym (nat_cmp-IsAntisymmetric n x e)))
 
   alike_by : (b : Bool) (o : Option Node) → Alike (kind_of o) (kind_of (cond (b || not (is_orphan o)) o None))
@@ -204,5 +204,5 @@ module _ (t : Table) (kept : ℕ → Bool) where
   pub kind_thinned : (n : ℕ) → Alike (kind_at t n) (kind_at (without_orphans t kept) n)
   kind_thinned n = subst (λ o. Alike (kind_at t n) (kind_of o)) (sym (thinned n)) (alike_by (kept n) (get t n))
 
-  pub entry_thinned : (y : Place) → entry_at (without_orphans t kept) y ≡ entry_at t y
+  pub entry_thinned : (y : EntryName) → entry_at (without_orphans t kept) y ≡ entry_at t y
   entry_thinned y = ap (λ o. number_in (entries_of o) y.1) (thinned y.0) ∙ entry_by (kept y.0) (get t y.0) y.1

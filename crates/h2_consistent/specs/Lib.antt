@@ -1,1 +1,4 @@
+pub mod FileTree
 pub mod Consistent
+pub mod Handles
+pub mod Example

@@ -24,3 +24,4 @@ pub mod Agreed
 pub mod Agreeing
 pub mod FoundLaws
 pub mod RootLaws
+pub mod Spending

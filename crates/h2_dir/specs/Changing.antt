@@ -1,5 +1,5 @@
 -- What adding an entry to a directory, or taking one out, changes.
-use Rattle.std.specs.Prelude.{◌≡◌, ◌<◌, ◌≤◌, ⊤, ℕ, ◌-◌, List, ◌++◌, replicate, length, Option, Some, None}
+use Rattle.std.specs.Prelude.{◌≡◌, ◌<◌, ◌≤◌, ⊤, ℕ, ◌+◌, ◌-◌, List, ◌++◌, replicate, length, Option, Some, None}
 use Rattle.h2_num.specs.declared.block.Block.{Block}
 use Rattle.h2_ref.specs.declared.reference.Kind.TheVariants as kinds
 use Rattle.h2_ref.specs.declared.reference.Check.{Check}
@@ -80,3 +80,16 @@ pub record TakesAway (f g : Forest) (dir : ℕ) (leaf : Ref) : Type 0 where
   pub paths : KeepsPaths f between dir leaf
   pub path : Reaches between leaf.key dir None
   pub resizes : Replaces between g dir (between.set dir)
+
+-- What adding takes: the room falls by the nodes that are copied for it and by the block that a split makes, and spare
+-- nodes by that block alone.
+pub record AddsWithin (f g : Forest) (dir : ℕ) (leaf : Ref) : Type 0 where
+  pub adds : Adds f g dir leaf
+  pub room : let goes = adds.inserts.goes in let then = goes.then in g.room + then.copies goes.node + goes.blocks ≡ f.room
+  pub spare : let goes = adds.inserts.goes in g.spare + goes.blocks ≡ f.spare
+
+-- What taking out takes: the room falls by the nodes that are copied for it, and spare nodes stay.
+pub record TakesWithin (f g : Forest) (dir : ℕ) (leaf : Ref) : Type 0 where
+  pub takes : TakesAway f g dir leaf
+  pub room : let goes = takes.removes.goes in let then = goes.then in g.room + then.copies goes.node ≡ f.room
+  pub spare : g.spare ≡ f.spare

@@ -13,7 +13,7 @@ ghost use Rattle.h2_inode.specs.Loaded.{view_of};
 ghost use Rattle.h2_inode.specs.Others.{RenewsOthers};
 ghost use Rattle.h2_inode.specs.Directory.{Entries};
 ghost use Rattle.h2_dir.specs.Finding.{HoldsEntries};
-ghost use Rattle.h2_dir.specs.Changing.{HasRoom, HasBlockIfLong, Adds, TellsName, entry_ref, with_entries};
+ghost use Rattle.h2_dir.specs.Changing.{HasRoom, HasBlockIfLong, Adds, AddsWithin, TellsName, entry_ref, with_entries};
 ghost use Rattle.h2_dir.specs.Others.{KeepsOtherTrees, KeepsOtherEntries};
 
 use crate::entry::entry_ref;
@@ -50,7 +50,8 @@ fn put_in<N: Sets>(alloc: Global, n: &mut N, root: NodeId, leaf: Ref)
 /// No entry has the key, its path is loaded, and it has the upper bits of the name's keys (`spot` gives such a key).
 /// The size is below 4096. The number is from 1 to 2^62 - 1, and the target 1 for a directory or 2 for a file. A name
 /// of more than 64 bytes has a block of 1 KiB, and no other has: it is given with its check. At least one node is
-/// spare, and the room is at least 63; they are lowered by at most this. It can't be refused, and meets no bad block. No
+/// spare, and the room is at least 63; they are lowered by at most this, and spare nodes only by the block that a split
+/// makes. It can't be refused, and meets no bad block. No
 /// node is unloaded, and all loaded paths stay. Other directories and files stay the same, and the trees of PFSs do, but
 /// for where the blocks of inodes and indirect blocks lie. No root comes, and leaves that named one root each still do.
 pub fn add_at<N: Nodes>(
@@ -84,6 +85,8 @@ pub fn add_at<N: Nodes>(
     ensures none_met { MeetsNone (N.forest n.old) (N.forest n.new) }
     ensures beside { KeepsOthersBeside (N.forest n.old) (N.forest n.new) dir.0 (N.beside n.old) (N.beside n.new) }
     ensures spends { let f = N.forest n.old in let g = N.forest n.new in (f.room ≤ g.room + 63) × (f.spare ≤ g.spare + 1) }
+    ensures falls { let f = N.forest n.old in let g = N.forest n.new in (g.room ≤ f.room) × (g.spare ≤ f.spare) }
+    ensures exact { let f = N.forest n.old in AddsWithin f (N.forest n.new) dir.0 (entry_ref f.epoch key name.now block number target) }
     ensures later { N.later n.old n.new }
 {
     let size = n.inode(dir).size;

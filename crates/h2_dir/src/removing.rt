@@ -12,7 +12,7 @@ ghost use Rattle.h2_inode.specs.Loaded.{view_of};
 ghost use Rattle.h2_inode.specs.Others.{RenewsOthers};
 ghost use Rattle.h2_inode.specs.Directory.{Entries};
 ghost use Rattle.h2_dir.specs.Finding.{HoldsEntries, IsFound};
-ghost use Rattle.h2_dir.specs.Changing.{IsDirectoryRoot, TakesAway, with_entries};
+ghost use Rattle.h2_dir.specs.Changing.{IsDirectoryRoot, TakesAway, TakesWithin, with_entries};
 ghost use Rattle.h2_dir.specs.Others.{KeepsOtherTrees, KeepsOtherEntries};
 
 use crate::resizing::resize;
@@ -101,6 +101,8 @@ pub fn remove_at<N: Nodes>(alloc: Global, n: &mut N, dir: NodeId, key: u64) -> D
     ensures none_met { MeetsNone (N.forest n.old) (N.forest n.new) }
     ensures beside { KeepsOthersBeside (N.forest n.old) (N.forest n.new) dir.0 (N.beside n.old) (N.beside n.new) }
     ensures spends { let f = N.forest n.old in let g = N.forest n.new in (f.room ≤ g.room + 62) × (g.spare ≡ f.spare) }
+    ensures falls { let f = N.forest n.old in let g = N.forest n.new in g.room ≤ f.room }
+    ensures exact { (leaf : Ref) → Reaches (N.forest n.old) key dir.0 (Some leaf) → TakesWithin (N.forest n.old) (N.forest n.new) dir.0 leaf }
     ensures later { N.later n.old n.new }
 {
     let size = n.inode(dir).size;

@@ -1,7 +1,7 @@
 -- What the calls of a disk do.
-use Rattle.std.specs.Prelude.{◌≡◌, ℕ, List, length}
+use Rattle.std.specs.Prelude.{◌≡◌, ◌⊎◌, ℕ, List, length, Result, Ok, Err}
 use Rattle.h2_num.specs.Places.{Places, SameOutside, Same, Holds}
-use Rattle.h2_num.specs.Causes.{Rose}
+use Rattle.h2_num.specs.Causes.{Rose, one_more}
 use Rattle.h2_disk.specs.Trace.{Trace, Wrote, Synced, Tried}
 use Rattle.h2_disk.specs.declared.disk.DiskFault.{DiskFault}
 use Rattle.h2_disk.specs.declared.disk.DiskFault.TheVariants.{Failed, NoMemory}
@@ -26,7 +26,27 @@ pub record Syncs (moment : ℕ) (image_old image_new : Places) (trace_old trace_
   pub image : Same image_old image_new
   pub trace : trace_new ≡ Synced moment image_new trace_old
 
--- a failure is told only where the count of faults rose; memory may be wanting at any time
+-- a failure is told only where the count of faults rose; want of memory has a count of its own
 abbrev pub HasCause : ℕ → ℕ → DiskFault → Type 0
 HasCause before now Failed = Rose before now
 HasCause before now NoMemory = Unit {0}
+
+-- the count of wants of memory after a fault: it rose by one where memory was wanting, and else stayed
+abbrev pub CountsWant : ℕ → ℕ → DiskFault → Type 0
+CountsWant before now Failed = now ≡ before
+CountsWant before now NoMemory = now ≡ one_more before
+
+-- the count of wants of memory rose by one where the call answered that memory was wanting, and else stayed
+abbrev pub CountsWants : {T : Type 0} → ℕ → ℕ → Result T DiskFault → Type 0
+CountsWants before now (Ok done) = now ≡ before
+CountsWants before now (Err fault) = CountsWant before now fault
+
+-- the same after a fault of a call that takes memory of its own too, whose want the disk does not count
+abbrev pub MayCountWant : ℕ → ℕ → DiskFault → Type 0
+MayCountWant before now Failed = now ≡ before
+MayCountWant before now NoMemory = (now ≡ before) ⊎ (now ≡ one_more before)
+
+-- the same of all answers of such a call
+abbrev pub MayCountWants : {T : Type 0} → ℕ → ℕ → Result T DiskFault → Type 0
+MayCountWants before now (Ok done) = now ≡ before
+MayCountWants before now (Err fault) = MayCountWant before now fault

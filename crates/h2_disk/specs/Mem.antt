@@ -24,6 +24,10 @@ mem_moment disk = disk.recording.moment
 abbrev pub mem_faults : MemDisk → ℕ
 mem_faults disk = disk.faults
 
+-- how often it answered that memory was wanting
+abbrev pub mem_wants : MemDisk → ℕ
+mem_wants disk = disk.wants
+
 -- how often it was read
 abbrev pub mem_reads : MemDisk → ℕ
 mem_reads disk = disk.reads
@@ -61,6 +65,7 @@ pub record IsFresh (image : Places) (moments reads : List ℕ) (disk : MemDisk) 
   pub trace_is : mem_trace disk ≡ Opened image
   pub moment_is : mem_moment disk ≡ 0
   pub faults_are : mem_faults disk ≡ 0
+  pub wants_are : mem_wants disk ≡ 0
   pub reads_are : mem_reads disk ≡ 0
   pub fail_moments_are : fail_moments disk ≡ moments
   pub fail_reads_are : fail_reads disk ≡ reads

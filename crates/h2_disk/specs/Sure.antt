@@ -16,3 +16,7 @@ sure_trace disk = trace_of disk.recording.entries.items
 -- the writes and syncs begun, and the syncs that succeeded
 abbrev pub sure_moment : SureDisk → ℕ
 sure_moment disk = disk.recording.moment
+
+-- how often it answered that memory was wanting
+abbrev pub sure_wants : SureDisk → ℕ
+sure_wants disk = disk.wants

@@ -8,7 +8,7 @@ ghost use Rattle.h2_disk.specs.Trace.{Trace, latest, LeftAt};
 pub enum DiskFault {
     /// The disk failed, and its count of faults rose.
     Failed,
-    /// Memory was wanting.
+    /// Memory was wanting, and the disk's count of wants rose.
     NoMemory,
 }
 
@@ -17,13 +17,10 @@ pub enum DiskFault {
 /// What a disk tells of itself is its image and its trace. A type that tells neither, as a disk over a
 /// real file, is bound by the clauses on moments, causes and memory alone.
 pub trait Disk {
-    ghost use Rattle.h2_disk.specs.Disk.{HasCause, Keeps, Writes, FailsToWrite, Syncs};
+    ghost use Rattle.h2_disk.specs.Disk.{HasCause, CountsWants, Keeps, Writes, FailsToWrite, Syncs};
 
     /// Whether disks of this type tell their image and their trace.
     ghost tells: { Bool };
-
-    /// Whether disks of this type take no memory, and so never answer that it was wanting.
-    ghost takes_no_memory: { Bool };
 
     /// What a read gives at each place.
     ghost image: { Self → Places };
@@ -33,6 +30,9 @@ pub trait Disk {
 
     /// How often the disk has failed.
     ghost faults: { Self → ℕ };
+
+    /// How often the disk has answered that memory was wanting. Of a type that never does, it is constant.
+    ghost wants: { Self → ℕ };
 
     /// Writes and syncs begun, and syncs that succeeded.
     ghost moment: { Self → ℕ };
@@ -46,7 +46,7 @@ pub trait Disk {
         ensures time { moment self.new ≡ moment self.old }
         ensures later { faults self.old ≤ faults self.new }
         ensures cause { IfErr result (λ fault. HasCause (faults self.old) (faults self.new) fault) }
-        ensures memory { IfErr result (λ fault. IsTrue takes_no_memory → fault ≡ DiskFault.Failed) };
+        ensures memory { CountsWants (wants self.old) (wants self.new) result };
 
     /// Puts the bytes at the place. After a fault the range may hold any bytes, and all else stays.
     fn write(&mut self, at: u64, bytes: &[u8]) -> Result<(), DiskFault>
@@ -57,7 +57,7 @@ pub trait Disk {
         ensures end { 2 ^ 64 - 2 ≤ moment self.old → IsErr result }
         ensures later { faults self.old ≤ faults self.new }
         ensures cause { IfErr result (λ fault. HasCause (faults self.old) (faults self.new) fault) }
-        ensures memory { IfErr result (λ fault. IsTrue takes_no_memory → fault ≡ DiskFault.Failed) };
+        ensures memory { CountsWants (wants self.old) (wants self.new) result };
 
     /// Makes the image durable: what a power cut leaves until the next write begins. After a fault no
     /// promise is gained.
@@ -69,7 +69,7 @@ pub trait Disk {
         ensures end { 2 ^ 64 - 2 ≤ moment self.old → IsErr result }
         ensures later { faults self.old ≤ faults self.new }
         ensures cause { IfErr result (λ fault. HasCause (faults self.old) (faults self.new) fault) }
-        ensures memory { IfErr result (λ fault. IsTrue takes_no_memory → fault ≡ DiskFault.Failed) };
+        ensures memory { CountsWants (wants self.old) (wants self.new) result };
 
     /// The moment: it rises by one when a write or a sync begins, and by one more when a sync succeeds.
     fn moment(&self) -> u64

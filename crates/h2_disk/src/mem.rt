@@ -3,9 +3,9 @@ ghost use Rattle.h2_num.specs.Places.{places, from_place, SameBelow, Lays};
 ghost use Rattle.h2_num.specs.Causes.{one_more};
 ghost use Rattle.h2_disk.specs.Trace.{Opened};
 ghost use Rattle.h2_disk.specs.RecordLaws.{record_left};
-ghost use Rattle.h2_disk.specs.Disk.{Keeps, Writes, Syncs};
+ghost use Rattle.h2_disk.specs.Disk.{Keeps, Writes, Syncs, CountsWants};
 ghost use Rattle.h2_disk.specs.Faults.{IsCounted};
-ghost use Rattle.h2_disk.specs.Mem.{mem_image, mem_trace, mem_moment, mem_faults, mem_reads, FailsNextRead, FailsNextCall, FailsExactlyIf, KeepsPlan, IsFresh};
+ghost use Rattle.h2_disk.specs.Mem.{mem_image, mem_trace, mem_moment, mem_faults, mem_wants, mem_reads, FailsNextRead, FailsNextCall, FailsExactlyIf, KeepsPlan, IsFresh};
 ghost use Rattle.h2_disk.specs.declared.disk.DiskFault.TheVariants.{Failed};
 
 use crate::recording::Recording;
@@ -20,7 +20,8 @@ mod cuts;
 ///
 /// A write or a sync fails at the planned moments and from moment 2^64 - 2 on, a read at the planned
 /// numbers. A write that failed leaves the old bytes and counts as no write. The count of faults rises
-/// at each failure and at nothing else.
+/// at each failure and at nothing else, the count of wants at each write or sync that was refused for want
+/// of memory.
 #[derive(Drop)]
 pub struct MemDisk {
     recording: Recording,
@@ -28,6 +29,7 @@ pub struct MemDisk {
     fail_reads: Vec<u64>,
     reads: u64,
     faults: u64,
+    wants: u64,
 }
 
 impl MemDisk {
@@ -53,15 +55,16 @@ impl MemDisk {
         ensures refused { OnErr result (Keeps (mem_image self.old) (mem_image self.new) (mem_trace self.old) (mem_trace self.new)) }
         ensures moment { mem_moment self.new ≡ 0 }
         ensures faults { mem_faults self.new ≡ mem_faults self.old }
+        ensures wants { mem_wants self.new ≡ mem_wants self.old }
         ensures reads { mem_reads self.new ≡ mem_reads self.old }
         ensures plan { KeepsPlan self.old self.new }
     {
         self.recording.lay(at, bytes)
     }
 
-    // A disk with this image, these failures, and no fault so far.
+    // A disk with this image, these failures, and no fault and no want of memory so far.
     fn over(recording: Recording, fail_moments: Vec<u64>, fail_reads: Vec<u64>) -> MemDisk
-        ensures { result ≡ record { recording = recording; fail_moments = fail_moments; fail_reads = fail_reads; reads = 0; faults = 0 } }
+        ensures { result ≡ record { recording = recording; fail_moments = fail_moments; fail_reads = fail_reads; reads = 0; faults = 0; wants = 0 } }
     {
         MemDisk {
             recording,
@@ -69,6 +72,7 @@ impl MemDisk {
             fail_reads,
             reads: 0,
             faults: 0,
+            wants: 0,
         }
     }
 
@@ -102,18 +106,27 @@ impl MemDisk {
         self.faults = self.faults.saturating_add(1);
         DiskFault::Failed
     }
+
+    // Counts that memory was wanting.
+    fn count_want(&mut self) -> DiskFault
+        ensures fault { result ≡ DiskFault.NoMemory }
+        ensures counted { self.new ≡ record self.old { wants = one_more self.old.wants } }
+    {
+        self.wants = self.wants.saturating_add(1);
+        DiskFault::NoMemory
+    }
 }
 
 impl Disk for MemDisk {
     ghost tells = { true };
-
-    ghost takes_no_memory = { false };
 
     ghost image = { mem_image };
 
     ghost trace = { mem_trace };
 
     ghost faults = { mem_faults };
+
+    ghost wants = { mem_wants };
 
     ghost moment = { mem_moment };
 
@@ -132,6 +145,7 @@ impl Disk for MemDisk {
         ensures time { mem_moment self.new ≡ mem_moment self.old }
         ensures fails { FailsExactlyIf (FailsNextRead self.old) result }
         ensures memory { IfErr result (λ fault. fault ≡ Failed) }
+        ensures wants { mem_wants self.new ≡ mem_wants self.old }
         ensures later { mem_faults self.old ≤ mem_faults self.new }
         ensures counted { IsCounted (mem_faults self.old) (mem_faults self.new) result }
         ensures number { mem_reads self.new ≡ one_more (mem_reads self.old) }
@@ -154,6 +168,7 @@ impl Disk for MemDisk {
         ensures fails { FailsExactlyIf (FailsNextCall self.old) result }
         ensures later { mem_faults self.old ≤ mem_faults self.new }
         ensures counted { IsCounted (mem_faults self.old) (mem_faults self.new) result }
+        ensures memory { CountsWants (mem_wants self.old) (mem_wants self.new) result }
         ensures reads { mem_reads self.new ≡ mem_reads self.old }
         ensures plan { KeepsPlan self.old self.new }
     {
@@ -162,7 +177,7 @@ impl Disk for MemDisk {
             return Err(self.count_fault());
         }
         let Ok(()) = self.recording.write(at, bytes) else {
-            return Err(DiskFault::NoMemory);
+            return Err(self.count_want());
         };
         Ok(())
     }
@@ -177,6 +192,7 @@ impl Disk for MemDisk {
         ensures fails { FailsExactlyIf (FailsNextCall self.old) result }
         ensures later { mem_faults self.old ≤ mem_faults self.new }
         ensures counted { IsCounted (mem_faults self.old) (mem_faults self.new) result }
+        ensures memory { CountsWants (mem_wants self.old) (mem_wants self.new) result }
         ensures reads { mem_reads self.new ≡ mem_reads self.old }
         ensures plan { KeepsPlan self.old self.new }
     {
@@ -185,7 +201,7 @@ impl Disk for MemDisk {
             return Err(self.count_fault());
         }
         let Ok(()) = self.recording.sync() else {
-            return Err(DiskFault::NoMemory);
+            return Err(self.count_want());
         };
         Ok(())
     }

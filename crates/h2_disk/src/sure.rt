@@ -3,8 +3,8 @@ ghost use Rattle.h2_num.specs.Places.{places, from_place, SameBelow};
 ghost use Rattle.h2_num.specs.Causes.{one_more};
 ghost use Rattle.h2_disk.specs.Trace.{Opened};
 ghost use Rattle.h2_disk.specs.RecordLaws.{record_left};
-ghost use Rattle.h2_disk.specs.Disk.{Keeps, Writes, Syncs};
-ghost use Rattle.h2_disk.specs.Sure.{sure_image, sure_trace, sure_moment};
+ghost use Rattle.h2_disk.specs.Disk.{Keeps, Writes, Syncs, CountsWants};
+ghost use Rattle.h2_disk.specs.Sure.{sure_image, sure_trace, sure_moment, sure_wants};
 
 use crate::recording::Recording;
 use crate::{Disk, DiskFault};
@@ -13,10 +13,11 @@ use std::alloc::Global;
 
 /// A disk in memory that never fails. It takes 16 KiB for each page that was written, and room for a
 /// copy of each write. Want of memory refuses a write or a sync, and so does each from moment
-/// 2^64 - 2 on.
+/// 2^64 - 2 on. Its count of wants of memory rises at each of these and at nothing else.
 #[derive(Drop)]
 pub struct SureDisk {
     recording: Recording,
+    wants: u64,
 }
 
 impl SureDisk {
@@ -25,23 +26,34 @@ impl SureDisk {
         ensures image { IfOk result (λ disk. sure_image disk ≡ (λ k. 0)) }
         ensures trace { IfOk result (λ disk. sure_trace disk ≡ Opened (λ k. 0)) }
         ensures moment { IfOk result (λ disk. sure_moment disk ≡ 0) }
+        ensures wants { IfOk result (λ disk. sure_wants disk ≡ 0) }
     {
         Ok(SureDisk {
             recording: Recording::new(alloc),
+            wants: 0,
         })
+    }
+
+    // Counts that memory was wanting.
+    fn count_want(&mut self) -> DiskFault
+        ensures fault { result ≡ DiskFault.NoMemory }
+        ensures counted { self.new ≡ record self.old { wants = one_more self.old.wants } }
+    {
+        self.wants = self.wants.saturating_add(1);
+        DiskFault::NoMemory
     }
 }
 
 impl Disk for SureDisk {
     ghost tells = { true };
 
-    ghost takes_no_memory = { false };
-
     ghost image = { sure_image };
 
     ghost trace = { sure_trace };
 
     ghost faults = { λ disk. 0 };
+
+    ghost wants = { sure_wants };
 
     ghost moment = { sure_moment };
 
@@ -58,6 +70,7 @@ impl Disk for SureDisk {
         ensures bytes { SameBelow (length buf.new) (from_place (sure_image self.old) at) (places buf.new) }
         ensures keeps { Keeps (sure_image self.old) (sure_image self.new) (sure_trace self.old) (sure_trace self.new) }
         ensures time { sure_moment self.new ≡ sure_moment self.old }
+        ensures wants { sure_wants self.new ≡ sure_wants self.old }
     {
         self.recording.read(at, buf);
         Ok(())
@@ -72,9 +85,10 @@ impl Disk for SureDisk {
         ensures time { sure_moment self.new ≡ one_more (sure_moment self.old) }
         ensures end { 2 ^ 64 - 2 ≤ sure_moment self.old → IsErr result }
         ensures memory { IfErr result (λ fault. fault ≡ DiskFault.NoMemory) }
+        ensures wants { CountsWants (sure_wants self.old) (sure_wants self.new) result }
     {
         let Ok(()) = self.recording.write(at, bytes) else {
-            return Err(DiskFault::NoMemory);
+            return Err(self.count_want());
         };
         Ok(())
     }
@@ -87,9 +101,10 @@ impl Disk for SureDisk {
         ensures time_failed { OnErr result (sure_moment self.new ≡ one_more (sure_moment self.old)) }
         ensures end { 2 ^ 64 - 2 ≤ sure_moment self.old → IsErr result }
         ensures memory { IfErr result (λ fault. fault ≡ DiskFault.NoMemory) }
+        ensures wants { CountsWants (sure_wants self.old) (sure_wants self.new) result }
     {
         let Ok(()) = self.recording.sync() else {
-            return Err(DiskFault::NoMemory);
+            return Err(self.count_want());
         };
         Ok(())
     }

@@ -13,7 +13,7 @@ use Rattle.h2_set.specs.RenewLaws.{Keeps-Renews, Renews-trans}
 use Rattle.h2_tree.specs.Changes.{ChangesOnly, TakesIn, replaced, placed, parted, Inserts}
 use Rattle.h2_tree.specs.OtherTrees.{KeepsOtherLeaves, leaves_trans, inserted_leaves}
 use Rattle.h2_file.proofs.Parts.{take_from, take_next}
-use Rattle.h2_file.specs.Linking.{IsBlock, FollowFrom, IsRun, blocks, behind_zero, AreBlocks, put_each, Puts, PutsEach, none, first}
+use Rattle.h2_file.specs.Linking.{IsBlock, FollowFrom, IsRun, blocks, behind_zero, AreBlocks, put_each, Puts, PutsEach, none, first, new_blocks}
 
 -- The keys of a run
 
@@ -155,6 +155,18 @@ puts_all {at} (first {f = f} {h = h} {g = g} {r = r} {rs = rs} step rest) sound 
           let spent = goes.spare in
           omega (arith, first, rest_grown, spent);
     }
+
+-- spare nodes fall by the blocks that are made
+pub puts_spare : {at : ℕ} {f g : Forest} {rs : List Ref} (chain : PutsEach at f rs g) → length rs ≤ f.spare → g.spare + new_blocks chain ≡ f.spare
+puts_spare none enough = omega arith
+puts_spare (first {r = r} {rs = rs} step rest) enough =
+    let ins = step.inserts in
+    let goes = ins.goes in
+    let n : length (r ∷ rs) ≡ suc (length rs) = refl in
+    let made = goes.grown (omega (arith, enough, n)) in
+    let spent = goes.spare in
+    let tail = puts_spare rest (omega (arith, enough, n, ins.spare)) in
+    omega (arith, made, spent, tail)
 
 -- each path leads to what was put there
 pub puts_reach : {at : ℕ} {f g : Forest} {rs : List Ref} → PutsEach at f rs g → IsSound f → f.stands at ≡ true → Ordered rs → (i : ℕ) (r : Ref) → slice_get rs i ≡ Some r → Reaches g r.key at (Some r)

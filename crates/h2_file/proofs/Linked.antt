@@ -20,7 +20,7 @@ use Rattle.h2_inode.specs.NodeLaws.{inode_held}
 use Rattle.h2_file.specs.Blocks.{IsFile, IsFileOfRefs, HasContents}
 use Rattle.h2_file.specs.Sizing.{IsResized, HasResized, Sizes}
 use Rattle.h2_file.specs.Linking.{empty_set, IsBlock, AreBlocks, PathsLoaded, LoadsEach, KeepsOthers, Opens, PutsEach, LinksNodes, LinksFile, put_each}
-use Rattle.h2_file.proofs.Chained.{block_limit, blocks_ordered, PutAll, puts_all, puts_reach}
+use Rattle.h2_file.proofs.Chained.{block_limit, blocks_ordered, PutAll, puts_all, puts_reach, puts_spare}
 use Rattle.h2_file.proofs.Opened.{Opened, opened_all}
 use Rattle.h2_file.proofs.Loaded.{loaded_on}
 use Rattle.h2_file.proofs.SpentAll.{puts_spent}
@@ -140,7 +140,7 @@ module _ (h : Forest) (holds : ℕ → Option Fields) (at : ℕ) (file : IsFile 
 
 -- The whole
 
-module _ (f w o p g : Forest) (at : ℕ) (rs : List Ref) (sound : IsSound f) (stands : f.stands at ≡ true) (top : f.root at ≡ at) (prepares : Prepares f w) (loads : LoadsEach f w at rs) (apart : KeepsOthers f w at) (loaded : PathsLoaded w at rs) (enough : length rs ≤ w.spare) (opens : Opens w at o) (puts : PutsEach at o rs p) (sizes : Sizes p g at) (are : AreBlocks rs) (contents : HasContents o at) where
+module _ (f w o p g : Forest) (at : ℕ) (rs : List Ref) (sound : IsSound f) (stands : f.stands at ≡ true) (top : f.root at ≡ at) (prepares : Prepares f w) (loads : LoadsEach f w at rs) (apart : KeepsOthers f w at) (loaded : PathsLoaded w at rs) (enough : length rs ≤ w.spare) (made : length rs ≤ f.spare → w.spare ≡ f.spare) (opens : Opens w at o) (puts : PutsEach at o rs p) (sizes : Sizes p g at) (are : AreBlocks rs) (contents : HasContents o at) where
   place_w : (m : ℕ) → f.stands m ≡ true → InPlace f w m
   place_w m st = (prepares.stays m st).place
 
@@ -172,7 +172,7 @@ module _ (f w o p g : Forest) (at : ℕ) (rs : List Ref) (sound : IsSound f) (st
   still_all m st = InPlace-trans f w g m (place_w m st) (InPlace-trans w o g m (open_w.still m (stands_w m st)) (InPlace-trans o p g m (all.still m (stands_o m st)) (place_g m (stands_p m st))))
 
   abbrev linked_nodes : LinksNodes f g at rs
-  linked_nodes = record { walked = w; prepares = prepares; touched = loads; apart = apart; loaded = loaded; enough = enough; opened = o; opens = opens; linked = p; puts = puts; grown = (let fewer = all.grown (omega (arith, enough, open_w.spare)) in omega (arith, fewer, open_w.spare)); sizes = sizes }
+  linked_nodes = record { walked = w; prepares = prepares; touched = loads; apart = apart; loaded = loaded; enough = enough; made = made; opened = o; opens = opens; linked = p; puts = puts; grown = (let fewer = all.grown (omega (arith, enough, open_w.spare)) in omega (arith, fewer, open_w.spare)); spent = puts_spare puts (omega (arith, enough, open_w.spare)) ∙ open_w.spare; sizes = sizes }
 
   pub links_file : LinksFile f g at rs
   links_file = record {
@@ -216,6 +216,7 @@ module _ (f w o p g : Forest) (at : ℕ) (rs : List Ref) (sound : IsSound f) (st
     room_each = omega (arith, sizes.room, all.room, open_w.room, prepares.room);
     room_falls = omega (arith, sizes.room, all.room_falls, open_w.room, prepares.room);
     spare = omega (arith, sizes.spare, all.spare, open_w.spare, prepares.spare);
+    spare_falls = λ before. let none_made = made before in let fewer = linked_nodes.grown in omega (arith, none_made, fewer, sizes.spare);
   }
 
 -- The inode and what other roots keep

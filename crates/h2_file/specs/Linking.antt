@@ -91,6 +91,11 @@ pub data PutsEach (at : ℕ) : Forest → List Ref → Forest → Type 0 where
   none : {f : Forest} → PutsEach at f [] f
   first : {f h g : Forest} {r : Ref} {rs : List Ref} → Puts f h at r → PutsEach at h rs g → PutsEach at f (r ∷ rs) g
 
+-- how many blocks were made for them, one by each split
+abbrev pub new_blocks : {at : ℕ} {f g : Forest} {rs : List Ref} → PutsEach at f rs g → ℕ
+new_blocks none = 0
+new_blocks (first step rest) = step.inserts.goes.blocks + new_blocks rest
+
 -- The steps: all loads come first, then the root is made writable, each reference goes in, and the size is set.
 pub record LinksNodes (f g : Forest) (at : ℕ) (rs : List Ref) : Type 0 where
   -- after the loads
@@ -102,6 +107,8 @@ pub record LinksNodes (f g : Forest) (at : ℕ) (rs : List Ref) : Type 0 where
   pub loaded : PathsLoaded walked at rs
   -- a node is spare for each reference by then
   pub enough : length rs ≤ walked.spare
+  -- and where so many were spare before, no node was made spare
+  pub made : length rs ≤ f.spare → walked.spare ≡ f.spare
   -- once the root was made writable
   pub opened : Forest
   pub opens : Opens walked at opened
@@ -110,6 +117,8 @@ pub record LinksNodes (f g : Forest) (at : ℕ) (rs : List Ref) : Type 0 where
   pub puts : PutsEach at opened rs linked
   -- spare nodes don't rise after the loads
   pub grown : linked.spare ≤ walked.spare
+  -- they fall by the blocks that are made, and by no more
+  pub spent : linked.spare + new_blocks puts ≡ walked.spare
   pub sizes : Sizes linked g at
 
 -- The references are in the file's list, each in place of the one with its key. What stands stands where it stood; in
@@ -140,3 +149,5 @@ pub record LinksFile (f g : Forest) (at : ℕ) (rs : List Ref) : Type 0 where
   pub room_each : f.room ≤ g.room + 63 * length rs
   pub room_falls : g.room ≤ f.room
   pub spare : f.spare ≤ g.spare + length rs
+  -- spare nodes don't rise where there was one for each reference
+  pub spare_falls : length rs ≤ f.spare → g.spare ≤ f.spare

@@ -55,6 +55,7 @@ fn prepare<N: Sets>(alloc: Global, n: &mut N, root: NodeId, refs: &[Ref]) -> Res
     ensures prepares { OnOk result (Prepares (N.forest n.old) (N.forest n.new)) }
     ensures loaded { OnOk result (PathsLoaded (N.forest n.new) root.0 refs.now) }
     ensures spare { OnOk result (let g = N.forest n.new in length refs.now ≤ g.spare) }
+    ensures made { let f = N.forest n.old in let g = N.forest n.new in length refs.now ≤ f.spare → g.spare ≡ f.spare }
     ensures walks { OnErr result (Walks (N.forest n.old) (N.forest n.new)) }
     ensures touched { LoadsEach (N.forest n.old) (N.forest n.new) root.0 refs.now }
     ensures apart { KeepsOthers (N.forest n.old) (N.forest n.new) root.0 }
@@ -148,7 +149,8 @@ fn put_blocks<N: Sets>(alloc: Global, n: &mut N, at: NodeId, refs: &[Ref])
 /// those of its bytes that are to stay. Each reference is inserted by itself, in their order, in place of the one with
 /// its key. With `k` references the room is at least 7k + 186, and is lowered by at most 7k + 129. For what is copied
 /// is a node of 64 blocks or more on the path of block 0, the first block or the last one, of which each path has at
-/// most 43, or one of at most 6 smaller nodes on the path of the block itself; and a split takes one new block. Trouble
+/// most 43, or one of at most 6 smaller nodes on the path of the block itself; and a split takes one new block. Spare
+/// nodes are lowered by the new blocks alone; none is made where there is one for each reference before. Trouble
 /// only where a node on the path of one of the keys isn't loaded, or fewer nodes are spare than there are references,
 /// and never a bad block where the file's references are known; nothing but loads took place then. A bad block is met
 /// only where the answer is Bad.

@@ -18,7 +18,8 @@ fn is_late_scan(durable: &[u64], item: &Item) -> bool
 
 /// The numbers whose header became durable, after one more item. Want of memory leaves them as they were.
 fn note_durable(durable: &mut Vec<u64>, item: &Item) -> Result<(), NoMemory>
-    ensures { OnOk result (durable.new.items ≡ after_durable durable.old.items item.now) }
+    ensures after { OnOk result (durable.new.items ≡ after_durable durable.old.items item.now) }
+    ensures err { OnErr result (durable.new.items ≡ durable.old.items) }
 {
     if let Item::Mark(Mark::HeaderDone { number, .. }) = item {
         durable.push(*number)?;

@@ -1,4 +1,4 @@
-ghost use Rattle.std.specs.Prelude.{IfOk, OnOk, ◌<◌, ◌^◌, ◌≡◌, ◌↔◌, IsTrue, All, length, ◌&&◌};
+ghost use Rattle.std.specs.Prelude.{IfOk, OnErr, OnOk, ◌<◌, ◌^◌, ◌≡◌, ◌↔◌, IsTrue, All, length, ◌&&◌};
 ghost use Rattle.h2_command.specs.Lawful.{Lawful, IsLawfulItem};
 ghost use Rattle.h2_command.specs.Commands.{is_bulkfree};
 ghost use Rattle.h2_forest.specs.History.{is_bulk, StandsFor, IsRight, IsRightEntry, after_item};
@@ -42,12 +42,13 @@ fn stands_for(command: &Command, reply: &Reply, due: &Reply) -> bool
     reply.is_same(due)
 }
 
-/// Whether an entry is right; and the forest after it.
+/// Whether an entry is right; and the forest after it. Want of memory leaves it as it was.
 fn enter(alloc: Global, forest: &mut Forest, entry: &Entry) -> Result<bool, NoMemory>
     requires client { entry.now.client < 8 }
     requires lawful { Lawful entry.now.command }
     ensures right { IfOk result (λ right. IsTrue right ↔ IsRightEntry forest.old entry.now) }
     ensures after { OnOk result (forest.new ≡ after_item forest.old (Item.Call entry.now)) }
+    ensures err { OnErr result (forest.new ≡ forest.old) }
 {
     if entry.reply.is_outside() {
         return Ok(true);
@@ -56,11 +57,12 @@ fn enter(alloc: Global, forest: &mut Forest, entry: &Entry) -> Result<bool, NoMe
     Ok(stands_for(&entry.command, &entry.reply, &due))
 }
 
-/// Whether an item is right; and the forest after it.
+/// Whether an item is right; and the forest after it. Want of memory leaves it as it was.
 pub fn pass_over(alloc: Global, forest: &mut Forest, item: &Item) -> Result<bool, NoMemory>
     requires { IsLawfulItem item.now }
     ensures right { IfOk result (λ right. IsTrue right ↔ IsRight forest.old item.now) }
     ensures after { OnOk result (forest.new ≡ after_item forest.old item.now) }
+    ensures err { OnErr result (forest.new ≡ forest.old) }
 {
     match item {
         Item::Call(entry) => enter(alloc, forest, entry),

@@ -42,7 +42,7 @@ impl Sink for MemSink {
 
     ghost tells = { true };
 
-    ghost takes_no_memory = { false };
+    ghost never_wants_memory = { false };
 
     ghost held = { bytes_of };
 

@@ -9,7 +9,7 @@ pub fn print<K: Sink>(out: &mut K, text: &[u8]) -> Result<(), PutFault>
     ensures front { IsTrue K.tells → GrowsByFront text.now (K.held out.old) (K.held out.new) }
     ensures later { K.faults out.old ≤ K.faults out.new }
     ensures cause { IfErr result (λ fault. HasCause (K.faults out.old) (K.faults out.new) fault) }
-    ensures memory { IfErr result (λ fault. IsTrue K.takes_no_memory → fault ≡ PutFault.Failed) }
+    ensures memory { IfErr result (λ fault. IsTrue K.never_wants_memory → fault ≡ PutFault.Failed) }
 {
     let mut done = 0;
     while done < text.len() {

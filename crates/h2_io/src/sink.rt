@@ -16,8 +16,8 @@ pub trait Sink {
     /// Whether sinks of this type tell what they hold.
     ghost tells: { Bool };
 
-    /// Whether sinks of this type take no memory, and so never answer that it was wanting.
-    ghost takes_no_memory: { Bool };
+    /// Whether sinks of this type never answer that memory was wanting.
+    ghost never_wants_memory: { Bool };
 
     /// What the sink holds.
     ghost held: { Self → List ℕ };
@@ -33,5 +33,5 @@ pub trait Sink {
         ensures held { IsTrue tells → held self.new ≡ held self.old ++ taken result bytes.now }
         ensures later { faults self.old ≤ faults self.new }
         ensures cause { IfErr result (λ fault. HasCause (faults self.old) (faults self.new) fault) }
-        ensures memory { IfErr result (λ fault. IsTrue takes_no_memory → fault ≡ PutFault.Failed) };
+        ensures memory { IfErr result (λ fault. IsTrue never_wants_memory → fault ≡ PutFault.Failed) };
 }

@@ -51,7 +51,7 @@ impl<W: Write + Drop> Sink for StdSink<W> {
 
     ghost tells = { false };
 
-    ghost takes_no_memory = { true };
+    ghost never_wants_memory = { true };
 
     ghost held = { told_by };
 

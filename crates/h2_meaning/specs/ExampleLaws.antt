@@ -24,7 +24,7 @@ use Rattle.h2_forest.specs.TableLaws.{has_looked, directory_at}
 use Rattle.h2_forest.specs.Forest.{bare_table, fresh}
 use Rattle.h2_inode.specs.Contents.{IsPart, IsContents}
 use Rattle.h2_inode.specs.Directory.{IsDirectory}
-use Rattle.h2_meaning.specs.FileTree.{names_in, names_of, HasEntry, IsFileTree}
+use Rattle.h2_consistent.specs.FileTree.{names_in, names_of, HasEntry, IsFileTree}
 use Rattle.h2_inode.specs.PfsList.{ListedPfs, IsPfs, IsPfsList}
 use Rattle.h2_meaning.specs.Forest.{IsTable, IsForest}
 use Rattle.h2_inode.specs.Single.{IsSingle}

@@ -1,15 +1,22 @@
 -- What the super-root and a PFS's tree stand for: a table, and the forest.
-use Rattle.std.specs.Prelude.{◌≡◌, ℕ, List, map}
+use Rattle.std.specs.Prelude.{◌≡◌, ℕ, List, map, Option, Some, None}
 use Rattle.std.specs.FinMap.{from_entries, get, empty}
 use Rattle.h2_ref.specs.declared.reference.Ref.{Ref}
 use Rattle.h2_forest.specs.declared.table.Node.{Node}
+use Rattle.h2_forest.specs.declared.table.Node.TheVariants.{File, Directory}
 use Rattle.h2_forest.specs.declared.pfs.Pfs.{Pfs}
 use Rattle.h2_forest.specs.Table.{Table}
 use Rattle.h2_forest.specs.Forest.{PlainForest}
 use Rattle.h2_inode.specs.Access.{Access, OneByOne}
 use Rattle.h2_inode.specs.PfsList.{ListedPfs, IsPfs, IsPfsList}
 use Rattle.h2_meaning.specs.Node.{HasMembers}
-use Rattle.h2_meaning.specs.FileTree.{IsTarget, IsFileTree}
+use Rattle.h2_consistent.specs.FileTree.{IsFileTree}
+
+-- the inode is of the kind that an entry says: 1 is a directory, 2 a file
+abbrev pub IsTarget : ℕ → Option Node → Type 0
+IsTarget target None = ⊥
+IsTarget target (Some (Directory es)) = target ≡ 1
+IsTarget target (Some (File bytes links)) = target ≡ 2
 
 -- an entry may name a number of a table where the inode there is of the kind that it says
 abbrev pub InTable : Table → ℕ → ℕ → Type 0

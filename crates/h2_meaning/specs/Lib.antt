@@ -1,5 +1,4 @@
 pub mod Node
-pub mod FileTree
 pub mod Forest
 pub mod SingleLaws
 pub mod CarryLaws

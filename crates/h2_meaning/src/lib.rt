@@ -4,11 +4,11 @@
 //! the bytes of an image or from loaded nodes over one. `h2_inode` says which bytes a file's tree stands for, which
 //! entries a directory's, and which list of PFSs the super-root's, whatever their trees hold. Over these,
 //! `specs/Node` says which inodes a PFS's tree stands for, and `specs/Forest` which table, and which forest all of
-//! the trees; the forest is the plain one of `h2_forest`. `specs/FileTree` says what holds of every table, whatever
-//! it is read from. The laws stand on functions with empty bodies: a tree stands for one thing at most, and it
-//! stands for the same in a second reading that gives whatever the first one gives (`specs/Following` of `h2_inode`).
-//! Two laws say so of loaded nodes: one table and one forest at most stand in them, and they stand after loads and
-//! after changes of other trees.
+//! the trees; the forest is the plain one of `h2_forest`, and each of its tables is a file tree of `h2_consistent`.
+//! The laws stand on functions with empty bodies: a tree stands for one thing at most, and it stands for the same in
+//! a second reading that gives whatever the first one gives (`specs/Following` of `h2_inode`). Two laws say so of
+//! loaded nodes: one table and one forest at most stand in them, and they stand after loads and after changes of
+//! other trees.
 #![tactic(auto)]
 
 mod change;

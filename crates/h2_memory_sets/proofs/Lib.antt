@@ -47,3 +47,4 @@ pub mod Hinted
 pub mod Unaltered
 pub mod Undropped
 pub mod LongNames
+pub mod Going

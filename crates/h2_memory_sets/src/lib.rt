@@ -4,6 +4,10 @@
 //! that is to fail can be named, and a node that is loaded is judged first, so that trouble is met. A loaded node isn't
 //! writable until it is altered, and none is once the next epoch begins, so that copies are met. What a value means is
 //! told by `specs/View`: what is below a node that isn't loaded is told by nobody.
+//!
+//! Each call of the two traits keeps what `specs/Later` says (`GoesOn`): all names, what each block holds that isn't
+//! written or lost by then, loaded or not, and which loads and calls are still to fail. The disk fails no load but the
+//! planned one.
 #![tactic(auto)]
 
 mod adding;

@@ -1,5 +1,5 @@
 ghost use Rattle.std.specs.Prelude.{◌≡◌, ◌<◌, ◌≤◌, ◌^◌, ◌⊎◌, ◌+◌, ◌%◌, length, take, IfOk, IfSome, IfNone};
-ghost use Rattle.h2_num.specs.Causes.{Rose};
+ghost use Rattle.h2_num.specs.Causes.{Rose, one_more};
 ghost use Rattle.std.specs.Vec.{vec_len, vec_capacity};
 ghost use Rattle.h2_memory_sets.specs.View.{AllRooted};
 ghost use Rattle.h2_memory_sets.specs.Kept.{AreKept};
@@ -59,6 +59,7 @@ impl MemorySets {
     ghost use Rattle.h2_set.specs.Forest.{IsSound};
     ghost use Rattle.h2_set.specs.Calls.{IsBad, MeetsNone, Unchanged, HasCause, KeepsBeside};
     ghost use Rattle.h2_memory_sets.specs.Seen.{forest_of, beside_seen, blocks_of, name_of, failing_load, spoiled_load, refused_spare, KeepsNames, KeepsPlans};
+    ghost use Rattle.h2_memory_sets.specs.Later.{GoesOn};
     ghost use Rattle.h2_memory_sets.specs.View.{root_block};
     ghost use Rattle.h2_memory_sets.specs.declared.node.KeyClass.TheVariants.{Low};
     ghost use Rattle.h2_memory_sets.specs.Roots.{AddsRoot, AddsSuperRoot, HoldsRoot, BeginsEpoch, Unloads, UnloadsInodes};
@@ -284,7 +285,7 @@ impl MemorySets {
         ensures none_met { OnOk result (MeetsNone (forest_of self.old) (forest_of self.new)) }
         ensures none_met_refused { IfErr result (λ e. (IsBad e → ⊥) → MeetsNone (forest_of self.old) (forest_of self.new)) }
         ensures beside { beside_seen self.new ≡ beside_seen self.old }
-        ensures names { KeepsNames self.old self.new }
+        ensures later { GoesOn self.old self.new }
     {
         if is_due(&mut self.fault) {
             self.failed = one_more(self.failed);
@@ -307,6 +308,7 @@ impl MemorySets {
 
 /// A count of one more, which stands still at its last value.
 pub(crate) fn one_more(count: u64) -> u64
+    ensures exact { result ≡ one_more count }
     ensures rose { Rose count result }
     ensures more { count ≤ result }
 {
@@ -315,8 +317,9 @@ pub(crate) fn one_more(count: u64) -> u64
 
 impl Sets for MemorySets {
     ghost use Rattle.std.specs.Prelude.{ℕ};
-    ghost use Rattle.std.proofs.Common.{refl, ◌∙◌};
-    ghost use Rattle.h2_memory_sets.specs.Seen.{forest_of, beside_seen, KeepsNames};
+    ghost use Rattle.h2_memory_sets.specs.Seen.{forest_of, beside_seen};
+    ghost use Rattle.h2_memory_sets.specs.Later.{GoesOn};
+    ghost use Rattle.h2_memory_sets.specs.LaterLaws.{goes_on_refl, goes_on_trans};
 
     type Beside = Option<Inode>;
 
@@ -324,11 +327,11 @@ impl Sets for MemorySets {
 
     ghost beside = { beside_seen };
 
-    ghost later = { KeepsNames };
+    ghost later = { GoesOn };
 
-    ghost same_later = { λ p place len. refl };
+    ghost same_later = { goes_on_refl };
 
-    ghost later_later = { λ p q r a b place len. b place len ∙ a place len };
+    ghost later_later = { goes_on_trans };
 
     fn get(&self, at: NodeId) -> &Set {
         &self.nodes[at.0 as usize].set

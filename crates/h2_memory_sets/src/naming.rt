@@ -1,5 +1,5 @@
 //! Names of directories' entries.
-ghost use Rattle.std.specs.Prelude.{◌≡◌, ◌<◌, ◌⊎◌, ◌∷◌, take, length, Some, None, IfOk, IfSome, IfNone, OnOk, OnErr};
+ghost use Rattle.std.specs.Prelude.{◌≡◌, ◌<◌, ◌-◌, ◌⊎◌, ◌∷◌, take, length, Some, None, IfOk, IfSome, IfNone, OnOk, OnErr};
 ghost use Rattle.std.specs.List.{position};
 ghost use Rattle.h2_memory_sets.specs.Names.{is_name_at, name_in};
 
@@ -65,6 +65,8 @@ pub(crate) fn find_unspoiled_name<'a>(
     ensures found { IfSome result (λ b. name_in names.now place len ≡ Some b.now) }
     ensures len { IfSome result (λ b. length b.now ≡ len) }
     ensures none { IfNone result ((spoiled.old ≡ 1) ⊎ (name_in names.now place len ≡ None)) }
+    ensures spoiled { spoiled.old ≡ 1 → IfSome result (λ b. ⊥) }
+    ensures counts { spoiled.new ≡ spoiled.old - 1 }
 {
     if is_due(spoiled) {
         return None;

@@ -1,5 +1,5 @@
 //! Roots that a leaf names, loaded or not.
-ghost use Rattle.std.specs.Prelude.{◌≡◌, ◌<◌, ◌^◌, ℕ, IsTrue, IfSome, length, slice_get, Some};
+ghost use Rattle.std.specs.Prelude.{◌≡◌, ◌<◌, ◌-◌, ◌^◌, ℕ, IsTrue, IfSome, length, slice_get, Some};
 ghost use Rattle.std.specs.List.{position};
 ghost use Rattle.h2_ref.specs.declared.reference.Ref.{Ref};
 ghost use Rattle.h2_memory_sets.specs.View.{FitsBelow, range_of};
@@ -123,6 +123,8 @@ fn find_away_root(nodes: &[Node], root: u32, key: u64) -> Option<u32>
 pub(crate) fn find_sought(nodes: &[Node], root: u32, key: u64, spoiled: &mut u64) -> Option<u32>
     requires { length nodes.now < 2 ^ 32 }
     ensures found { IfSome result (IsSought nodes.now root key) }
+    ensures spoiled { spoiled.old ≡ 1 → IfSome result (λ c. ⊥) }
+    ensures counts { spoiled.new ≡ spoiled.old - 1 }
 {
     if is_due(spoiled) {
         return None;

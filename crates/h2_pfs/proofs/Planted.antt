@@ -54,15 +54,18 @@ free_path f g top id o sound stands walks found path (inl none) = Reaches-walks 
 free_path f g top id o sound stands walks found path (inr known) = subst (Reaches g id top) (found known.0 known.1 ∙ known.2) path
 
 -- the leaf is in, and its inode planted
-pub founds : (f h k g : Forest) (new : ℕ → Option Fields) (top c : ℕ) (leaf : Ref) (inode : Inode) → ReadiesOnly f h → Inserts h k top leaf None → KeepsPaths h k top leaf → Reaches k leaf.key top (Some leaf) → Plants k g top leaf.key c → HasInode g new c inode → Founds f g new top leaf inode
-founds f h k g new top c leaf inode readies inserts paths path plants has = record {
+pub founds : (f h k g : Forest) (new : ℕ → Option Fields) (top c : ℕ) (leaf : Ref) (inode : Inode) → ReadiesOnly f h → 2 ≤ h.spare → (2 ≤ f.spare → h.spare ≡ f.spare) → Inserts h k top leaf None → KeepsPaths h k top leaf → Reaches k leaf.key top (Some leaf) → Plants k g top leaf.key c → HasInode g new c inode → Founds f g new top leaf inode
+founds f h k g new top c leaf inode readies enough made inserts paths path plants has = record {
   ready = h;
   readies = readies;
+  enough = enough;
+  made = made;
   put = k;
   inserts = inserts;
   paths = paths;
   node = c;
   plants = plants;
+  spent = (let goes = inserts.goes in let none_made = goes.grown (omega (arith, enough)) in omega (arith, none_made, goes.spare, plants.spare));
   has = has;
   path = path_stays k g leaf.key top (Some leaf) inserts.sound inserts.place.stands (λ m st. same_stays k g m (plants.brings.same m st)) path;
 }

@@ -1,5 +1,5 @@
 -- How a PFS is added.
-use Rattle.std.specs.Prelude.{◌≡◌, ◌⊎◌, ◌<◌, ◌≤◌, ℕ, List, length, Option, Some, None}
+use Rattle.std.specs.Prelude.{◌≡◌, ◌⊎◌, ◌<◌, ◌≤◌, ◌+◌, ℕ, List, length, Option, Some, None}
 use Rattle.h2_ref.specs.declared.reference.Ref.{Ref}
 use Rattle.h2_set.specs.Ranges.{find}
 use Rattle.h2_set.specs.Forest.{Forest, LeavesOf, Reaches}
@@ -32,11 +32,16 @@ pub record HasSpace (f : Forest) (holds : ℕ → Option Fields) (top : ℕ) (na
 pub record Founds (f g : Forest) (new : ℕ → Option Fields) (top : ℕ) (leaf : Ref) (inode : Inode) : Type 0 where
   pub ready : Forest
   pub readies : ReadiesOnly f ready
+  -- there are two spare nodes then, and where there were two before, none was made
+  pub enough : 2 ≤ ready.spare
+  pub made : 2 ≤ f.spare → ready.spare ≡ f.spare
   pub put : Forest
   pub inserts : Inserts ready put top leaf None
   pub paths : KeepsPaths ready put top leaf
   pub node : ℕ
   pub plants : Plants put g top leaf.key node
+  -- spare nodes fall by the new root, and by the block that a split makes
+  pub spent : g.spare + 1 + inserts.goes.blocks ≡ ready.spare
   pub has : HasInode g new node inode
   pub path : Reaches g leaf.key top (Some leaf)
 

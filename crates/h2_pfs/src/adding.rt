@@ -86,7 +86,8 @@ fn found<N: Nodes>(
 
 /// Adds the PFS of this inode, whose id is the key of the leaf. Exists exactly where a PFS has the name, and otherwise
 /// Full exactly where there are 64 PFSs or more. No leaf of the super-root's tree has the key, and the room is at least
-/// 63. The room is lowered by at most 63, and the spare nodes by at most 2. Trouble only where a leaf of that tree
+/// 63. The room is lowered by at most 63, and the spare nodes by at most 2: by one for the inode, and by one for a split.
+/// Where two are spare, none is made. Trouble only where a leaf of that tree
 /// wasn't loaded, or an inode that one names, or the path of the key, or for want of memory, and never a bad block where
 /// the list of PFSs is known; a bad block is met only where the answer tells one. After a refusal nothing but such loads
 /// took place, and all trees stand for what they stood for; so it is before the addition too, and after it the trees of
@@ -111,6 +112,8 @@ pub fn pfs_add<N: Nodes>(
     ensures one { NamesOne (N.forest n.old) → NamesOne (N.forest n.new) }
     ensures room { OnOk result (let f = N.forest n.old in let g = N.forest n.new in f.room ≤ g.room + 63) }
     ensures spare { OnOk result (let f = N.forest n.old in let g = N.forest n.new in f.spare ≤ g.spare + 2) }
+    ensures room_falls { OnOk result (let f = N.forest n.old in let g = N.forest n.new in g.room ≤ f.room) }
+    ensures spare_falls { OnOk result (let f = N.forest n.old in let g = N.forest n.new in 2 ≤ f.spare → g.spare + 1 ≤ f.spare) }
     ensures fault { IfErr result (IsAddFault (N.forest n.old) (N.forest n.new) (held_by N.fields (N.beside n.new)) root.0 inode.name leaf.key) }
     ensures refused { IfErr result (λ e. (next : ℕ) (pfss : List ListedPfs) → HasPfss (N.forest n.old) (held_by N.fields (N.beside n.old)) (N.told n.old) root.0 next pfss → IsFaultIn inode.name pfss e) }
     ensures none_met { OnOk result (MeetsNone (N.forest n.old) (N.forest n.new)) }

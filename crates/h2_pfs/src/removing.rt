@@ -1,4 +1,4 @@
-ghost use Rattle.std.specs.Prelude.{◌≡◌, ◌≤◌, ℕ, List, OnOk, IfErr, OnErr};
+ghost use Rattle.std.specs.Prelude.{◌≡◌, ◌≤◌, ◌+◌, ℕ, List, OnOk, IfErr, OnErr};
 ghost use Rattle.h2_set.specs.Forest.{IsSound};
 ghost use Rattle.h2_set.specs.Calls.{MeetsNone, KeepsBeside};
 ghost use Rattle.h2_inode.specs.Nodes.{held_by, NamesOne, Visits};
@@ -21,7 +21,7 @@ use std::alloc::Global;
 /// Removes the PFS with this name, and all that belongs to it, where no handle is open in it. NoPfs exactly where no
 /// PFS has the name, and otherwise InUse with the number of handles exactly where there are some. Without handles the
 /// room is at least 62, and nothing of the PFS is held. The room is lowered by the number of nodes that are copied, at
-/// most 62. Trouble only where a leaf of the super-root's tree wasn't loaded, or an inode that one names, or for want
+/// most 62, and the spare nodes stay. Trouble only where a leaf of the super-root's tree wasn't loaded, or an inode that one names, or for want
 /// of memory, and never a bad block where the list of PFSs is known; a bad block is met only where the answer tells one.
 /// After a refusal nothing but such loads took place, and all trees stand for what they stood for; so it is before the
 /// removal too, and after it the trees of other roots stay, but for those that belong to the PFS.
@@ -40,6 +40,9 @@ pub fn pfs_remove<N: Nodes>(
     ensures listed { OnOk result (DropsPfs (N.forest n.old) (N.forest n.new) (held_by N.fields (N.beside n.old)) (held_by N.fields (N.beside n.new)) (N.told n.old) (N.told n.new) root.0 name.now) }
     ensures one { NamesOne (N.forest n.old) → NamesOne (N.forest n.new) }
     ensures unused { OnOk result (handles ≡ 0) }
+    ensures room { OnOk result (let f = N.forest n.old in let g = N.forest n.new in f.room ≤ g.room + 62) }
+    ensures room_falls { OnOk result (let f = N.forest n.old in let g = N.forest n.new in g.room ≤ f.room) }
+    ensures spare { OnOk result (let f = N.forest n.old in let g = N.forest n.new in g.spare ≡ f.spare) }
     ensures fault { IfErr result (IsRemoveFault (N.forest n.old) (N.forest n.new) (held_by N.fields (N.beside n.new)) root.0 name.now handles) }
     ensures refused { IfErr result (λ e. (next : ℕ) (pfss : List ListedPfs) → HasPfss (N.forest n.old) (held_by N.fields (N.beside n.old)) (N.told n.old) root.0 next pfss → IsFaultIn name.now pfss e) }
     ensures none_met { OnOk result (MeetsNone (N.forest n.old) (N.forest n.new)) }

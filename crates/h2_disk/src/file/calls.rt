@@ -101,13 +101,13 @@ impl<R: Files + Drop> FileDisk<R> {
 impl<R: Files + Drop> Disk for FileDisk<R> {
     ghost tells = { false };
 
-    ghost takes_no_memory = { true };
-
     ghost image = { λ disk k. 0 };
 
     ghost trace = { λ disk. Opened (λ k. 0) };
 
     ghost faults = { file_faults };
+
+    ghost wants = { λ disk. 0 };
 
     ghost moment = { file_moment };
 

@@ -17,7 +17,7 @@ struct SlowSink {
 impl Sink for SlowSink {
     ghost tells = { false };
 
-    ghost takes_no_memory = { false };
+    ghost never_wants_memory = { false };
 
     ghost held = { λ sink. [] };
 

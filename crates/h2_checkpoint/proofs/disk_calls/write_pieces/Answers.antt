@@ -1,13 +1,14 @@
 use Rattle.std.proofs.Common.{◌<◌, ◌^◌, ◌∙◌, refl, arith, rules}
 use Rattle.h2_checkpoint.specs.Stands.{disk_state}
 use Rattle.h2_checkpoint.proofs.Calls.{wrote_piece, failed_piece, all_pieces, tried_outside}
-use Rattle.h2_checkpoint.proofs.Pieces.{ticked, cause_since, piece_elsewhere, piece_overlay, last_overlay}
+use Rattle.h2_checkpoint.proofs.Pieces.{ticked, cause_since, want_since, piece_elsewhere, piece_overlay, last_overlay}
 use Rattle.h2_checkpoint.proofs.disk_calls.write_pieces.Goals as goal
 
 pub loop-piece-init : goal.loop-piece-init
 loop-piece-init g c = record {
   time = omega arith;
   later = omega arith;
+  wants = refl;
   image = λ tells k. refl;
   elsewhere = λ tells k out. refl;
   stands = λ tells laws start opening newest before f p marks s. s;
@@ -20,6 +21,7 @@ loop-piece-preserved g c =
     record {
       time = omega (arith, tick, c.loop-piece.invariant.time);
       later = omega (arith, c.in_default.ensures.later, c.loop-piece.invariant.later);
+      wants = c.in_default.ensures.memory ∙ c.loop-piece.invariant.wants;
       image = λ tells k. piece_overlay c.args.pieces.now c.loop-piece.piece-index c.piece-item.result c.as_slice.result.now (g.D.Disk.image c.loop-piece.disk) (g.D.Disk.image c.write.new.self) (omega arith) (search rules) (search rules)
           (c.in_default.ensures.wrote tells).inside (c.in_default.ensures.wrote tells).others k ∙ c.loop-piece.invariant.image tells k;
       elsewhere = λ tells k out. piece_elsewhere c.args.pieces.now c.loop-piece.piece-index c.piece-item.result c.as_slice.result.now (g.D.Disk.image c.loop-piece.disk) (g.D.Disk.image c.write.new.self) (omega arith) (search rules) (search rules)
@@ -51,6 +53,9 @@ returns-in-Err-clause-later g c = omega (arith, c.in-Err.ensures.later, c.loop-p
 
 pub returns-in-Err-clause-cause : goal.returns-in-Err-clause-cause
 returns-in-Err-clause-cause g c = cause_since _ _ _ c.in-Err.fault c.loop-piece.invariant.later c.in-Err.ensures.cause
+
+pub returns-in-Err-clause-memory : goal.returns-in-Err-clause-memory
+returns-in-Err-clause-memory g c = want_since _ _ _ c.in-Err.fault c.loop-piece.invariant.wants c.in-Err.ensures.memory
 
 pub returns-clause-writes : goal.returns-clause-writes
 returns-clause-writes g c = λ tells laws start opening newest before f p marks s.

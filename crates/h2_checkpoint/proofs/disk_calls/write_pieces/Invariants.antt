@@ -15,6 +15,7 @@ abbrev pub invariant-loop-piece : goal.invariant-loop-piece
 invariant-loop-piece g l = record {
   time : g.D.Disk.moment l.disk ≡ g.D.Disk.moment l.fn.disk + l.piece-index;
   later : g.D.Disk.faults l.fn.disk ≤ g.D.Disk.faults l.disk;
+  wants : g.D.Disk.wants l.disk ≡ g.D.Disk.wants l.fn.disk;
   image : IsTrue g.D.Disk.tells → Same (overlay_all (queue_of l.fn.pieces) (g.D.Disk.image l.fn.disk)) (overlay_all (queue_of (drop l.piece-index l.pieces)) (g.D.Disk.image l.disk));
   elsewhere : IsTrue g.D.Disk.tells → (k : ℕ) → (InEntries (queue_of l.fn.pieces) k → ⊥) → g.D.Disk.image l.disk k ≡ g.D.Disk.image l.fn.disk k;
   stands : IsTrue g.D.Disk.tells → IsLawful g.V.VolumeFormat.format → (start : ℕ) (opening newest : Newest g.V.VolumeFormat.format) (before : Trace) (f : Frozen g.V.VolumeFormat.format) (p : Progress) (marks : List (Mark g.V.VolumeFormat.format.Forest))

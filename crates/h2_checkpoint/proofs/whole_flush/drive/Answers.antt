@@ -1,6 +1,6 @@
 use Rattle.std.proofs.Common.{◌<◌, ◌^◌, length, refl, ◌∙◌, arith}
 use Rattle.h2_checkpoint.specs.Stands.{disk_state}
-use Rattle.h2_checkpoint.proofs.Pieces.{cause_since}
+use Rattle.h2_checkpoint.proofs.Pieces.{cause_since, want_since}
 use Rattle.h2_checkpoint.proofs.Driving.{finishes, pieces_set_back, blocks_set_back, header_set_back, last_set_back, image_after, durable_after, pieces_elsewhere, elsewhere_after}
 use Rattle.h2_checkpoint.proofs.whole_flush.drive.Goals as goal
 
@@ -33,6 +33,10 @@ pub returns-in-Err-sync_blocks-clause-cause : goal.returns-in-Err-sync_blocks-cl
 returns-in-Err-sync_blocks-clause-cause g c =
     cause_since _ _ _ c.in-Err-sync_blocks.fault c.in_default.ensures.later c.in-Err-sync_blocks.ensures.cause
 
+pub returns-in-Err-sync_blocks-clause-memory : goal.returns-in-Err-sync_blocks-clause-memory
+returns-in-Err-sync_blocks-clause-memory g c =
+    want_since _ _ _ c.in-Err-sync_blocks.fault c.in_default.ensures.memory c.in-Err-sync_blocks.ensures.memory
+
 pub returns-in-Err-write_header-clause-set_back : goal.returns-in-Err-write_header-clause-set_back
 returns-in-Err-write_header-clause-set_back g c =
     let fits : g.D.Disk.moment c.sync_blocks.new.disk < 2 ^ 64 = g.met.D.Disk.moment_fits c.sync_blocks.new.disk in
@@ -56,6 +60,10 @@ returns-in-Err-write_header-clause-later g c =
 pub returns-in-Err-write_header-clause-cause : goal.returns-in-Err-write_header-clause-cause
 returns-in-Err-write_header-clause-cause g c =
     cause_since _ (g.D.Disk.faults c.sync_blocks.new.disk) _ c.in-Err-write_header.fault (omega (arith, c.in_default.ensures.later, c.in_default-sync_blocks.ensures.later)) c.in-Err-write_header.ensures.cause
+
+pub returns-in-Err-write_header-clause-memory : goal.returns-in-Err-write_header-clause-memory
+returns-in-Err-write_header-clause-memory g c =
+    want_since _ _ _ c.in-Err-write_header.fault (c.in_default-sync_blocks.ensures.memory ∙ c.in_default.ensures.memory) c.in-Err-write_header.ensures.memory
 
 pub returns-in-Err-sync_header-clause-set_back : goal.returns-in-Err-sync_header-clause-set_back
 returns-in-Err-sync_header-clause-set_back g c =
@@ -82,6 +90,10 @@ pub returns-in-Err-sync_header-clause-cause : goal.returns-in-Err-sync_header-cl
 returns-in-Err-sync_header-clause-cause g c =
     cause_since _ (g.D.Disk.faults c.write_header.new.disk) _ c.in-Err-sync_header.fault (omega (arith, c.in_default.ensures.later, c.in_default-sync_blocks.ensures.later, c.in_default-write_header.ensures.later)) c.in-Err-sync_header.ensures.cause
 
+pub returns-in-Err-sync_header-clause-memory : goal.returns-in-Err-sync_header-clause-memory
+returns-in-Err-sync_header-clause-memory g c =
+    want_since _ _ _ c.in-Err-sync_header.fault (c.in_default-write_header.ensures.memory ∙ c.in_default-sync_blocks.ensures.memory ∙ c.in_default.ensures.memory) c.in-Err-sync_header.ensures.memory
+
 pub returns-clause-finishes : goal.returns-clause-finishes
 returns-clause-finishes g c =
     λ tells. finishes g.V.VolumeFormat.format c.args.pieces.now c.args.place c.args.header.now (disk_state g.D.Disk.image g.D.Disk.moment g.D.Disk.trace c.args.disk.now) (disk_state g.D.Disk.image g.D.Disk.moment g.D.Disk.trace c.write_pieces.new.disk) (disk_state g.D.Disk.image g.D.Disk.moment g.D.Disk.trace c.sync_blocks.new.disk) (disk_state g.D.Disk.image g.D.Disk.moment g.D.Disk.trace c.write_header.new.disk) (disk_state g.D.Disk.image g.D.Disk.moment g.D.Disk.trace c.sync_header.new.disk) (c.in_default.ensures.writes tells) (c.in_default-sync_blocks.ensures.secures tells) (c.in_default-write_header.ensures.sends tells) (c.in_default-sync_header.ensures.completes tells)
@@ -103,6 +115,10 @@ returns-clause-time g c =
 pub returns-clause-later : goal.returns-clause-later
 returns-clause-later g c =
     omega (arith, c.in_default.ensures.later, c.in_default-sync_blocks.ensures.later, c.in_default-write_header.ensures.later, c.in_default-sync_header.ensures.later)
+
+pub returns-clause-memory : goal.returns-clause-memory
+returns-clause-memory g c =
+    c.in_default-sync_header.ensures.memory ∙ c.in_default-write_header.ensures.memory ∙ c.in_default-sync_blocks.ensures.memory ∙ c.in_default.ensures.memory
 
 pub returns-in-Err-clause-time_most : goal.returns-in-Err-clause-time_most
 returns-in-Err-clause-time_most g c = omega (arith, c.in-Err.ensures.time_most)

@@ -1,7 +1,7 @@
-use Rattle.std.proofs.Common.{refl, inr}
+use Rattle.std.proofs.Common.{refl, inl, inr, ◌∙◌}
 use Rattle.h2_checkpoint.specs.Stands.{disk_state}
 use Rattle.h2_cmd.proofs.Slots.{cuts_nothing}
-use Rattle.h2_cmd.proofs.Kept.{makes_too, cuts_too, elsewhere_too, finds, cuts_read, elsewhere_read, unchanged_read, none_found, none_left, cause_later}
+use Rattle.h2_cmd.proofs.Kept.{makes_too, cuts_too, elsewhere_too, finds, cuts_read, elsewhere_read, unchanged_read, none_found, none_left, cause_later, may_want, may_want_later}
 use Rattle.h2_cmd.proofs.formatting.format_volume.Goals as goal
 
 pub returns-in_default-clause-cuts : goal.returns-in_default-clause-cuts
@@ -11,6 +11,12 @@ returns-in_default-clause-cuts g c = λ tells durable none.
 
 pub returns-in_default-clause-untouched : goal.returns-in_default-clause-untouched
 returns-in_default-clause-untouched g c = λ tells. inr (record { image = λ k. refl; trace = refl; moment = refl })
+
+pub returns-in_default-clause-memory : goal.returns-in_default-clause-memory
+returns-in_default-clause-memory g c = inl refl
+
+pub returns-in-Err-clause-memory : goal.returns-in-Err-clause-memory
+returns-in-Err-clause-memory g c = may_want _ _ c.in-Err.fault c.in-Err.ensures.memory
 
 pub returns-in-Err-clause-cuts : goal.returns-in-Err-clause-cuts
 returns-in-Err-clause-cuts g c = λ tells durable none.
@@ -60,6 +66,12 @@ returns-in-Err-make_volume-clause-untouched g c = λ tells.
 pub returns-in-Err-make_volume-clause-cause : goal.returns-in-Err-make_volume-clause-cause
 returns-in-Err-make_volume-clause-cause g c = cause_later (g.D.Disk.faults c.args.disk.now) (g.D.Disk.faults c.find_newest.new.disk) (g.D.Disk.faults c.make_volume.new.disk) c.in-Err-make_volume.fault
     c.find_newest.ensures.later c.in-Err-make_volume.ensures.cause
+
+pub returns-in-Err-make_volume-clause-memory : goal.returns-in-Err-make_volume-clause-memory
+returns-in-Err-make_volume-clause-memory g c = may_want_later _ _ _ c.in-Err-make_volume.fault c.in-Ok-find_newest.ensures.memory c.in-Err-make_volume.ensures.memory
+
+pub returns-clause-memory : goal.returns-clause-memory
+returns-clause-memory g c = c.in_default-make_volume.ensures.memory ∙ c.in-Ok-find_newest.ensures.memory
 
 pub returns-clause-does : goal.returns-clause-does
 returns-clause-does g c = λ tells.

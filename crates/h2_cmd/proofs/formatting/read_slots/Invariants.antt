@@ -9,4 +9,5 @@ invariant-loop-slot g l = record {
   read : IsTrue g.D.Disk.tells → HasRead l.slot (g.D.Disk.image l.fn.disk) (g.D.Disk.image l.disk) (g.D.Disk.trace l.fn.disk) (g.D.Disk.trace l.disk) l.headers;
   time : g.D.Disk.moment l.disk ≡ g.D.Disk.moment l.fn.disk;
   later : g.D.Disk.faults l.fn.disk ≤ g.D.Disk.faults l.disk;
+  wants : g.D.Disk.wants l.disk ≡ g.D.Disk.wants l.fn.disk;
 }

@@ -1,6 +1,7 @@
 use Rattle.h2_forest.specs.Forest.{closed}
+use Rattle.h2_consistent.specs.Consistent.{AreConsistent}
 use Rattle.h2_consistent.proofs.Forests.{fresh_consistent, answer_consistent, trim_consistent, closed_consistent}
-use Rattle.h2_consistent.proofs.Histories.{forest_consistent, frozen_consistent}
+use Rattle.h2_consistent.proofs.Histories.{forest_keeps, frozen_keeps}
 use Rattle.h2_consistent.proofs.laws.consistent_law.Goals as goal
 
 pub returns-clause-fresh : goal.returns-clause-fresh
@@ -19,7 +20,7 @@ pub returns-clause-cleaned : goal.returns-clause-cleaned
 returns-clause-cleaned c = λ f h. trim_consistent (closed f) (closed_consistent f h)
 
 pub returns-clause-history : goal.returns-clause-history
-returns-clause-history c = forest_consistent
+returns-clause-history c = λ items first i h. forest_keeps AreConsistent (λ f client command h. answer_consistent f h client command) items first i (closed_consistent first h)
 
 pub returns-clause-frozen : goal.returns-clause-frozen
-returns-clause-frozen c = frozen_consistent
+returns-clause-frozen c = λ opened first items n f h e. frozen_keeps AreConsistent (λ f client command h. answer_consistent f h client command) opened first items n f h (closed_consistent first h) e

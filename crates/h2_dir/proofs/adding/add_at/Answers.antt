@@ -8,13 +8,14 @@ use Rattle.h2_tree.specs.OtherTrees.{inserted_leaves}
 use Rattle.h2_inode.specs.declared.inode.Inode.{Inode}
 use Rattle.h2_inode.specs.declared.kind.InodeKind.TheVariants.{Directory, Pfs}
 use Rattle.h2_inode.specs.Nodes.{Fields, held_by, HasInode}
-use Rattle.h2_dir.specs.Changing.{HasBlockIfLong, entry_ref, with_entries, Adds}
+use Rattle.h2_dir.specs.Changing.{HasBlockIfLong, entry_ref, with_entries, Adds, AddsWithin}
 use Rattle.h2_dir.proofs.Leaf.{takes_entry, ref_kind}
 use Rattle.h2_dir.proofs.Growing.{same_but_set, writable_in, beside_on}
 use Rattle.h2_dir.proofs.Resized.{root_leaves, root_path, same_fields, regrown}
 use Rattle.h2_dir.proofs.Renewed.{keeps_tree, renews_tree}
 use Rattle.h2_dir.proofs.Others.{inserted_renews, inserted_exact}
 use Rattle.h2_dir.proofs.Entries.{tree_rising, tells_later, new_entry, entries_same, entries_more}
+use Rattle.h2_dir.proofs.Spending.{adds_within}
 use Rattle.h2_dir.proofs.RootLaws.{added_roots, added_place, added_one}
 use Rattle.h2_set.specs.MetLaws.{MeetsNone-trans}
 use Rattle.h2_dir.proofs.adding.add_at.Goals as goal
@@ -172,3 +173,23 @@ returns-clause-one g c = added_one _ _ c.args.dir.0 _ c.requires.sound c.require
 
 pub returns-clause-none_met : goal.returns-clause-none_met
 returns-clause-none_met g c = MeetsNone-trans _ _ _ c.put_in.ensures.none_met (record { bad = c.resize.ensures.replaces.bad; met = c.resize.ensures.replaces.met })
+
+pub returns-clause-falls : goal.returns-clause-falls
+returns-clause-falls g c =
+    let change = c.put_in.ensures.inserts in
+    let goes = change.goes in
+    let resizes = c.resize.ensures.replaces in
+    let made = goes.grown c.requires.space.0 in
+    (omega (arith, change.room_falls, resizes.room), omega (arith, made, goes.spare, resizes.spare))
+
+pub returns-clause-exact : goal.returns-clause-exact
+returns-clause-exact g c =
+    let f = g.N.Sets.forest c.args.n.now in
+    let h = g.N.Sets.forest c.put_in.new.n in
+    let now = g.N.Sets.forest c.resize.new.n in
+    let r = entry_ref f.epoch c.args.key c.args.name.now c.args.block c.args.number c.args.target in
+    let is : c.entry_ref-leaf.result ≡ r = c.entry_ref-leaf.ensures ∙ ap (λ e. entry_ref e c.args.key c.args.name.now c.args.block c.args.number c.args.target) c.epoch.ensures in
+    let resizes = c.resize.ensures.replaces in
+    let ins = c.put_in.ensures.inserts in
+    let adds : Adds f now c.args.dir.0 c.entry_ref-leaf.result = record { between = h; inserts = ins; paths = c.put_in.ensures.paths; path = c.put_in.ensures.path; resizes = resizes } in
+    subst (λ (x : Ref). AddsWithin f now c.args.dir.0 x) is (adds_within adds c.requires.space.0)

@@ -17,6 +17,7 @@ use Rattle.h2_dir.proofs.Resized.{root_leaves, root_path, same_fields, regrown}
 use Rattle.h2_dir.proofs.Renewed.{keeps_tree, renews_tree}
 use Rattle.h2_dir.proofs.Others.{removed_renews, removed_exact, removed_free}
 use Rattle.h2_dir.proofs.Entries.{tree_rising, entries_same, entries_less, entry_number}
+use Rattle.h2_dir.proofs.Spending.{takes_within}
 use Rattle.h2_dir.proofs.RootLaws.{taken_roots, taken_place, taken_one}
 use Rattle.h2_set.specs.MetLaws.{MeetsNone-trans}
 use Rattle.h2_dir.proofs.removing.remove_at.Goals as goal
@@ -178,3 +179,9 @@ returns-clause-one g c = taken_one _ _ c.args.dir.0 _ (returns-clause-takes g c 
 
 pub returns-clause-none_met : goal.returns-clause-none_met
 returns-clause-none_met g c = MeetsNone-trans _ _ _ c.take_out-leaf.ensures.none_met (record { bad = c.resize.ensures.replaces.bad; met = c.resize.ensures.replaces.met })
+
+pub returns-clause-falls : goal.returns-clause-falls
+returns-clause-falls g c = omega (arith, c.take_out-leaf.ensures.removes.room_falls, c.resize.ensures.replaces.room)
+
+pub returns-clause-exact : goal.returns-clause-exact
+returns-clause-exact g c leaf path = takes_within (returns-clause-takes g c leaf path)

@@ -68,7 +68,7 @@ set_size-requires-clause-writable g c =
 pub returns-clause-links : goal.returns-clause-links
 returns-clause-links g c =
     let ready = c.in_ok-prepare.ensures in
-    links_file _ _ _ _ _ _ _ c.requires.sound c.requires.file.has.stands c.requires.file.has.root ready.prepares ready.touched ready.apart ready.loaded ready.spare c.open_body.ensures.opens c.put_blocks.ensures.puts c.set_size.ensures.sizes c.requires.blocks (file_contents _ _ _ c.open_body.ensures.file)
+    links_file _ _ _ _ _ _ _ c.requires.sound c.requires.file.has.stands c.requires.file.has.root ready.prepares ready.touched ready.apart ready.loaded ready.spare ready.made c.open_body.ensures.opens c.put_blocks.ensures.puts c.set_size.ensures.sizes c.requires.blocks (file_contents _ _ _ c.open_body.ensures.file)
 
 pub returns-clause-contents : goal.returns-clause-contents
 returns-clause-contents g c = λ blocks old bytes new has is. link_has _ _ _ _ _ _ blocks _ old c.args.size _ bytes new c.requires.blocks (returns-clause-links g c) is c.requires.sound c.requires.file.has.stands c.requires.file.has.root has

@@ -77,7 +77,7 @@ returns-clause-founds g c =
     let stands = (ready.same.same top c.requires.super_root.stands).place.stands in
     let path = ready_path _ h c.args.leaf.key top None c.requires.sound c.requires.super_root.stands ready.same c.requires.path in
     let none = none_before h k top c.args.leaf c.in-Ok.field-0 ready.same.sound stands path c.in-Ok.ensures.ok in
-    founds _ h k (g.N.Sets.forest c.plant.new.self) _ top c.plant.result.0 c.args.leaf c.args.inode ready.same (subst (Inserts h k top c.args.leaf) none c.in-Ok.ensures.ok) c.in-Ok.ensures.paths c.in-Ok.ensures.path c.plant.ensures.plants c.plant.ensures.inode
+    founds _ h k (g.N.Sets.forest c.plant.new.self) _ top c.plant.result.0 c.args.leaf c.args.inode ready.same ready.ok ready.still (subst (Inserts h k top c.args.leaf) none c.in-Ok.ensures.ok) c.in-Ok.ensures.paths c.in-Ok.ensures.path c.plant.ensures.plants c.plant.ensures.inode
 
 pub returns-clause-beside : goal.returns-clause-beside
 returns-clause-beside g c =

@@ -184,3 +184,12 @@ returns-then-handles-gt0-clause-none_met_refused g c = λ good. c.in_ok-pfss.ens
 
 pub returns-clause-none_met : goal.returns-clause-none_met
 returns-clause-none_met g c = MeetsNone-trans _ _ _ c.in_ok-pfss.ensures.none_met c.in_ok-remove.ensures.none_met
+
+pub returns-clause-room : goal.returns-clause-room
+returns-clause-room g c = let removes = (out g c).removes in omega (arith, removes.room, c.in_ok-pfss.ensures.visits.room)
+
+pub returns-clause-room_falls : goal.returns-clause-room_falls
+returns-clause-room_falls g c = let removes = (out g c).removes in omega (arith, removes.room_falls, c.in_ok-pfss.ensures.visits.room)
+
+pub returns-clause-spare : goal.returns-clause-spare
+returns-clause-spare g c = let removes = (out g c).removes in removes.spare ∙ c.in_ok-pfss.ensures.visits.spare

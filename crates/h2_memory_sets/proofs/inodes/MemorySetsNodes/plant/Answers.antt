@@ -1,5 +1,8 @@
-use Rattle.std.proofs.Common.{◌-◌, arith}
+use Rattle.std.proofs.Common.{◌-◌, arith, refl, sym, subst}
 use Rattle.h2_memory_sets.proofs.Planted.{grows}
+use Rattle.h2_memory_sets.specs.LaterLaws.{fails_still, spoils_still}
+use Rattle.h2_memory_sets.specs.Later.{KeepsBlocks}
+use Rattle.h2_memory_sets.proofs.Going.{keeps_push}
 use Rattle.h2_memory_sets.proofs.inodes.MemorySetsNodes.plant.Goals as goal
 
 pub invariant_of-self-clause-rooted : goal.invariant_of-self-clause-rooted
@@ -16,3 +19,14 @@ returns-clause-inode c = (let p = c.args.self.now in grows p.nodes.items c.add_i
 
 pub returns-clause-beside : goal.returns-clause-beside
 returns-clause-beside c = (let p = c.args.self.now in grows p.nodes.items c.add_inode-c.new.nodes.items p.spare (p.spare - 1) p.epoch p.room p.failed p.bad p.met c.args.root.0 c.args.leaf.now c.add_inode-c.result c.args.inode c.add_inode-c.ensures.pushed c.add_inode-c.ensures.number c.add_inode-c.ensures.set p.rooted p.kept c.requires.sound c.requires.leaf c.requires.unloaded c.requires.number c.requires.plantable (let one = c.requires.spare in omega (arith, one))).beside
+
+pub returns-clause-later : goal.returns-clause-later
+returns-clause-later c =
+    let xs = c.args.self.now.nodes.items in
+    record {
+      names = λ place len. refl;
+      blocks = subst (KeepsBlocks xs) (sym c.add_inode-c.ensures.pushed) (keeps_push xs _);
+      fails = fails_still _ _;
+      spoils = spoils_still _ _;
+      refuses = omega arith;
+    }

@@ -5,6 +5,8 @@ use Rattle.h2_memory_sets.specs.declared.node.Node.{Node}
 use Rattle.h2_memory_sets.specs.Inodes.{is_sought, IsSought}
 use Rattle.h2_memory_sets.proofs.Nodes.{unchanged_nodes}
 use Rattle.h2_memory_sets.proofs.Sought.{Found, unloaded, loads_root, there_already, sought_is}
+use Rattle.h2_memory_sets.specs.LaterLaws.{blocks_refl, fails_still, spoils_still}
+use Rattle.h2_memory_sets.proofs.Going.{keeps_sought, fails_now, fails_later, spoils_now, spoils_later, not_due}
 use Rattle.h2_memory_sets.proofs.inodes.MemorySetsNodes.seek.Goals as goal
 
 pub returns-in-Some-clause-ok : goal.returns-in-Some-clause-ok
@@ -120,3 +122,40 @@ returns-clause-beside c =
     let items = sought_is xs c.args.root.0 c.args.leaf.now.key k l c.index_mut.result.now c.bring_root.new.x y c.bring_root.ensures in
     let it = subst (λ (zs : List Node). Found xs zs p.spare p.epoch p.room p.failed p.bad p.met c.args.root.0 c.args.leaf.now.key k) items (loads_root xs p.spare p.epoch p.room p.failed p.bad p.met c.args.root.0 c.args.leaf.now p.rooted p.kept c.requires.sound c.requires.leaf k l none) in
     it.beside
+
+pub returns-in-Some-clause-later : goal.returns-in-Some-clause-later
+returns-in-Some-clause-later c = record { names = λ place len. refl; blocks = blocks_refl _; fails = fails_still _ _; spoils = spoils_still _ _; refuses = omega arith }
+
+pub returns-then-is_due-clause-later : goal.returns-then-is_due-clause-later
+returns-then-is_due-clause-later c = record {
+  names = λ place len. refl;
+  blocks = blocks_refl _;
+  fails = fails_now _ _ _ _ c.is_due.ensures.counts (c.is_due.ensures.due.0 c.if-is_due.true) c.one_more-self.ensures.exact;
+  spoils = spoils_still _ _;
+  refuses = omega arith;
+}
+
+pub returns-in_default-find_sought-clause-later : goal.returns-in_default-find_sought-clause-later
+returns-in_default-find_sought-clause-later c =
+    let met = c.one_more-self-in_default-find_sought.ensures in
+    record {
+      names = λ place len. refl;
+      blocks = blocks_refl _;
+      fails = fails_later _ _ _ c.is_due.ensures.counts (not_due _ _ c.is_due.ensures.due c.if-is_due.false);
+      spoils = spoils_now _ _ _ _ c.find_sought.ensures.counts met.more met.rose;
+      refuses = omega arith;
+    }
+
+pub returns-clause-later : goal.returns-clause-later
+returns-clause-later c =
+    let xs = c.args.self.now.nodes.items in
+    let k = c.in-Some-find_sought.c in
+    let l = subst (λ (zs : List Node). IsSought zs c.args.root.0 c.args.leaf.now.key k) c.deref-2.ensures.value c.in-Some-find_sought.ensures.found in
+    let y = slice_get_read xs _ k c.index_mut.result.now refl (slice_get_within xs k l.node l.read) c.index_mut.ensures.value in
+    record {
+      names = λ place len. refl;
+      blocks = keeps_sought xs c.args.root.0 c.args.leaf.now.key k c.index_mut.result.now c.bring_root.new.x l y c.bring_root.ensures;
+      fails = fails_later _ _ _ c.is_due.ensures.counts (not_due _ _ c.is_due.ensures.due c.if-is_due.false);
+      spoils = spoils_later _ _ _ c.find_sought.ensures.counts c.in-Some-find_sought.ensures.spoiled;
+      refuses = omega arith;
+    }

@@ -14,6 +14,9 @@ use Rattle.h2_set.specs.Calls.{KeepsBeside}
 use Rattle.h2_memory_sets.proofs.Unaltered.{unaltered}
 use Rattle.h2_memory_sets.specs.Inodes.{is_settled_top}
 use Rattle.h2_memory_sets.proofs.Parting.{item_at}
+use Rattle.h2_memory_sets.specs.LaterLaws.{fails_still, spoils_still, goes_on_refl}
+use Rattle.h2_memory_sets.specs.Later.{KeepsBlocks}
+use Rattle.h2_memory_sets.proofs.Going.{keeps_altered}
 use Rattle.h2_memory_sets.proofs.memory.MemorySetsSets.alter.Goals as goal
 
 pub is_settled-requires : goal.is_settled-requires
@@ -70,3 +73,20 @@ returns-clause-beside c =
     let items = written recounted_all _ c.deref_mut-2.result.now c.recount_all.new.nodes p.nodes.len (sym (c.recount_all.auto.nodes ∙ c.deref_mut-2.ensures.len)) c.deref_mut-2.ensures.value c.recount_all.ensures ∙ ap recounted_all (one ∙ ap (λ (at : Place). marked_all at xs) c.place_of-place.ensures) in
     let new = (λ (u : Node). u.dirty || (is_above (place_of x) u || is_over xs x.root u)) in
     subst (λ (ys : List Node). KeepsBeside (forest_with xs p.spare p.epoch p.room p.failed p.bad p.met) (forest_with ys p.spare p.epoch (p.room - x.copies) p.failed p.bad p.met) (λ m. beside_of (slice_get xs m)) (λ m. beside_of (slice_get ys m))) (sym items) (record { same = λ m st now. field xs new p.spare p.epoch p.room p.failed p.bad p.met c.requires.sound beside_of (λ b u. refl) (λ n u. refl) m })
+
+pub returns-clause-later : goal.returns-clause-later
+returns-clause-later c =
+    let p = c.args.self.now in
+    let xs = p.nodes.items in
+    let one = written (marked_all c.place_of-place.result) xs c.deref_mut.result.now c.mark_all.new.nodes p.nodes.len (sym (c.mark_all.auto.nodes ∙ c.deref_mut.ensures.len)) c.deref_mut.ensures.value c.mark_all.ensures in
+    let items = written recounted_all _ c.deref_mut-2.result.now c.recount_all.new.nodes p.nodes.len (sym (c.recount_all.auto.nodes ∙ c.deref_mut-2.ensures.len)) c.deref_mut-2.ensures.value c.recount_all.ensures ∙ ap recounted_all one in
+    record {
+      names = λ place len. refl;
+      blocks = subst (KeepsBlocks xs) (sym items) (keeps_altered c.place_of-place.result xs);
+      fails = fails_still _ _;
+      spoils = spoils_still _ _;
+      refuses = omega arith;
+    }
+
+pub returns-then-is_settled-clause-later : goal.returns-then-is_settled-clause-later
+returns-then-is_settled-clause-later c = goes_on_refl _

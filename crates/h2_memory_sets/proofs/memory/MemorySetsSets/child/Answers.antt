@@ -12,6 +12,8 @@ use Rattle.h2_memory_sets.proofs.Bringing.{ref_there, ref_same, loads_nothing, b
 use Rattle.h2_memory_sets.proofs.Brought.{kept_bring, beside_bring}
 use Rattle.h2_memory_sets.proofs.Rooted.{rooted_bring, root_not}
 use Rattle.h2_memory_sets.proofs.Hinted.{only_child}
+use Rattle.h2_memory_sets.specs.LaterLaws.{blocks_refl, fails_still, spoils_still}
+use Rattle.h2_memory_sets.proofs.Going.{keeps_brought, fails_now, fails_later, spoils_now, spoils_later, not_due}
 use Rattle.h2_memory_sets.proofs.memory.MemorySetsSets.child.Goals as goal
 
 pub find_child-requires : goal.find_child-requires
@@ -214,3 +216,42 @@ returns-in_default-find_unspoiled-clause-place c = λ r place why read e.
     let node = slice_get_read xs _ c.args.at.0 c.index.result.now refl (is_there _ _ c.requires.stands) c.index.ensures in
     let same = ref_same xs c.args.at.0 c.args.i c.index.result.now c.at.result.now node c.at.ensures r read in
     sym (bad_place _ place _ why e) ∙ ap (λ (q : Ref). q.place) same
+
+pub returns-in-Some-clause-later : goal.returns-in-Some-clause-later
+returns-in-Some-clause-later c = record { names = λ place len. refl; blocks = blocks_refl _; fails = fails_still _ _; spoils = spoils_still _ _; refuses = omega arith }
+
+pub returns-then-is_due-clause-later : goal.returns-then-is_due-clause-later
+returns-then-is_due-clause-later c = record {
+  names = λ place len. refl;
+  blocks = blocks_refl _;
+  fails = fails_now _ _ _ _ c.is_due.ensures.counts (c.is_due.ensures.due.0 c.if-is_due.true) c.one_more-self.ensures.exact;
+  spoils = spoils_still _ _;
+  refuses = omega arith;
+}
+
+pub returns-in_default-find_unspoiled-clause-later : goal.returns-in_default-find_unspoiled-clause-later
+returns-in_default-find_unspoiled-clause-later c =
+    let met = c.one_more-self-in_default-find_unspoiled.ensures in
+    record {
+      names = λ place len. refl;
+      blocks = blocks_refl _;
+      fails = fails_later _ _ _ c.is_due.ensures.counts (not_due _ _ c.is_due.ensures.due c.if-is_due.false);
+      spoils = spoils_now _ _ _ _ c.find_unspoiled.ensures.counts met.more met.rose;
+      refuses = omega arith;
+    }
+
+pub returns-clause-later : goal.returns-clause-later
+returns-clause-later c =
+    let xs = c.args.self.now.nodes.items in
+    let at = c.args.at.0 in
+    let k = c.in-Some-find_unspoiled.c in
+    let q = c.at.result.now in
+    let l = loadable_in _ xs at k q c.deref-2.ensures.value c.in-Some-find_unspoiled.ensures.found in
+    let y = slice_get_read xs _ k c.index_mut.result.now refl (loadable_within xs at k q l) c.index_mut.ensures.value in
+    record {
+      names = λ place len. refl;
+      blocks = keeps_brought xs at k _ _ _ q c.index_mut.result.now c.bring_in.new.x l y c.bring_in.ensures;
+      fails = fails_later _ _ _ c.is_due.ensures.counts (not_due _ _ c.is_due.ensures.due c.if-is_due.false);
+      spoils = spoils_later _ _ _ c.find_unspoiled.ensures.counts c.in-Some-find_unspoiled.ensures.spoiled;
+      refuses = omega arith;
+    }

@@ -17,6 +17,9 @@ use Rattle.h2_memory_sets.proofs.Parted.{kept_part}
 use Rattle.h2_memory_sets.proofs.Parting.{item_at, field}
 use Rattle.h2_memory_sets.proofs.Differing.{differs_by_make}
 use Rattle.h2_memory_sets.proofs.Rooted.{rooted_part, root_not}
+use Rattle.h2_memory_sets.specs.LaterLaws.{fails_still, spoils_still}
+use Rattle.h2_memory_sets.specs.Later.{KeepsBlocks}
+use Rattle.h2_memory_sets.proofs.Going.{is_open_at, keeps_parted}
 use Rattle.h2_memory_sets.proofs.memory.MemorySetsSets.make.Goals as goal
 
 pub new_reference-r-requires-clause-ends : goal.new_reference-r-requires-clause-ends
@@ -101,4 +104,17 @@ returns-clause-beside c =
       same = λ m st now.
           let ne : m ≡ length xs → ⊥ = λ e. (let clash : true ≡ false = sym st ∙ ap (λ z. stands_of (slice_get xs z)) e ∙ ap stands_of (slice_get_past xs (length xs) (omega arith)) in cc) in
           ap (λ (ys : List Node). beside_of (slice_get ys m)) (c.add_node.ensures.parted it.0 it.1) ∙ field xs c.args.at.0 it.0 c.with_one-kept.result c.args.split.moved c.new_reference-r.result it.1 beside_of (λ y. refl) (refit_twice (it.0).inode c.with_one-kept.result (record { refs = []; capacity = 4 })) m ne;
+    }
+
+pub returns-clause-later : goal.returns-clause-later
+returns-clause-later c =
+    let p = c.args.self.now in
+    let xs = p.nodes.items in
+    let it = item_at xs c.args.at.0 (is_there _ _ c.requires.stands) in
+    record {
+      names = λ place len. refl;
+      blocks = subst (KeepsBlocks xs) (sym (c.add_node.ensures.parted it.0 it.1)) (keeps_parted xs c.args.at.0 it.0 c.with_one-kept.result c.args.split.moved c.new_reference-r.result p.kept it.1 (is_open_at xs c.args.at.0 it.0 it.1 c.requires.stands c.requires.writable));
+      fails = fails_still _ _;
+      spoils = spoils_still _ _;
+      refuses = omega arith;
     }

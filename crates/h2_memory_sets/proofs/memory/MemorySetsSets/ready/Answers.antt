@@ -1,5 +1,7 @@
-use Rattle.std.proofs.Common.{arith, refl}
+use Rattle.std.proofs.Common.{arith, refl, sym, subst}
 use Rattle.h2_memory_sets.proofs.Nodes.{readies_nodes}
+use Rattle.h2_memory_sets.specs.LaterLaws.{blocks_refl, fails_still, spoils_still, goes_on_refl}
+use Rattle.h2_memory_sets.specs.Later.{KeepsBlocks}
 use Rattle.h2_memory_sets.proofs.memory.MemorySetsSets.ready.Goals as goal
 
 pub returns-in-Ok-clause-same : goal.returns-in-Ok-clause-same
@@ -16,3 +18,42 @@ pub returns-then-is_due-clause-same : goal.returns-then-is_due-clause-same
 returns-then-is_due-clause-same c =
     let p = c.args.self.now in
     readies_nodes p.nodes.items p.nodes.items p.spare p.spare p.epoch p.room p.failed p.bad p.met refl (omega arith) c.requires.sound
+
+pub returns-in-Ok-clause-later : goal.returns-in-Ok-clause-later
+returns-in-Ok-clause-later c = record {
+  names = λ place len. refl;
+  blocks = subst (KeepsBlocks c.args.self.now.nodes.items) (sym c.reserve.ensures.items) (blocks_refl _);
+  fails = fails_still _ _;
+  spoils = spoils_still _ _;
+  refuses = (let counts = c.is_due.ensures.counts in omega (arith, counts));
+}
+
+pub returns-in-Err-clause-later : goal.returns-in-Err-clause-later
+returns-in-Err-clause-later c = record {
+  names = λ place len. refl;
+  blocks = subst (KeepsBlocks c.args.self.now.nodes.items) (sym c.reserve.ensures.items) (blocks_refl _);
+  fails = fails_still _ _;
+  spoils = spoils_still _ _;
+  refuses = (let counts = c.is_due.ensures.counts in omega (arith, counts));
+}
+
+pub returns-then-is_due-clause-later : goal.returns-then-is_due-clause-later
+returns-then-is_due-clause-later c = record {
+  names = λ place len. refl;
+  blocks = blocks_refl _;
+  fails = fails_still _ _;
+  spoils = spoils_still _ _;
+  refuses = (let counts = c.is_due.ensures.counts in omega (arith, counts));
+}
+
+pub returns-then-n-self-clause-later : goal.returns-then-n-self-clause-later
+returns-then-n-self-clause-later c = goes_on_refl _
+
+pub returns-then-len-n-clause-later : goal.returns-then-len-n-clause-later
+returns-then-len-n-clause-later c = record {
+  names = λ place len. refl;
+  blocks = blocks_refl _;
+  fails = fails_still _ _;
+  spoils = spoils_still _ _;
+  refuses = (let counts = c.is_due.ensures.counts in omega (arith, counts));
+}

@@ -1,5 +1,5 @@
--- What holds of the table of every PFS, whatever it is read from.
-use Rattle.std.specs.Prelude.{◌≡◌, ◌≢◌, ◌<◌, ℕ, List, map, sum, count_by, nat_eq, Option, Some, None, Ok, IsSome}
+-- What holds of the table of every PFS: it is a tree of directories and files.
+use Rattle.std.specs.Prelude.{◌≡◌, ◌≢◌, ◌<◌, ℕ, List, map, sum, count_by, nat_eq, Some, Ok, IsSome}
 use Rattle.std.specs.FinMap.{get, entries}
 use Rattle.h2_forest.specs.Node.{Entries}
 use Rattle.h2_forest.specs.declared.table.Node.{Node}
@@ -23,12 +23,6 @@ HasEntry t dir name number = looked_up (entries_at t dir) name ≡ Ok number
 abbrev pub IsReached : Table → ℕ → Type 0
 IsReached t number = (names : List (List ℕ)) × (walk t 1 names ≡ Ok number)
 
--- the inode is of the kind that an entry says: 1 is a directory, 2 a file
-abbrev pub IsTarget : ℕ → Option Node → Type 0
-IsTarget target None = ⊥
-IsTarget target (Some (Directory es)) = target ≡ 1
-IsTarget target (Some (File bytes links)) = target ≡ 2
-
 -- the table is a tree of directories below the root, with files that have as many links as names
 pub record IsFileTree (next : ℕ) (t : Table) : Type 0 where
   -- number 1 is a directory that no entry names
@@ -37,7 +31,8 @@ pub record IsFileTree (next : ℕ) (t : Table) : Type 0 where
   -- each entry names an inode
   pub named : (dir number : ℕ) (name : List ℕ) → HasEntry t dir name number → IsSome (get t number)
   -- a file's links are the entries that name it
-  pub links_are : (number links : ℕ) (bytes : List ℕ) → get t number ≡ Some (File bytes links) → names_of t number ≡ links
+  pub links_are : (number links : ℕ) (bytes : List ℕ) → get t number ≡ Some (File bytes links)
+      → names_of t number ≡ links
   -- each other directory has one entry, and names lead to it
   pub once : (number : ℕ) (es : Entries) → get t number ≡ Some (Directory es) → number ≢ 1 → names_of t number ≡ 1
   pub reached : (number : ℕ) (es : Entries) → get t number ≡ Some (Directory es) → IsReached t number
