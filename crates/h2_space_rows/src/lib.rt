@@ -3,8 +3,10 @@
 //! other values.
 #![tactic(auto)]
 
+mod codes;
 mod needs;
 mod passes;
 
+pub use codes::worked_codes_law;
 pub use needs::{worked_map_counts_law, worked_needs_law};
 pub use passes::worked_passes_law;

@@ -44,10 +44,6 @@ free_not_staged : Free ≡ Staged → ⊥
 unfolding number
 free_not_staged e = absurd (let n : ◌≡◌ {A = ℕ} 0 2 = unlike Free Staged e in omega arith)
 
-staged_not_used : Staged ≡ Used → ⊥
-unfolding number
-staged_not_used e = absurd (let n : ◌≡◌ {A = ℕ} 2 3 = unlike Staged Used e in omega arith)
-
 staged_not_free : Staged ≡ Free → ⊥
 unfolding number
 staged_not_free e = absurd (let n : ◌≡◌ {A = ℕ} 2 0 = unlike Staged Free e in omega arith)
