@@ -2,3 +2,5 @@ pub mod Cuts
 pub mod Marks
 pub mod Mounts
 pub mod Plan
+pub mod Formats
+pub mod VolumeCuts

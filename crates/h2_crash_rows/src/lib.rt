@@ -5,6 +5,8 @@
 
 mod cuts;
 mod mounts;
+mod volume_cuts;
 
 pub use cuts::{worked_cuts_law, worked_headers_law};
-pub use mounts::{worked_marks_law, worked_mounts_law, worked_plan_law};
+pub use mounts::{worked_format_law, worked_marks_law, worked_mounts_law, worked_plan_law};
+pub use volume_cuts::worked_volume_cuts_law;

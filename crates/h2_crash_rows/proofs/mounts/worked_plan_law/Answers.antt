@@ -4,7 +4,7 @@ use Rattle.std.proofs.lemmas.Bool.{cases_eq}
 use Rattle.std.proofs.lemmas.Bool.Decides.{nat_tests}
 use Rattle.std.proofs.lemmas.List.{get_or-replicate, length-replicate}
 use Rattle.h2_num.specs.Places.{InRange, Holds, places}
-use Rattle.h2_checkpoint.specs.Slots.{IsSlot, InSlot}
+use Rattle.h2_checkpoint.specs.Slots.{InSlot}
 use Rattle.h2_checkpoint.specs.Format.{by_root, by_child, Reach, HasNoHeader}
 use Rattle.h2_checkpoint.specs.Queue.{Entry, entry_of, IsAmong, InEntries}
 use Rattle.h2_checkpoint.specs.Checkpoint.{OwnsByte, IsCheckpoint, Blank, IsPlanned, IsQueuedOrThere}

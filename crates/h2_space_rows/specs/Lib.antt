@@ -1,0 +1,3 @@
+pub mod Leaves
+pub mod Needs
+pub mod Passes

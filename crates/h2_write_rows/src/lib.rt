@@ -1,0 +1,7 @@
+//! Worked examples of the words by which `written_law` of `h2_file` says what a write makes of a file, as laws; nothing
+//! else. They show that these words give on small values what was worked out by hand, and refuse other values.
+#![tactic(auto)]
+
+mod writes;
+
+pub use writes::{worked_merged_law, worked_touched_law, worked_written_law};
