@@ -1,6 +1,5 @@
 -- Two states of a volume's space, by which the need of blocks is tried.
 use Rattle.std.specs.Prelude.{[], Some, None}
-use Rattle.h2_codes.specs.declared.cursor.Cursor.{Cursor}
 use Rattle.h2_freemap.specs.Space.{Space}
 
 -- a volume of four zones that was just mounted: it has no cursor and no pin

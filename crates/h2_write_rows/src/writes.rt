@@ -4,7 +4,7 @@ ghost use Rattle.h2_file.specs.Touching.{IsTouched};
 ghost use Rattle.h2_file.specs.Writing.{IsMerged, ReadsBlock};
 ghost use Rattle.h2_write_rows.specs.Writes.{touched_of, written, ones, block_at, one_block, merged_first};
 
-/// Laws: 4 bytes at 16382 touch blocks 0 and 1, whatever the file. Behind an inode's 5 bytes and a hole, 3 bytes at 32768
+/// Laws: 4 bytes at 16382 of a file of 20000 touch blocks 0 and 1. Behind an inode's 5 bytes and a hole, 3 bytes at 32768
 /// touch block 2, and block 0 is put for the 5. A file that still fits into its inode has no block.
 pub fn worked_touched_law()
     ensures two_blocks { IsTouched 20000 16382 4 (touched_of 0 2 false) }

@@ -1,16 +1,16 @@
-use Rattle.std.proofs.Common.{◌≡◌, ◌<◌, ◌≤◌, ◌⊎◌, ℕ, zero, suc, ◌+◌, ◌-◌, ◌*◌, ◌/◌, ◌%◌, ◌^◌, Bool, true, false, nat_lt, nat_eq, cond, List, [], ◌∷◌, length, replicate, arith, ap, ap₂, sym, ◌∙◌, inl, inr, refl, get_or}
+use Rattle.std.proofs.Common.{◌≡◌, ◌<◌, ◌≤◌, ℕ, zero, suc, ◌+◌, ◌-◌, ◌*◌, ◌/◌, ◌%◌, ◌^◌, true, false, nat_lt, nat_eq, List, [], ◌∷◌, length, replicate, arith, ap, ap₂, sym, ◌∙◌, refl, get_or}
 use Rattle.std.proofs.lemmas.Bool.Decides.{nat_tests}
 use Rattle.std.proofs.lemmas.List.{get_or-replicate, length-replicate}
 use Rattle.std.proofs.lemmas.List.Elements.{All-cons, All-nil}
 use Rattle.std.specs.List.{All}
-use Rattle.h2_num.specs.Places.{Places, from_place, number_at, ZeroIn}
+use Rattle.h2_num.specs.Places.{from_place, number_at}
 use Rattle.h2_codes.specs.declared.code.Code.{Code}
 use Rattle.h2_codes.specs.declared.code.Code.TheVariants.{Free, Reserved, Staged, Used}
 use Rattle.h2_codes.specs.Codes.{IsSegment, code_at, count_of}
 use Rattle.h2_codes.specs.Layout.{code_number, chunk_bits, HoldCodes}
 use Rattle.h2_freeleaf.specs.Leaf.{part_of, PartBytes, IsLeaf, LeafBytes}
 use Rattle.h2_freeleaf.specs.InImage.{LeadsToLeaf}
-use Rattle.h2_freeleaf.specs.ChunkCode.{LeadsToLeafOf, CodeOf}
+use Rattle.h2_freeleaf.specs.ChunkCode.{CodeOf}
 use Rattle.h2_space_rows.specs.Leaves.{reserved_codes, second_codes, free_codes, zone_codes, part_byte, leaf_image, leaf_ref, leaf_header}
 use Rattle.h2_space_rows.proofs.codes.worked_codes_law.Goals as goal
 
@@ -99,7 +99,7 @@ second_part = record { holds = holds; free = refl; tail = λ j low high. byte_is
     holds (suc (suc (suc zero))) lt = refl
     holds (suc (suc (suc (suc c)))) lt =
         bits_by 1 (suc (suc (suc (suc c)))) 0 0 lt (second_byte (suc (suc (suc (suc c))) / 4) (λ e. absurd (let is : suc (suc (suc (suc c))) / 4 ≡ 0 = e in omega arith)) (λ e. absurd (let is : suc (suc (suc (suc c))) / 4 ≡ 64 = e in let high : suc (suc (suc (suc c))) < 256 = lt in omega arith)))
-            (bits_of_0 (suc (suc (suc (suc c))) % 4) (rest_small (suc (suc (suc (suc c))))))
+        (bits_of_0 (suc (suc (suc (suc c))) % 4) (rest_small (suc (suc (suc (suc c))))))
         ∙ code_in_all 252 c Free (let high : suc (suc (suc (suc c))) < 256 = lt in omega arith)
 
 free_part : (p : ℕ) → number_at (part_of (suc (suc p)) (from_place leaf_image 65536)) 64 4 ≡ count_of Free free_codes → PartBytes free_codes (part_of (suc (suc p)) (from_place leaf_image 65536))

@@ -1,12 +1,11 @@
-use Rattle.std.proofs.Common.{◌≡◌, ◌<◌, ◌≤◌, ◌⊎◌, ℕ, zero, suc, Bool, true, false, List, ◌∷◌, length, replicate, arith, ap, sym, ◌∙◌, inl, inr, refl, get_or}
-use Rattle.std.proofs.lemmas.Bool.{cases_lt}
-use Rattle.std.proofs.lemmas.List.{get_or-replicate, get_or_past, length-replicate}
+use Rattle.std.proofs.Common.{◌≡◌, ◌<◌, ℕ, zero, suc, Bool, true, false, replicate, arith, ap, refl, get_or}
+use Rattle.std.proofs.lemmas.List.{get_or-replicate, length-replicate}
 use Rattle.h2_codes.specs.declared.code.Code.{Code}
 use Rattle.h2_codes.specs.declared.code.Code.TheVariants.{Free, Reserved, Staged, Used}
 use Rattle.h2_codes.specs.Codes.{code_at}
 use Rattle.h2_codes.specs.Seen.{has_chunk}
 use Rattle.h2_codes.specs.Bulkfree.{swept_code, IsSwept}
-use Rattle.h2_space_rows.specs.Passes.{four_codes, four_seen, seen_first, seen_second, used_before, after_first, taken_between, after_second}
+use Rattle.h2_space_rows.specs.Passes.{four_codes, four_seen}
 use Rattle.h2_space_rows.proofs.passes.worked_passes_law.Goals as goal
 
 -- of the other chunks, all stay free
