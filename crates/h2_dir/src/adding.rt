@@ -51,9 +51,9 @@ fn put_in<N: Sets>(alloc: Global, n: &mut N, root: NodeId, leaf: Ref)
 /// The size is below 4096. The number is from 1 to 2^62 - 1, and the target 1 for a directory or 2 for a file. A name
 /// of more than 64 bytes has a block of 1 KiB, and no other has: it is given with its check. At least one node is
 /// spare, and the room is at least 63; they are lowered by at most this, and spare nodes only by the block that a split
-/// makes. It can't be refused, and meets no bad block. No
-/// node is unloaded, and all loaded paths stay. Other directories and files stay the same, and the trees of PFSs do, but
-/// for where the blocks of inodes and indirect blocks lie. No root comes, and leaves that named one root each still do.
+/// makes. It can't be refused, and meets no bad block. No node is unloaded, and all loaded paths stay. Other directories
+/// and files stay the same, and the trees of PFSs do, but for where the blocks of inodes and indirect blocks lie. No
+/// root comes, and leaves that named one root each still do.
 pub fn add_at<N: Nodes>(
     alloc: Global,
     n: &mut N,

@@ -99,7 +99,7 @@ NamesOne f = (top key c d : ℕ) → IsRootOf f top key c → IsRootOf f top key
 abbrev pub IsUnloaded : Forest → ℕ → ℕ → Type 0
 IsUnloaded f top key = (c : ℕ) → IsRootOf f top key c → ⊥
 
--- no root stands that belongs to the leaf with this key in the tree of root top: of what the leaf names nothing is loaded
+-- of what the leaf with this key in the tree of root top names nothing is loaded: no root stands that belongs to it
 abbrev pub IsBare : Forest → ℕ → ℕ → Type 0
 IsBare f top key = (c : ℕ) → f.stands c ≡ true → f.root c ≡ c → f.belongs c top key ≡ true → ⊥
 

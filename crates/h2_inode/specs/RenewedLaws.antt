@@ -52,6 +52,7 @@ same_with i s = record { kind = refl; number = refl; size = refl; links = refl; 
 -- Renewed trees stand for what they stood for
 
 module _ (u v : View) (P : ℕ → Type 0) (h : RenewsTrees u v P) (Content : Ref → Places → Type 0) (blocks : (r : Ref) (x : Places) → Content r x → names_node r.kind ≡ false) where
+  -- a leaf before the change and after it, at trees that match
   abbrev Like : Tree → Tree → Ref → Ref → Type 0
   Like t w r s = IsLeafRenewed u t r s × IsTreeOf P t w
 

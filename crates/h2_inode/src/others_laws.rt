@@ -13,8 +13,8 @@ ghost use Rattle.h2_inode.specs.Others.{KeepsTree, RenewsTree, RenewsOthers, Kee
 /// A law of trees that a change of another one keeps, or renews, so that their references tell of other blocks of
 /// inodes and indirect blocks. A tree that is kept is renewed, and both are so over changes one after the other. A
 /// renewed tree stands for the file's bytes and the directory's entries that it stood for. Where kept trees name no
-/// others, the reading after the change follows that before it, so that tables and forests stand for the same too. So it
-/// does where they are renewed. A leaf of a renewed tree of whose inode nothing was loaded is the very same after the
+/// others, the reading after the change follows that before it, so that tables and forests stand for the same too. So
+/// it does where they are renewed. A leaf of a renewed tree of whose inode nothing was loaded is the very same after the
 /// change, and what was told of its inode is read of it then.
 pub fn others_law()
     ensures kept { (u v w : View) (c : ℕ) → KeepsTree u v c → KeepsTree v w c → KeepsTree u w c }

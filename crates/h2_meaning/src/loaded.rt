@@ -20,7 +20,8 @@ pub fn one_loaded_law()
 
 /// A law of what loaded trees stand for: a table and a forest stand after loads, and where the contents of more blocks
 /// are told. A table also stands after a change that keeps its tree and those of its files and directories, and a table
-/// and a forest after one that renews them: their references tell of other blocks of inodes then.
+/// and a forest after one that renews them: their references tell of other blocks of inodes then. An inode that changes
+/// itself isn't one of a table or a forest that is renewed.
 pub fn loaded_law()
     ensures loads_tables { (u v : View) (block : Ref → Option Places) (at next : ℕ) (table : Table) → StandsAlike u v → u.forest.stands at ≡ true
         → IsTable (reading u (λ r b. block r ≡ Some b)) (at_root at) next table

@@ -35,8 +35,8 @@ pub record KeepsBlocks (xs ys : List Node) : Type 0 where
   pub longer : length xs ≤ length ys
   pub each : (i : ℕ) (x : Node) → slice_get xs i ≡ Some x → (y : Node) × ((slice_get ys i ≡ Some y) × KeepsNode (length xs) x y)
 
--- A failure of the disk that is planned for the a-th load from now on, and later for the b-th: it has come nearer, and no
--- load failed, or its turn came, and it was counted. Where none is planned, 0, no load fails.
+-- A failure of the disk that is planned for the a-th load from now on, and later for the b-th: it is no further off,
+-- and no load failed, or it is gone, one load failed, and that was counted. Where none is planned, 0, no load fails.
 pub data FailsAsPlanned (a b before now : ℕ) : Type 0 where
   waits : b ≤ a → (b ≡ 0 → a ≡ 0) → now ≡ before → FailsAsPlanned a b before now
   came : 0 < a → b ≡ 0 → now ≡ one_more before → FailsAsPlanned a b before now

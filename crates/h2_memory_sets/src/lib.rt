@@ -6,8 +6,8 @@
 //! told by `specs/View`: what is below a node that isn't loaded is told by nobody.
 //!
 //! Each call of the two traits keeps what `specs/Later` says (`GoesOn`): all names, what each block holds that isn't
-//! written or lost by then, loaded or not, and which loads and calls are still to fail. The disk fails no load but the
-//! planned one.
+//! written or lost by then, loaded or not, and which loads and calls are still to fail. The disk fails one load at most
+//! for each that is planned, and none where none is.
 #![tactic(auto)]
 
 mod adding;

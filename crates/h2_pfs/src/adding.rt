@@ -86,12 +86,11 @@ fn found<N: Nodes>(
 
 /// Adds the PFS of this inode, whose id is the key of the leaf. Exists exactly where a PFS has the name, and otherwise
 /// Full exactly where there are 64 PFSs or more. No leaf of the super-root's tree has the key, and the room is at least
-/// 63. The room is lowered by at most 63, and the spare nodes by at most 2: by one for the inode, and by one for a split.
-/// Where two are spare, none is made. Trouble only where a leaf of that tree
-/// wasn't loaded, or an inode that one names, or the path of the key, or for want of memory, and never a bad block where
-/// the list of PFSs is known; a bad block is met only where the answer tells one. After a refusal nothing but such loads
-/// took place, and all trees stand for what they stood for; so it is before the addition too, and after it the trees of
-/// other roots stay.
+/// 63. The room is lowered by at most 63, and the spare nodes by at most 2: by one for the inode, and by one for a
+/// split. Where two are spare, none is made. Trouble only where a leaf of that tree wasn't loaded, or an inode that one
+/// names, or the path of the key, or for want of memory, and never a bad block where the list of PFSs is known; a bad
+/// block is met only where the answer tells one. After a refusal nothing but such loads took place, and all trees stand
+/// for what they stood for; so it is before the addition too, and after it the trees of other roots stay.
 pub fn pfs_add<N: Nodes>(
     alloc: Global,
     n: &mut N,

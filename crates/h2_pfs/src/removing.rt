@@ -21,9 +21,9 @@ use std::alloc::Global;
 /// Removes the PFS with this name, and all that belongs to it, where no handle is open in it. NoPfs exactly where no
 /// PFS has the name, and otherwise InUse with the number of handles exactly where there are some. Without handles the
 /// room is at least 62, and nothing of the PFS is held. The room is lowered by the number of nodes that are copied, at
-/// most 62, and the spare nodes stay. Trouble only where a leaf of the super-root's tree wasn't loaded, or an inode that one names, or for want
-/// of memory, and never a bad block where the list of PFSs is known; a bad block is met only where the answer tells one.
-/// After a refusal nothing but such loads took place, and all trees stand for what they stood for; so it is before the
+/// most 62, and the spare nodes stay. Trouble only where a leaf of the super-root's tree wasn't loaded, or an inode that
+/// one names, or for want of memory, and never a bad block where the list of PFSs is known; a bad block is met only
+/// where the answer tells one. After a refusal nothing but such loads took place, and all trees stand for what they stood for; so it is before the
 /// removal too, and after it the trees of other roots stay, but for those that belong to the PFS.
 pub fn pfs_remove<N: Nodes>(
     alloc: Global,

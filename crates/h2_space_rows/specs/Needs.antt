@@ -2,7 +2,7 @@
 use Rattle.std.specs.Prelude.{[], Some, None}
 use Rattle.h2_freemap.specs.Space.{Space}
 
--- a volume of four zones that was just mounted: it has no cursor and no pin
+-- the space of four zones after mounting: no cursor and no pin; its segments don't count for a need, and none is given
 abbrev pub mounted : Space
 mounted = record { zones = 4; segments = []; small = None; middle = None; pins = []; spare = 0 }
 

@@ -5,8 +5,8 @@ ghost use Rattle.h2_space_rows.specs.Leaves.{leaf_image, leaf_header};
 use h2_freeleaf::code_law;
 
 /// Laws: in an image with the leaf of zone 0, whose first segment is reserved and whose second one has a used chunk, a
-/// staged one and free ones, chunks of that zone have these codes. A used one isn't free, and a staged one isn't used. The
-/// first chunk past the volume isn't free.
+/// staged one and free ones, chunks of that zone have these codes. A used one isn't free, and a staged one isn't used.
+/// The first chunk past the volume isn't free.
 pub fn worked_codes_law()
     ensures reserved { CodeOf leaf_image leaf_header 0 Reserved }
     ensures last_reserved { CodeOf leaf_image leaf_header 255 Reserved }

@@ -3,9 +3,9 @@ ghost use Rattle.h2_freemap.specs.Need.{need_of};
 ghost use Rattle.h2_image.specs.NewVolume.{map_block_count};
 ghost use Rattle.h2_space_rows.specs.Needs.{mounted, two_taken};
 
-/// Laws: what blocks need where no chunk has a cursor, as after mounting. Three inodes share a chunk. A file of 5 content
-/// blocks has one indirect block beside them, and one of 33 has eight. Where the chunk of the small blocks has two of
-/// them, 14 more need no chunk, and 15 need one; the middle ones need chunks of their own.
+/// Laws: what blocks need where no chunk has a cursor, as after mounting. Three inodes share a chunk. A file of 5
+/// content blocks has one indirect block beside them, and one of 33 has eight. Where the chunk of the small blocks has
+/// two of them, 14 more need no chunk, and 15 need one; the middle ones need chunks of their own.
 pub fn worked_needs_law()
     ensures nothing { need_of 0 0 0 mounted ≡ 0 }
     ensures inodes { need_of 3 0 0 mounted ≡ 1 }

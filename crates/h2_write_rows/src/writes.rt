@@ -4,8 +4,8 @@ ghost use Rattle.h2_file.specs.Touching.{IsTouched};
 ghost use Rattle.h2_file.specs.Writing.{IsMerged, ReadsBlock};
 ghost use Rattle.h2_write_rows.specs.Writes.{touched_of, written, ones, block_at, one_block, merged_first};
 
-/// Laws: 4 bytes at 16382 of a file of 20000 touch blocks 0 and 1. Behind an inode's 5 bytes and a hole, 3 bytes at 32768
-/// touch block 2, and block 0 is put for the 5. A file that still fits into its inode has no block.
+/// Laws: 4 bytes at 16382 of a file of 20000 touch blocks 0 and 1. Behind an inode's 5 bytes and a hole, 3 bytes at
+/// 32768 touch block 2, and block 0 is put for the 5. A file that still fits into its inode has no block.
 pub fn worked_touched_law()
     ensures two_blocks { IsTouched 20000 16382 4 (touched_of 0 2 false) }
     ensures not_one { IsTouched 20000 16382 4 (touched_of 0 1 false) → ⊥ }
@@ -29,8 +29,8 @@ pub fn worked_written_law()
 {}
 
 /// Laws: of 20000 bytes 1, over which 9, 8, 7 and 6 are written at 16382, block 0 ends with 9 and 8. The block without
-/// them isn't what the write makes. A place in a file of one byte is read as its block, or in a hole as zeros; where
-/// the file has bytes that aren't zero, no hole is found.
+/// them isn't what the write makes. A place in the 20000 bytes is read as its block and no other; where they aren't
+/// zero, no hole is found. Behind a file of one byte a hole is read as zeros.
 pub fn worked_merged_law()
     ensures first { IsMerged (one_block merged_first) ones 16382 written (block_at 0) }
     ensures not_unmerged { IsMerged (one_block ones) ones 16382 written (block_at 0) → ⊥ }

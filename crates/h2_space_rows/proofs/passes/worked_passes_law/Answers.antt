@@ -51,6 +51,7 @@ pub returns : goal.returns
 returns c = record {
   first = swept Used Used Used Used false false true true;
   second = swept Staged Used Used Used false true true false;
+  reached = swept Staged Staged Used Used false true true false;
   first_staged = refl;
   first_freed = refl;
   second_staged = refl;
