@@ -1,7 +1,6 @@
 -- Which nodes a cut changes, where the child below a reference was cut.
 use Rattle.std.proofs.Common.{◌≡◌, ℕ, ◌+◌, ◌-◌, ◌<◌, ◌≤◌, ◌^◌, true, false, arith, sym, ◌∙◌, ap, length, Option, Some, None, subst, ◌⊎◌, inl, inr, slice_get, take, min}
 use Rattle.std.proofs.lemmas.Nat.{pow_pos}
-use Rattle.std.proofs.lemmas.Bool.{cases_Bool}
 use Rattle.std.proofs.lemmas.Option.{slice_get_within}
 use Rattle.std.proofs.lemmas.List.{length-take}
 use Rattle.h2_ref.specs.declared.reference.Ref.{Ref}
@@ -10,18 +9,17 @@ use Rattle.h2_set.specs.RefSet.{RefSet}
 use Rattle.h2_set.specs.Forest.{Forest, refs, loaded, IsChild, IsSoundNode, IsSound, IsRootOf}
 use Rattle.h2_set.specs.Calls.{Alike, InPlace, Keeps, Renews, Walks, OnWay, inside, across, IsAbove, itself, by}
 use Rattle.h2_set.specs.StayLaws.{Alike-trans, InPlace-trans, Walks-trans}
-use Rattle.h2_set.specs.LeafLaws.{holds_inside, place_above}
+use Rattle.h2_set.specs.LeafLaws.{holds_inside}
 use Rattle.h2_set.specs.PathLaws.{in_holds}
 use Rattle.h2_set.specs.ChangeLaws.{same_or_not}
-use Rattle.h2_set.specs.SplitLaws.{nested, below_high}
+use Rattle.h2_set.specs.SplitLaws.{nested}
 use Rattle.h2_set.specs.RenewLaws.{LikeAt, like_at, Alike-sym, Renews-trans}
 use Rattle.h2_tree.specs.Changes.{LoadsIn, onward}
 use Rattle.h2_inode.specs.NodeLaws.{named_stays}
-use Rattle.h2_file.specs.Cutting.{GoesBehind, GoesPast, KeepsFront, CutsNodes}
+use Rattle.h2_file.specs.Cutting.{KeepsFront, CutsNodes}
 use Rattle.h2_file.proofs.Answering.{In-on}
 use Rattle.h2_file.proofs.Parts.{Alike-take, take_from, taken_at}
-use Rattle.h2_file.proofs.Fronts.{same_holds}
-use Rattle.h2_file.proofs.Trees.{IsWithin, descends_within, in_ref}
+use Rattle.h2_file.proofs.Trees.{IsWithin, descends_within}
 use Rattle.h2_file.proofs.CutNodes.{leads_down, taken_whole, there_at}
 use Rattle.h2_file.proofs.CutGone.{front_refs, front_length, stand_over, gone_over}
 
