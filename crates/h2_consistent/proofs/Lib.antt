@@ -15,3 +15,4 @@ mod Found
 mod Standing
 mod Readable
 mod TwoNames
+mod NoTrees

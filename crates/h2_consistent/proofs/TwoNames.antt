@@ -16,12 +16,12 @@ use Rattle.h2_consistent.proofs.Counting.{same_number}
 use Rattle.h2_consistent.proofs.Lookups.{told_apart}
 use Rattle.h2_consistent.proofs.Names.{looked_entry}
 
-no_items : {X : Type 0} (xs : List X) → length xs ≡ 0 → xs ≡ []
+pub no_items : {X : Type 0} (xs : List X) → length xs ≡ 0 → xs ≡ []
 no_items [] e = refl
 no_items (x ∷ xs) e = absurd (omega arith)
 
 -- what stands in the directory and in the table
-two_listed : entries two_entries ≡ (97 ∷ [], 2) ∷ (98 ∷ [], 2) ∷ []
+pub two_listed : entries two_entries ≡ (97 ∷ [], 2) ∷ (98 ∷ [], 2) ∷ []
 two_listed =
     entries-insert nat_list_cmp_total (insert empty (97 ∷ []) 2) (98 ∷ []) 2
     ∙ ap (put (slice_cmp nat_cmp) (98 ∷ []) 2) (entries-insert nat_list_cmp_total empty (97 ∷ []) 2 ∙ ap (put (slice_cmp nat_cmp) (97 ∷ []) 2) (no_items (entries empty) (sym (len-entries empty) ∙ len-empty (slice_cmp nat_cmp) ℕ)))
