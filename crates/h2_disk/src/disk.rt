@@ -84,3 +84,12 @@ pub trait Disk {
     /// What a read gives is among what a power cut at this moment may leave.
     ghost left_now: { (disk : Self) → IsTrue tells → LeftAt (trace disk) (moment disk) (image disk) };
 }
+
+/// Counts that memory was wanting.
+pub(crate) fn count_want(wants: &mut u64) -> DiskFault
+    ensures fault { result ≡ DiskFault.NoMemory }
+    ensures counted { wants.new ≡ one_more wants.old }
+{
+    *wants = wants.saturating_add(1);
+    DiskFault::NoMemory
+}

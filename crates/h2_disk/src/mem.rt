@@ -8,6 +8,7 @@ ghost use Rattle.h2_disk.specs.Faults.{IsCounted};
 ghost use Rattle.h2_disk.specs.Mem.{mem_image, mem_trace, mem_moment, mem_faults, mem_wants, mem_reads, FailsNextRead, FailsNextCall, FailsExactlyIf, KeepsPlan, IsFresh};
 ghost use Rattle.h2_disk.specs.declared.disk.DiskFault.TheVariants.{Failed};
 
+use crate::disk::count_want;
 use crate::recording::Recording;
 use crate::{Disk, DiskFault};
 use h2_num::NoMemory;
@@ -106,15 +107,6 @@ impl MemDisk {
         self.faults = self.faults.saturating_add(1);
         DiskFault::Failed
     }
-
-    // Counts that memory was wanting.
-    fn count_want(&mut self) -> DiskFault
-        ensures fault { result ≡ DiskFault.NoMemory }
-        ensures counted { self.new ≡ record self.old { wants = one_more self.old.wants } }
-    {
-        self.wants = self.wants.saturating_add(1);
-        DiskFault::NoMemory
-    }
 }
 
 impl Disk for MemDisk {
@@ -177,7 +169,7 @@ impl Disk for MemDisk {
             return Err(self.count_fault());
         }
         let Ok(()) = self.recording.write(at, bytes) else {
-            return Err(self.count_want());
+            return Err(count_want(&mut self.wants));
         };
         Ok(())
     }
@@ -201,7 +193,7 @@ impl Disk for MemDisk {
             return Err(self.count_fault());
         }
         let Ok(()) = self.recording.sync() else {
-            return Err(self.count_want());
+            return Err(count_want(&mut self.wants));
         };
         Ok(())
     }

@@ -6,6 +6,7 @@ ghost use Rattle.h2_disk.specs.RecordLaws.{record_left};
 ghost use Rattle.h2_disk.specs.Disk.{Keeps, Writes, Syncs, CountsWants};
 ghost use Rattle.h2_disk.specs.Sure.{sure_image, sure_trace, sure_moment, sure_wants};
 
+use crate::disk::count_want;
 use crate::recording::Recording;
 use crate::{Disk, DiskFault};
 use h2_num::NoMemory;
@@ -32,15 +33,6 @@ impl SureDisk {
             recording: Recording::new(alloc),
             wants: 0,
         })
-    }
-
-    // Counts that memory was wanting.
-    fn count_want(&mut self) -> DiskFault
-        ensures fault { result ≡ DiskFault.NoMemory }
-        ensures counted { self.new ≡ record self.old { wants = one_more self.old.wants } }
-    {
-        self.wants = self.wants.saturating_add(1);
-        DiskFault::NoMemory
     }
 }
 
@@ -88,7 +80,7 @@ impl Disk for SureDisk {
         ensures wants { CountsWants (sure_wants self.old) (sure_wants self.new) result }
     {
         let Ok(()) = self.recording.write(at, bytes) else {
-            return Err(self.count_want());
+            return Err(count_want(&mut self.wants));
         };
         Ok(())
     }
@@ -104,7 +96,7 @@ impl Disk for SureDisk {
         ensures wants { CountsWants (sure_wants self.old) (sure_wants self.new) result }
     {
         let Ok(()) = self.recording.sync() else {
-            return Err(self.count_want());
+            return Err(count_want(&mut self.wants));
         };
         Ok(())
     }
