@@ -17,7 +17,7 @@ use Rattle.h2_inode.specs.Loaded.{at_root}
 use Rattle.h2_contents.specs.Bytes.{cut_to as bytes_to}
 use Rattle.h2_contents.specs.ByteLaws.{byte_cut, length-cut_to}
 use Rattle.h2_file.specs.Cutting.{cut_block, IsCutBlock, in_place, cut_to, CutsFile}
-use Rattle.h2_file.specs.FileContents.{file_reading, FileHas, IsBlockOf, EndsIn}
+use Rattle.h2_file.specs.FileContents.{file_reading, FileHas, HasBytesOf, IsBlockOf, EndsIn}
 use Rattle.h2_file.proofs.Parts.{cut_key, cut_one, cut_gone}
 
 pub all_head : {X : Type 0} (P : X → Type 0) (x : X) (xs : List X) → All P (x ∷ xs) → P x
@@ -61,9 +61,23 @@ no_part a t size bytes start k (x ∷ l) all same none = by (holds start x) refl
     by false out e true in_k more = absurd (let clash : true ≡ false = sym (part_has a t size bytes x start k (all_head (IsPart a t size bytes) x l all) same in_k) ∙ out in cc)
     by false out e false in_k more = more e
 
-pub reads : (f : Forest) (inodes : ℕ → Option Fields) (tells : Ref → Option Told) (blocks : Ref → Option Places) (at size : ℕ) (bytes : List ℕ) (start : ℕ) (o : Option Ref) → ((l : List Ref) → LeavesOf f at l → o ≡ find start l) → FileHas f inodes tells blocks at size bytes → IsBlockOf f inodes tells blocks at size bytes start o
+-- a part of a file, told by its block's bytes alone
+part_bytes : (a : Access) (t : a.Tree) (blocks : Ref → Option Places) (size : ℕ) (bytes : List ℕ) (r : Ref) → ((block : Places) → a.ContentOf t r block → blocks r ≡ Some block) → IsPart a t size bytes r → HasBytesOf blocks size bytes r
+part_bytes a t blocks size bytes r known h = record {
+  kind_is = h.kind_is;
+  keybits_are = h.keybits_are;
+  aligned = h.aligned;
+  below_size = h.below_size;
+  block = h.block;
+  read = known h.block h.read;
+  bytes_are = h.bytes_are;
+}
+
+pub reads : (f : Forest) (inodes : ℕ → Option Fields) (tells : Ref → Option Told) (blocks : Ref → Option Places) (at size : ℕ) (bytes : List ℕ) (start : ℕ) (o : Option Ref) → ((l : List Ref) → LeavesOf f at l → o ≡ find start l) → FileHas f inodes tells blocks at size bytes → IsBlockOf blocks size bytes start o
 reads f inodes tells blocks at size bytes start None found has = λ k same. has.holes k (no_part (file_reading f inodes tells blocks) (at_root at) size bytes start k has.leaves has.parts same (sym (found has.leaves has.has.read)))
-reads f inodes tells blocks at size bytes start (Some r) found has = found_part (IsPart (file_reading f inodes tells blocks) (at_root at) size bytes) start has.leaves r has.parts (sym (found has.leaves has.has.read))
+reads f inodes tells blocks at size bytes start (Some r) found has =
+    let it = found_part (IsPart (file_reading f inodes tells blocks) (at_root at) size bytes) start has.leaves r has.parts (sym (found has.leaves has.has.read)) in
+    (part_bytes (file_reading f inodes tells blocks) (at_root at) blocks size bytes r (λ block read. read) it.0, it.1)
 
 -- A cut
 
@@ -185,6 +199,6 @@ module _ (f g : Forest) (holds_f holds_g : ℕ → Option Fields) (tells_f tells
         sized = length-cut_to bytes size;
       }
 
-pub reads_ok : {E : Type 0} (f : Forest) (inodes : ℕ → Option Fields) (tells : Ref → Option Told) (blocks : Ref → Option Places) (at size : ℕ) (bytes : List ℕ) (start : ℕ) (result : Result (Option Ref) E) → IfOk result (λ o. (l : List Ref) → LeavesOf f at l → o ≡ find start l) → FileHas f inodes tells blocks at size bytes → IfOk result (IsBlockOf f inodes tells blocks at size bytes start)
+pub reads_ok : {E : Type 0} (f : Forest) (inodes : ℕ → Option Fields) (tells : Ref → Option Told) (blocks : Ref → Option Places) (at size : ℕ) (bytes : List ℕ) (start : ℕ) (result : Result (Option Ref) E) → IfOk result (λ o. (l : List Ref) → LeavesOf f at l → o ≡ find start l) → FileHas f inodes tells blocks at size bytes → IfOk result (IsBlockOf blocks size bytes start)
 reads_ok f inodes tells blocks at size bytes start (Ok o) found has = reads f inodes tells blocks at size bytes start o found has
 reads_ok f inodes tells blocks at size bytes start (Err e) found has = tt

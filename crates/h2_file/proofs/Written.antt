@@ -5,11 +5,9 @@ use Rattle.std.proofs.lemmas.Bool.{cases_lt}
 use Rattle.std.proofs.lemmas.Bool.Decides.{nat_tests}
 use Rattle.h2_num.specs.Places.{Places, places}
 use Rattle.h2_ref.specs.declared.reference.Ref.{Ref}
-use Rattle.h2_set.specs.Forest.{Forest}
 use Rattle.h2_set.specs.LeafLaws.{holds_inside}
 use Rattle.h2_set.specs.PathLaws.{in_holds}
 use Rattle.h2_set.specs.Ranges.{holds, NoneHolds}
-use Rattle.h2_inode.specs.Nodes.{Fields, Told}
 use Rattle.h2_contents.specs.Bytes.{written_at}
 use Rattle.h2_contents.specs.ByteLaws.{byte_written, length-written_at}
 use Rattle.h2_contents.specs.Windows.{laid}
@@ -27,10 +25,10 @@ place_in : (start k : ℕ) → k < 16384 → (16384 * (start / 16384) + k) / 163
 place_in start k lt = omega (arith, lt)
 
 -- what was found for a place
-pub read_whole : (f : Forest) (inodes : ℕ → Option Fields) (tells : Ref → Option Told) (blocks : Ref → Option Places) (at size : ℕ) (bytes : List ℕ) (start : ℕ) (found : Option Ref)
-    → IsBlockOf f inodes tells blocks at size bytes start found → ReadsBlock blocks bytes start found
-read_whole f inodes tells blocks at size bytes start None zeros = λ k lt. sym (zeros (16384 * (start / 16384) + k) (place_in start k lt))
-read_whole f inodes tells blocks at size bytes start (Some r) (part, in_r) =
+pub read_whole : (blocks : Ref → Option Places) (size : ℕ) (bytes : List ℕ) (start : ℕ) (found : Option Ref)
+    → IsBlockOf blocks size bytes start found → ReadsBlock blocks bytes start found
+read_whole blocks size bytes start None zeros = λ k lt. sym (zeros (16384 * (start / 16384) + k) (place_in start k lt))
+read_whole blocks size bytes start (Some r) (part, in_r) =
     let inside = holds_inside start r in_r in
     let long : 2 ^ r.keybits ≡ 16384 = ap (λ n. 2 ^ n) part.keybits_are in
     (own_block r.key start (2 ^ r.keybits) long part.aligned inside.0 inside.1, (part.block, part.read, part.bytes_are))

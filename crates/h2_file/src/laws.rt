@@ -1,8 +1,6 @@
 ghost use Rattle.std.specs.Prelude.{◌≡◌, ◌≤◌, ◌<◌, ◌+◌, ◌⊎◌, ℕ, List, Option, Some, length, slice_get, max};
 ghost use Rattle.h2_num.specs.Places.{Places};
 ghost use Rattle.h2_ref.specs.declared.reference.Ref.{Ref};
-ghost use Rattle.h2_set.specs.Forest.{Forest};
-ghost use Rattle.h2_inode.specs.Nodes.{Fields, Told};
 ghost use Rattle.h2_contents.specs.Bytes.{written_at};
 ghost use Rattle.h2_file.specs.declared.blocks.Touched.{Touched};
 ghost use Rattle.h2_file.specs.Touching.{IsEmbedded, IsTouched};
@@ -15,9 +13,8 @@ ghost use Rattle.h2_file.specs.Writing.{AreOfTouched, IsMerged, ReadsBlock};
 /// the blocks are what `link_blocks` asks for of the file with these bytes written: of no byte else a block is wanted.
 /// Of the bytes that leave the inode, none is lost.
 pub fn written_law()
-    ensures read { (f : Forest) (inodes : ℕ → Option Fields) (tells : Ref → Option Told)
-        (blocks : Ref → Option Places) (at size : ℕ) (bytes : List ℕ) (start : ℕ) (found : Option Ref)
-        → IsBlockOf f inodes tells blocks at size bytes start found → ReadsBlock blocks bytes start found }
+    ensures read { (blocks : Ref → Option Places) (size : ℕ) (bytes : List ℕ) (start : ℕ) (found : Option Ref)
+        → IsBlockOf blocks size bytes start found → ReadsBlock blocks bytes start found }
     ensures links { (blocks : Ref → Option Places) (t : Touched) (rs : List Ref) (bytes written : List ℕ) (off : ℕ)
         → 0 < length written → IsTouched (length bytes) off (length written) t
         → (IsEmbedded (max (length bytes) (off + length written)) → ⊥) → AreBlocks rs → AreOfTouched t rs

@@ -28,7 +28,7 @@ pub fn read_block<N: Nodes>(
     requires sound { IsSound (N.forest n.old) }
     requires file { IsFileOfRefs (N.forest n.old) (held_by N.fields (N.beside n.old)) inode.0 }
     ensures found { IfOk result (λ o. (l : List Ref) → LeavesOf (N.forest n.old) inode.0 l → o ≡ find start l) }
-    ensures contents { (blocks : Ref → Option Places) (size : ℕ) (bytes : List ℕ) → FileHas (N.forest n.old) (held_by N.fields (N.beside n.old)) (N.told n.old) blocks inode.0 size bytes → IfOk result (IsBlockOf (N.forest n.old) (held_by N.fields (N.beside n.old)) (N.told n.old) blocks inode.0 size bytes start) }
+    ensures contents { (blocks : Ref → Option Places) (size : ℕ) (bytes : List ℕ) → FileHas (N.forest n.old) (held_by N.fields (N.beside n.old)) (N.told n.old) blocks inode.0 size bytes → IfOk result (IsBlockOf blocks size bytes start) }
     ensures path { IfOk result (Reaches (N.forest n.new) start inode.0) }
     ensures walks { Walks (N.forest n.old) (N.forest n.new) }
     ensures touched { LoadsIn (N.forest n.old) (N.forest n.new) inode.0 start start }
