@@ -3,14 +3,18 @@ use Rattle.std.proofs.Common.{◌≡◌, ℕ, true, false, refl, sym, ◌∙◌,
 use Rattle.std.proofs.lemmas.Option.{none-some, same_Some}
 use Rattle.h2_ref.specs.declared.reference.Ref.{Ref}
 use Rattle.h2_set.specs.Ranges.{leads_on, Rising, limit, is_indirect}
-use Rattle.h2_set.specs.Forest.{Forest, refs, loaded, told, HasLeaves, done, one, near, far, LeavesOf, Reaches, nowhere, here, below}
+use Rattle.h2_set.specs.Forest.{Forest, refs, loaded, told, HasLeaves, done, one, near, far, LeavesOf, Reaches, nowhere, here, below, IsSound}
 use Rattle.h2_set.specs.Calls.{IsRenewed, AllRenewed, InPlace, Renews}
 use Rattle.h2_set.specs.PathLaws.{same_holds, renewed_at}
 use Rattle.h2_inode.specs.Access.{OneByOne}
 use Rattle.h2_inode.specs.Following.{SameLeaf}
 use Rattle.h2_inode.specs.ListLaws.{all_beside, rising_carried}
-use Rattle.h2_inode.specs.Nodes.{IsBare}
+use Rattle.h2_inode.specs.Nodes.{IsUnloaded, IsBare}
 use Rattle.h2_inode.specs.Others.{LeafRenewed, ListRenewed}
+
+-- of an inode that isn't loaded nothing is, in a sound forest
+pub unloaded_bare : (f : Forest) (c key : ℕ) → IsSound f → IsUnloaded f c key → IsBare f c key
+unloaded_bare f c key sound none m stands root belongs = let it = sound.inode m c key stands belongs in none it.inode it.named
 
 -- a leaf stays bare, where each root that stands stood, and belongs to what it belonged to
 pub bare_stays : (f g : Forest) (c key : ℕ) → ((m : ℕ) → g.stands m ≡ true → g.root m ≡ m → f.stands m ≡ true) → ((m : ℕ) → f.stands m ≡ true → g.stands m ≡ true → InPlace f g m) → IsBare f c key → IsBare g c key

@@ -3,7 +3,7 @@ use Rattle.std.specs.Prelude.{◌≡◌, ℕ, true, false, List, Option, Some}
 use Rattle.h2_num.specs.Places.{Places}
 use Rattle.h2_ref.specs.declared.reference.Ref.{Ref}
 use Rattle.h2_set.specs.RefSet.{RefSet}
-use Rattle.h2_set.specs.Forest.{Forest, LeavesOf, KeepsLeaves, Reaches, IsRootOf}
+use Rattle.h2_set.specs.Forest.{Forest, LeavesOf, KeepsLeaves, Reaches, IsRootOf, IsSound}
 use Rattle.h2_set.specs.Calls.{InPlace, names_node, IsRenewed}
 use Rattle.h2_set.specs.PathLaws.{PathRenewed}
 use Rattle.h2_inode.specs.declared.inode.Body.{Body}
@@ -90,12 +90,13 @@ over_change u v P Content = record {
 
 -- How trees are read that are renewed
 
--- The roots of which P holds have their trees renewed, and it holds of the roots that their leaves name. Of what their
--- leaves name nothing is loaded but below a root. What was told is told, and no leaf that names a node has a name told.
+-- The roots of which P holds have their trees renewed, and it holds of the roots that their leaves name. The forest before
+-- is sound, so that of an inode which isn't loaded nothing is. What was told is told, and no leaf that names a node has a
+-- name told.
 pub record RenewsTrees (u v : View) (P : ℕ → Type 0) : Type 0 where
   pub trees : (c : ℕ) → P c → RenewsTree u v c
   pub closed : (c key d : ℕ) → P c → IsRootOf u.forest c key d → P d
-  pub bare : (c key : ℕ) → P c → IsUnloaded u.forest c key → IsBare u.forest c key
+  pub sound : IsSound u.forest
   pub told : TellsOn u v
   pub name : (r : Ref) (name : List ℕ) → u.forest.name r ≡ Some name → v.forest.name r ≡ Some name
   pub plain : (r : Ref) (name : List ℕ) → u.forest.name r ≡ Some name → names_node r.kind ≡ false

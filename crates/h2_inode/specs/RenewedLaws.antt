@@ -15,7 +15,7 @@ use Rattle.h2_inode.specs.Following.{SameLeaf, SameBody, SameInode, Follows}
 use Rattle.h2_inode.specs.FollowLaws.{same_inode}
 use Rattle.h2_inode.specs.ListLaws.{behind, each_mapped, all_beside}
 use Rattle.h2_inode.specs.Loaded.{Tree, at_root, of_leaves, HasAsLeaves, IsTold, NamesInode, View, TellsOn, IsLeafOf}
-use Rattle.h2_inode.specs.BareLaws.{leaf_like}
+use Rattle.h2_inode.specs.BareLaws.{leaf_like, unloaded_bare}
 use Rattle.h2_inode.specs.Others.{body_with, with_set, LeafRenewed, RenewsTree, RenewsTrees, IsTreeOf, IsLeafRenewed, over_renewal}
 
 -- what was told of a leaf is told
@@ -93,7 +93,7 @@ module _ (u v : View) (P : ℕ → Type 0) (h : RenewsTrees u v P) (Content : Re
       )
   inode_on (at_root m) (at_root n) r s i b e (inr x) =
       let sim = e.1 in
-      let same = e.0.same (h.bare m r.key sim.1 x.0) in
+      let same = e.0.same (unloaded_bare u.forest m r.key h.sound x.0) in
       let g = tree_told r s i b same x.1 in
       let none = subst (λ k. IsUnloaded v.forest m k) (sym e.0.renewed.key) ((h.trees m sim.1).unloaded r.key x.0) in
       (i, b, subst (λ k. NamesInode v.forest v.holds v.tells (at_root k) s i b) (sym sim.0) (inr (none, g.0)), same_inode i, g.1)

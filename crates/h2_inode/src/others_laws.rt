@@ -1,9 +1,10 @@
 ghost use Rattle.std.specs.Prelude.{◌≡◌, ℕ, Bool, true, false, List, Option, Some};
 ghost use Rattle.h2_num.specs.Places.{Places};
 ghost use Rattle.h2_ref.specs.declared.reference.Ref.{Ref};
+ghost use Rattle.h2_set.specs.Forest.{Forest, IsSound};
 ghost use Rattle.h2_set.specs.Calls.{names_node};
 ghost use Rattle.h2_inode.specs.declared.inode.Inode.{Inode};
-ghost use Rattle.h2_inode.specs.Nodes.{IsBare};
+ghost use Rattle.h2_inode.specs.Nodes.{IsUnloaded, IsBare};
 ghost use Rattle.h2_inode.specs.Contents.{IsContents};
 ghost use Rattle.h2_inode.specs.Directory.{Entries, IsDirectory};
 ghost use Rattle.h2_inode.specs.Following.{Follows};
@@ -14,8 +15,9 @@ ghost use Rattle.h2_inode.specs.Others.{KeepsTree, RenewsTree, RenewsOthers, Kee
 /// inodes and indirect blocks. A tree that is kept is renewed, and both are so over changes one after the other. A
 /// renewed tree stands for the file's bytes and the directory's entries that it stood for. Where kept trees name no
 /// others, the reading after the change follows that before it, so that tables and forests stand for the same too. So
-/// it does where they are renewed. A leaf of a renewed tree of whose inode nothing was loaded is the very same after the
-/// change, and what was told of its inode is read of it then.
+/// it does where they are renewed. In a sound forest nothing is loaded of an inode whose root isn't. A leaf of a renewed
+/// tree of whose inode nothing was loaded is the very same after the change, and what was told of its inode is read of
+/// it then.
 pub fn others_law()
     ensures kept { (u v w : View) (c : ℕ) → KeepsTree u v c → KeepsTree v w c → KeepsTree u w c }
     ensures renewed { (u v w : View) (c : ℕ) → RenewsTree u v c → RenewsTree v w c → RenewsTree u w c }
@@ -28,6 +30,7 @@ pub fn others_law()
         → ((r : Ref) (name : List ℕ) → u.forest.name r ≡ Some name → v.forest.name r ≡ Some name)
         → IsDirectory (reading u no_content) (λ target number. may target number ≡ true) (at_root c) size entries
         → IsDirectory (reading v no_content) (λ target number. may target number ≡ true) (at_root c) size entries }
+    ensures bare { (f : Forest) (c key : ℕ) → IsSound f → IsUnloaded f c key → IsBare f c key }
     ensures unloaded { (u v : View) (c : ℕ) (r : Ref) (i : Inode) (t : Tree) → RenewsTree u v c → TellsOn u v
         → IsBare u.forest c r.key → IsLeafOf u (at_root c) r
         → NamesInode u.forest u.holds u.tells (at_root c) r i t

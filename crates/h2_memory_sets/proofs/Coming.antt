@@ -1,12 +1,13 @@
 -- A root that is loaded, or new.
-use Rattle.std.proofs.Common.{◌≡◌, ℕ, ◌+◌, ◌%◌, ◌<◌, ◌≤◌, ◌^◌, Bool, true, false, ◌&&◌, arith, refl, cond, sym, ◌∙◌, ap, List, [], ◌∷◌, Option, Some, None, subst, ◌⊎◌, inl, inr, slice_get, suc}
+use Rattle.std.proofs.Common.{◌≡◌, ℕ, ◌+◌, ◌%◌, ◌<◌, ◌≤◌, ◌^◌, Bool, true, false, ◌&&◌, ◌||◌, arith, refl, cond, sym, ◌∙◌, ap, List, [], ◌∷◌, Option, Some, None, subst, ◌⊎◌, inl, inr, slice_get, suc}
 use Rattle.std.specs.List.{position}
+use Rattle.std.proofs.lemmas.Bool.{or_cases}
 use Rattle.h2_ref.specs.declared.faults.Why.{Why}
 use Rattle.h2_ref.specs.declared.reference.Kind.TheVariants.{Inode}
 use Rattle.h2_ref.specs.declared.reference.Ref.{Ref}
 use Rattle.h2_set.specs.Ranges.{Rising, limit}
 use Rattle.h2_set.specs.RefSet.{RefSet, IsRefSet}
-use Rattle.h2_set.specs.Forest.{Forest, refs, loaded, untold, IsSound, IsSoundNode, HasParent, HasOwner, Reaches}
+use Rattle.h2_set.specs.Forest.{Forest, refs, loaded, untold, IsSound, IsSoundNode, HasParent, HasOwner, IsOfInode, Reaches}
 use Rattle.h2_set.specs.Calls.{Same}
 use Rattle.h2_set.specs.ChangeLaws.{same_or_not}
 use Rattle.h2_set.specs.PathLaws.{reaches_stay}
@@ -15,8 +16,11 @@ use Rattle.h2_inode.specs.NodeLaws.{same_stays}
 use Rattle.h2_inode.specs.Nodes.{Brings}
 use Rattle.h2_memory_sets.specs.declared.node.Node.{Node}
 use Rattle.h2_memory_sets.proofs.Chains.{belongs_trans}
-use Rattle.h2_memory_sets.proofs.Owned.{AreLower}
-use Rattle.h2_memory_sets.specs.Owners.{belongs_to, allows_of, held_of}
+use Rattle.h2_memory_sets.proofs.Named.{named_by, self_owner}
+use Rattle.h2_memory_sets.proofs.OfInode.{placed_owned, of_inode_stays}
+use Rattle.h2_memory_sets.proofs.Owned.{AreLower, belongs_step, belongs_none, owner_is, or_first, or_second}
+use Rattle.h2_memory_sets.specs.declared.node.Owner.{Owner}
+use Rattle.h2_memory_sets.specs.Owners.{owner_of, is_owner, belongs_to, allows_of, held_of}
 use Rattle.h2_memory_sets.specs.View.{stands_of, set_of, root_of, low_of, bits_of, writable_of, copies_of, leaf_bits_of, is_child, link_of, forest_with, FitsBelow, range_of}
 
 -- where the second vector is the first but for node c, which is a root that stands there alone
@@ -273,6 +277,42 @@ module _ (xs ys : List Node) (c : ℕ) (y : Node) (spare spare' epoch room faile
     | inr was ↦ old_owner m t k was (sound.owner m t k was (sym ((same m was).place.belongs t k) ∙ b))
   ]
 
+  -- what belonged to a leaf stands with the root of its inode
+  old_inode : (m t k : ℕ) → f.stands m ≡ true → f.belongs m t k ≡ true → IsOfInode g m t k
+  old_inode m t k st b =
+      let it = sound.inode m t k st b in
+      let above = (sound.owner m t k st b).stands in
+      let here = (same it.inode it.named.stands).place in
+      of_inode_stays f g m t k (placed_owned f g m (same m st).place) (placed_owned f g t (same t above).place) it here.stands (placed_owned f g it.inode here)
+
+  -- the root that came is that of its owner's inode, and belongs to all that the owner's tree belongs to
+  owner_inode : AreLower ys → (t k : ℕ) → belongs_to ys c t k ≡ true → (o : Owner) → owner_of (slice_get ys c) ≡ Some o → HasPath f o.root o.key → IsOfInode g c t k
+  owner_inode low t k b o e it =
+      let top_own : g.root o.root ≡ o.root = (same o.root it.stands).place.root ∙ it.root in
+      let to_c : (u j : ℕ) → (is_owner u j o || belongs_to ys o.root u j) ≡ true → g.belongs c u j ≡ true = λ u j is. ap (λ q. belongs_to ys q u j) root ∙ belongs_step ys low c u j o e ∙ is in
+      elim (or_cases (is_owner t k o) (belongs_to ys o.root t k) (sym (belongs_step ys low c t k o e) ∙ b)) as (λ _. IsOfInode g c t k) [
+        | inl is ↦
+            let at = owner_is t k o is in
+            subst (λ z. IsOfInode g c z k) at.0 (subst (λ z. IsOfInode g c o.root z) at.1 (record { inode = c; named = named_by ys spare' epoch room failed' bad' met' low o.root o.key c e stands root top_own; within = inl root }))
+        | inr above ↦
+            let now = old_inode o.root t k it.stands (sym (h.belongs o.root t k it.stands) ∙ ap (λ q. belongs_to ys q t k) it.root ∙ above) in
+            record {
+              inode = now.inode;
+              named = now.named;
+              within = inr (elim now.within as (λ _. (j : ℕ) × (g.belongs c now.inode j ≡ true)) [
+                | inl own ↦ (o.key, subst (λ z. g.belongs c z o.key ≡ true) (sym top_own ∙ own) (to_c o.root o.key (or_first (is_owner o.root o.key o) _ (self_owner o.root o.key))))
+                | inr w ↦ (w.0, to_c now.inode w.0 (or_second (is_owner now.inode w.0 o) _ (sym (ap (λ q. belongs_to ys q now.inode w.0) top_own) ∙ w.1)))
+              ]);
+            }
+      ]
+
+  new_inode : AreLower ys → ((t k : ℕ) → belongs_to ys c t k ≡ true → HasPath f t k) → (t k : ℕ) → belongs_to ys c t k ≡ true → IsOfInode g c t k
+  new_inode low owned t k b = go (owner_of (slice_get ys c)) refl
+    where
+      go : (o : Option Owner) → owner_of (slice_get ys c) ≡ o → IsOfInode g c t k
+      go None e = let clash : true ≡ false = sym b ∙ belongs_none ys c t k e in absurd (cc)
+      go (Some o) e = owner_inode low t k b o e (owned o.root o.key (belongs_step ys low c o.root o.key o e ∙ or_first (is_owner o.root o.key o) _ (self_owner o.root o.key)))
+
   pub sound_now : AreLower ys → IsFitRoot y → ((t k : ℕ) → belongs_to ys c t k ≡ true → HasPath f t k) → IsSound g
   sound_now low fit owned = record {
     node = λ m st. elim (new m st) as (λ _. IsSoundNode g m) [
@@ -286,6 +326,10 @@ module _ (xs ys : List Node) (c : ℕ) (y : Node) (spare spare' epoch room faile
     top = top_of;
     parent = parent_of;
     owner = owner_of_new owned;
+    inode = λ m t k st b. elim (new m st) as (λ _. IsOfInode g m t k) [
+      | inl e ↦ subst (λ z. IsOfInode g z t k) (sym e) (new_inode low owned t k (sym (ap (λ q. belongs_to ys q t k) root) ∙ subst (λ z. g.belongs z t k ≡ true) e b))
+      | inr was ↦ old_inode m t k was (sym ((same m was).place.belongs t k) ∙ b)
+    ];
     chain = λ m t k u j st b b'.
         let own : g.root t ≡ t = (owner_of_new owned m t k st b).root in
         belongs_trans ys low (g.root m) t k u j b (sym (ap (λ q. belongs_to ys q u j) own) ∙ b');

@@ -18,6 +18,7 @@ use Rattle.h2_memory_sets.specs.Roots.{HoldsRoot}
 use Rattle.h2_memory_sets.specs.View.{stands_of, set_of, root_of, low_of, bits_of, writable_of, copies_of, leaf_bits_of, is_child, is_top, link_of, forest_with, Block, block, AllRooted}
 use Rattle.h2_memory_sets.proofs.Keeping.{CameFrom, IsPlain, kept_from}
 use Rattle.h2_memory_sets.proofs.Nodes.{belongs_still, field_stays, get_set, get_set_other, position_same}
+use Rattle.h2_memory_sets.proofs.OfInode.{IsOwnedAsBefore, of_inode_stays}
 use Rattle.h2_memory_sets.proofs.Parting.{one_of}
 use Rattle.h2_memory_sets.proofs.Rooting.{still_sound}
 
@@ -93,6 +94,9 @@ module _ (xs : List Node) (at : ℕ) (x : Node) (b : Bool) (read : slice_get xs 
   held_off : (m : ℕ) → (m ≡ at → ⊥) → g.held m ≡ f.held m
   held_off m ne = ap held_of (get_set_other xs at m (with_held b x) ne)
 
+  as_before : (m : ℕ) → IsOwnedAsBefore f g m
+  as_before m = record { root = field root_of refl m; belongs = belongs m }
+
   sound_now : IsSound f → f.stands at ≡ true → f.root at ≡ at → IsSound g
   sound_now sound st own = record {
     node = λ m now. still_sound f g m (λ n was _. let s = same n was in record { root = s.place.root; low = s.place.low; bits = s.place.bits; set = s.set; writable = s.writable; copies = s.copies }) (stood m now) now
@@ -123,6 +127,9 @@ module _ (xs : List Node) (at : ℕ) (x : Node) (b : Bool) (read : slice_get xs 
           kind_is = h.kind_is;
           path = reaches_stay f g (λ n. f.stands n ≡ true) (stands_below f sound) (λ n old. same_stays f g n (same n old)) h.stands h.path;
         };
+    inode = λ m t k now bel.
+        let it = sound.inode m t k (stood m now) (sym (belongs m t k) ∙ bel) in
+        of_inode_stays f g m t k (as_before m) (as_before t) it (same it.inode it.named.stands).place.stands (as_before it.inode);
     chain = λ m t k u j now a b'. belongs m u j ∙ sound.chain m t k u j (stood m now) (sym (belongs m t k) ∙ a) (sym (belongs t u j) ∙ b');
     epoch = sound.epoch;
   }

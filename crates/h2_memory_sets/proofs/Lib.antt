@@ -1,5 +1,6 @@
 pub mod Lists
 pub mod Owned
+pub mod OfInode
 pub mod Named
 pub mod Coming
 pub mod Arriving

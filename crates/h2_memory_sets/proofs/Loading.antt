@@ -231,7 +231,7 @@ module _ (f g : Forest) (at c i : ℕ) (r : Ref) (d : DiffersByLoad f g at c r) 
   came : (m : ℕ) → g.stands m ≡ true → CameOf f g d.settled.loose m
   came m st = elim (same_or_not m c) as (λ _. CameOf f g d.settled.loose m) [
     | inr ne ↦ stood (d.stands m ne st)
-    | inl e ↦ like at stands (stays at stands) (λ t k. ap (λ z. g.belongs z t k) e ∙ d.belongs t k ∙ sym ((place at stands).belongs t k))
+    | inl e ↦ like at stands (stays at stands) (ap g.root e ∙ d.root ∙ sym (place at stands).root) (λ t k. ap (λ z. g.belongs z t k) e ∙ d.belongs t k ∙ sym ((place at stands).belongs t k))
   ]
 
   pub walks : Walks f g

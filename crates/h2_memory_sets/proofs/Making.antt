@@ -286,7 +286,7 @@ module _ (f : Forest) (at : ℕ) (set : RefSet) (s : Split) (ref leaf : Ref) (so
     came_of : (m : ℕ) → g.stands m ≡ true → CameOf f g d.settled.loose m
     came_of m st = elim (same_or_not m c) as (λ _. CameOf f g d.settled.loose m) [
       | inr ne ↦ stood_in (d.stands m ne st)
-      | inl e ↦ like at stands (stays at stands) (λ t k. ap (λ z. g.belongs z t k) e ∙ d.belongs t k ∙ sym ((place at stands).belongs t k))
+      | inl e ↦ like at stands (stays at stands) (ap g.root e ∙ d.root ∙ sym (place at stands).root) (λ t k. ap (λ z. g.belongs z t k) e ∙ d.belongs t k ∙ sym ((place at stands).belongs t k))
     ]
 
     pub makes : Makes f g at c set s

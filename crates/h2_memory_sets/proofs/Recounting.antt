@@ -18,6 +18,7 @@ use Rattle.h2_memory_sets.specs.Kept.{AreKept}
 use Rattle.h2_memory_sets.proofs.Keeping.{kept_map}
 use Rattle.h2_memory_sets.proofs.Nesting.{LiesIn, Link, meet, link_of as link_at, clash, few_bits, one_range, leads_to}
 use Rattle.h2_memory_sets.proofs.Nodes.{belongs_still, position_same, is_there}
+use Rattle.h2_memory_sets.proofs.OfInode.{IsOwnedAsBefore, of_inode_stays}
 use Rattle.h2_memory_sets.proofs.Parting.{alike, one_of, item_at, get_map}
 use Rattle.h2_memory_sets.proofs.Passing.{and_parts}
 use Rattle.h2_memory_sets.proofs.Paths.{owner_same}
@@ -361,6 +362,9 @@ module _ (xs : List Node) (new : Node → Bool) (spare epoch room failed bad : �
         (rw (counted m x.0 x.1, bits_same m) (falls 63 m x.0 st x.1 (omega arith)))
         node
 
+    as_before : (m : ℕ) → IsOwnedAsBefore f g m
+    as_before m = record { root = root_same m; belongs = belongs_same_at m }
+
     pub still : IsSound g
     still = record {
       node = λ m now. sound_node m (sym (stands_same m) ∙ now);
@@ -374,6 +378,9 @@ module _ (xs : List Node) (new : Node → Bool) (spare epoch room failed bad : �
           let h = sound.parent m (sym (stands_same m) ∙ now) (λ e. off (root_same m ∙ e)) in
           record { parent = h.parent; stands = stands_same h.parent ∙ h.stands; link = ap (g.link h.parent) (low_same m) ∙ link_same h.parent (f.low m) ∙ h.link };
       owner = λ m t k st b. owner_same f g sound (λ n was. ap (λ (t : RefSet). t.refs) (set_same n)) (λ n j was. link_same n j) stands_same root_same m t k (sym (stands_same m) ∙ st) (sym (belongs_same_at m t k) ∙ b);
+      inode = λ m t k st b.
+          let it = sound.inode m t k (sym (stands_same m) ∙ st) (sym (belongs_same_at m t k) ∙ b) in
+          of_inode_stays f g m t k (as_before m) (as_before t) it (stands_same it.inode ∙ it.named.stands) (as_before it.inode);
       chain = λ m t k u j now b b'. belongs_same_at m u j ∙ sound.chain m t k u j (sym (stands_same m) ∙ now) (sym (belongs_same_at m t k) ∙ b) (sym (belongs_same_at t u j) ∙ b');
       epoch = epoch_fits;
     }

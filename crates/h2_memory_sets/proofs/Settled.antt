@@ -1,13 +1,14 @@
 -- Nodes that stay where they are while something else of the forest changes.
-use Rattle.std.proofs.Common.{◌≡◌, ℕ, ◌+◌, ◌<◌, ◌≤◌, ◌^◌, true, sym, ◌∙◌, ap, length, Some, subst, slice_get}
+use Rattle.std.proofs.Common.{◌≡◌, ℕ, ◌+◌, ◌<◌, ◌≤◌, ◌^◌, true, sym, ◌∙◌, ap, length, Some, subst, inl, inr, slice_get}
 use Rattle.h2_ref.specs.declared.reference.Ref.{Ref}
 use Rattle.h2_set.specs.Ranges.{Rising, is_indirect}
 use Rattle.h2_set.specs.RefSet.{RefSet, IsRefSet}
-use Rattle.h2_set.specs.Forest.{Forest, refs, loaded, IsChild, IsSoundNode, IsSound, Fits, NamesBelow, HasParent, HasOwner, Reaches}
+use Rattle.h2_set.specs.Forest.{Forest, refs, loaded, IsChild, IsSoundNode, IsSound, Fits, NamesBelow, HasParent, HasOwner, IsOfInode, Reaches}
 use Rattle.h2_set.specs.Calls.{Fixed, InPlace, Stays, Keeps, Same, Alike, ReadiesOnly, Unchanged}
 use Rattle.h2_set.specs.StayLaws.{Alike-refl, stands_below}
 use Rattle.h2_set.specs.ChangeLaws.{Keeps-Stays}
 use Rattle.h2_set.specs.PathLaws.{reaches_stay}
+use Rattle.h2_memory_sets.proofs.OfInode.{placed_owned, of_inode_stays, of_inode_like}
 
 -- every node that stands in both forests stays in its place, as writable as it was
 pub record Loose (f g : Forest) : Type 0 where
@@ -141,10 +142,10 @@ module _ (f g : Forest) (s : Loose f g) where
     path = path;
   }
 
-  -- where a node came from: it stood, or it belongs to what one does that stands before and after
+  -- where a node came from: it stood, or it is in the tree of one that stands before and after, and belongs to what that does
   pub data CameOf (m : ℕ) : Type 0 where
     stood : f.stands m ≡ true → CameOf m
-    like : (n : ℕ) → f.stands n ≡ true → g.stands n ≡ true → ((t k : ℕ) → g.belongs m t k ≡ g.belongs n t k) → CameOf m
+    like : (n : ℕ) → f.stands n ≡ true → g.stands n ≡ true → g.root m ≡ g.root n → ((t k : ℕ) → g.belongs m t k ≡ g.belongs n t k) → CameOf m
 
   -- what belongs to a leaf belongs to all that the leaf's tree belongs to
   chain_old : IsSound f → ((m t k : ℕ) → g.stands m ≡ true → g.belongs m t k ≡ true → HasOwner g m t k) → (m t k u j : ℕ) → f.stands m ≡ true → g.stands m ≡ true → g.belongs m t k ≡ true → g.belongs t u j ≡ true → g.belongs m u j ≡ true
@@ -157,7 +158,24 @@ module _ (f g : Forest) (s : Loose f g) where
 
   chain_in : IsSound f → ((m t k : ℕ) → g.stands m ≡ true → g.belongs m t k ≡ true → HasOwner g m t k) → (m t k u j : ℕ) → CameOf m → g.stands m ≡ true → g.belongs m t k ≡ true → g.belongs t u j ≡ true → g.belongs m u j ≡ true
   chain_in sound owner m t k u j (stood st) now b b' = chain_old sound owner m t k u j st now b b'
-  chain_in sound owner m t k u j (like n st there same) now b b' = same u j ∙ chain_old sound owner n t k u j st there (sym (same t k) ∙ b) b'
+  chain_in sound owner m t k u j (like n st there root same) now b b' = same u j ∙ chain_old sound owner n t k u j st there (sym (same t k) ∙ b) b'
+
+  -- what belongs to a leaf stands with the root of its inode
+  inode_old : IsSound f → ((m : ℕ) → g.stands m ≡ true → (g.stands (g.root m) ≡ true) × (g.root (g.root m) ≡ g.root m)) → ((m t k : ℕ) → g.stands m ≡ true → g.belongs m t k ≡ true → HasOwner g m t k) → (m t k : ℕ) → f.stands m ≡ true → g.stands m ≡ true → g.belongs m t k ≡ true → IsOfInode g m t k
+  inode_old sound top owner m t k st now b =
+      let p = s.place m st now in
+      let was : f.belongs m t k ≡ true = sym (p.belongs t k) ∙ b in
+      let above = s.place t (sound.owner m t k st was).stands (owner m t k now b).stands in
+      let it = sound.inode m t k st was in
+      let there : g.stands it.inode ≡ true = elim it.within as (λ _. g.stands it.inode ≡ true) [
+        | inl e ↦ subst (λ n. g.stands n ≡ true) (p.root ∙ e) (top m now).0
+        | inr w ↦ (owner m it.inode w.0 now (p.belongs it.inode w.0 ∙ w.1)).stands
+      ] in
+      of_inode_stays f g m t k (placed_owned f g m p) (placed_owned f g t above) it there (placed_owned f g it.inode (s.place it.inode it.named.stands there))
+
+  inode_in : IsSound f → ((m : ℕ) → g.stands m ≡ true → (g.stands (g.root m) ≡ true) × (g.root (g.root m) ≡ g.root m)) → ((m t k : ℕ) → g.stands m ≡ true → g.belongs m t k ≡ true → HasOwner g m t k) → (m t k : ℕ) → CameOf m → g.stands m ≡ true → g.belongs m t k ≡ true → IsOfInode g m t k
+  inode_in sound top owner m t k (stood st) now b = inode_old sound top owner m t k st now b
+  inode_in sound top owner m t k (like n st there root same) now b = of_inode_like g m n t k root same (inode_old sound top owner n t k st there (sym (same t k) ∙ b))
 
   -- a forest whose nodes are sound and hang together
   pub sound_of : IsSound f → ((m : ℕ) → g.stands m ≡ true → IsSoundNode g m) → ((m : ℕ) → g.stands m ≡ true → (g.stands (g.root m) ≡ true) × (g.root (g.root m) ≡ g.root m)) → ((m : ℕ) → g.stands m ≡ true → (g.root m ≡ m → ⊥) → HasParent g m) → ((m : ℕ) → f.held m ≡ true → g.stands m ≡ true) → ((m t k : ℕ) → g.stands m ≡ true → g.belongs m t k ≡ true → HasOwner g m t k) → ((m : ℕ) → g.stands m ≡ true → CameOf m) → IsSound g
@@ -171,6 +189,7 @@ module _ (f g : Forest) (s : Loose f g) where
     top = top;
     parent = parent;
     owner = owner;
+    inode = λ m t k now b. inode_in sound top owner m t k (came m now) now b;
     chain = λ m t k u j now b b'. chain_in sound owner m t k u j (came m now) now b b';
     epoch = rw s.epoch sound.epoch;
   }

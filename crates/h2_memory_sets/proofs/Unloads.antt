@@ -220,6 +220,7 @@ module _ (xs : List Node) (from spare epoch room failed bad : ℕ) (met : Option
           (ap g.stands root ∙ now, ap g.root root ∙ field root_of (λ x. refl) (f.root m) ∙ t.1 ∙ sym root);
       parent = λ m st off. kept_parent rooted sound m (stood from xs m st) st (λ e. off (field root_of (λ x. refl) m ∙ e));
       owner = λ m t k st b. let clash : true ≡ false = sym b ∙ belongs_same_at m t k ∙ unnamed sound m t k (stood from xs m st) in absurd (cc);
+      inode = λ m t k st b. let clash : true ≡ false = sym b ∙ belongs_same_at m t k ∙ unnamed sound m t k (stood from xs m st) in absurd (cc);
       chain = λ m t k u j now b b'. belongs_same_at m u j ∙ sound.chain m t k u j (stood from xs m now) (sym (belongs_same_at m t k) ∙ b) (sym (belongs_same_at t u j) ∙ b');
       epoch = sound.epoch;
     };

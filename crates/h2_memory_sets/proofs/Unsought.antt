@@ -230,6 +230,7 @@ module _ (xs : List Node) (spare epoch room failed bad : ℕ) (met : Option (ℕ
         let there = is_still p.parent p.stands (ap (λ z. owner_of (slice_get xs z)) (sym kid.root) ∙ (stands_is m now).1) in
         record { parent = p.parent; stands = there; link = ap (g.link p.parent) (field low_of (λ x. refl) m) ∙ link_same p.parent (f.low m) there ∙ p.link };
     owner = λ m t k now b. let clash : true ≡ false = sym b ∙ belongs_same_at m t k ∙ none_belongs m t k now in absurd (cc);
+    inode = λ m t k now b. let clash : true ≡ false = sym b ∙ belongs_same_at m t k ∙ none_belongs m t k now in absurd (cc);
     chain = λ m t k u j now b b'. belongs_same_at m u j ∙ sound.chain m t k u j (stood m now) (sym (belongs_same_at m t k) ∙ b) (sym (belongs_same_at t u j) ∙ b');
     epoch = sound.epoch;
   }

@@ -142,6 +142,21 @@ pub record HasOwner (f : Forest) (m top key : ℕ) : Type 0 where
   pub kind_is : leaf.kind ≡ Inode
   pub path : Reaches f key top (Some leaf)
 
+-- Root c is that of the inode which the leaf with this key names in the tree of root top: it belongs to that leaf, to
+-- all that the tree of top belongs to, and to nothing else.
+pub record IsRootOf (f : Forest) (top key c : ℕ) : Type 0 where
+  pub stands : f.stands c ≡ true
+  pub root : f.root c ≡ c
+  pub belongs : (t k : ℕ) → (f.belongs c t k ≡ true) ↔ (((t ≡ top) × (k ≡ key)) ⊎ (f.belongs top t k ≡ true))
+
+-- what belongs to a leaf stands with the root of its inode
+pub record IsOfInode (f : Forest) (m top key : ℕ) : Type 0 where
+  -- the root
+  pub inode : ℕ
+  pub named : IsRootOf f top key inode
+  -- node m is in its tree, or belongs to a leaf of it
+  pub within : (f.root m ≡ inode) ⊎ ((j : ℕ) × (f.belongs m inode j ≡ true))
+
 -- node m is loaded right below a node that stands
 pub record HasParent (f : Forest) (m : ℕ) : Type 0 where
   pub parent : ℕ
@@ -157,14 +172,8 @@ pub record IsSound (f : Forest) : Type 0 where
   pub top : (m : ℕ) → f.stands m ≡ true → (f.stands (f.root m) ≡ true) × (f.root (f.root m) ≡ f.root m)
   pub parent : (m : ℕ) → f.stands m ≡ true → (f.root m ≡ m → ⊥) → HasParent f m
   pub owner : (m top key : ℕ) → f.stands m ≡ true → f.belongs m top key ≡ true → HasOwner f m top key
+  pub inode : (m top key : ℕ) → f.stands m ≡ true → f.belongs m top key ≡ true → IsOfInode f m top key
   -- and to all that the leaf's own tree belongs to
   pub chain : (m t k u j : ℕ) → f.stands m ≡ true → f.belongs m t k ≡ true → f.belongs t u j ≡ true → f.belongs m u j ≡ true
   -- the epoch is the number of a checkpoint, so that what is new can be written
   pub epoch : (1 ≤ f.epoch) × (f.epoch ≤ 2 ^ 62)
-
--- Root c is that of the inode which the leaf with this key names in the tree of root top: it belongs to that leaf, to
--- all that the tree of top belongs to, and to nothing else.
-pub record IsRootOf (f : Forest) (top key c : ℕ) : Type 0 where
-  pub stands : f.stands c ≡ true
-  pub root : f.root c ≡ c
-  pub belongs : (t k : ℕ) → (f.belongs c t k ≡ true) ↔ (((t ≡ top) × (k ≡ key)) ⊎ (f.belongs top t k ≡ true))

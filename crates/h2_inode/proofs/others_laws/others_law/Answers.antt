@@ -1,5 +1,6 @@
 use Rattle.std.specs.Prelude.{◌≡◌, true, Some}
 use Rattle.h2_inode.specs.Loaded.{no_content}
+use Rattle.h2_inode.specs.BareLaws.{unloaded_bare}
 use Rattle.h2_inode.specs.OthersLaws.{KeepsTree-trans, RenewsTree-trans, RenewsOthers-trans, keeps_renews, contents_renewed, directory_renewed, kept_follow}
 use Rattle.h2_inode.specs.RenewedLaws.{unloaded_renewed, renewed_follow}
 use Rattle.h2_inode.proofs.others_laws.others_law.Goals as goal
@@ -21,6 +22,9 @@ returns-clause-contents c = λ u v block at size bytes h. contents_renewed u v a
 
 pub returns-clause-directories : goal.returns-clause-directories
 returns-clause-directories c = λ u v may at size entries h names. directory_renewed u v at h no_content (λ target number. may target number ≡ true) names size entries
+
+pub returns-clause-bare : goal.returns-clause-bare
+returns-clause-bare c = unloaded_bare
 
 pub returns-clause-unloaded : goal.returns-clause-unloaded
 returns-clause-unloaded c = unloaded_renewed
