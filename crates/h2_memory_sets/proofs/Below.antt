@@ -1,22 +1,20 @@
 -- Which blocks lie below a node that is made.
-use Rattle.std.proofs.Common.{◌≡◌, ℕ, ◌+◌, ◌<◌, ◌≤◌, ◌^◌, Bool, true, false, ◌&&◌, arith, refl, cond, sym, ◌∙◌, ap, List, [], ◌∷◌, ◌++◌, length, Option, Some, None, subst, inl, inr, slice_get, slice_set, suc, zero, nat_lt, nat_le, nat_eq, map}
+use Rattle.std.proofs.Common.{◌≡◌, ℕ, ◌+◌, ◌<◌, ◌≤◌, ◌^◌, Bool, true, false, ◌&&◌, arith, refl, cond, sym, ◌∙◌, ap, List, length, Option, Some, None, slice_get, nat_lt, nat_le, nat_eq, map}
 use Rattle.std.proofs.lemmas.Bool.Decides.{nat_tests}
 use Rattle.std.proofs.lemmas.List.{length-map, length-append}
-use Rattle.std.proofs.lemmas.Option.{none-some}
 use Rattle.h2_ref.specs.declared.faults.Why.{Why}
 use Rattle.h2_ref.specs.declared.reference.Ref.{Ref}
 use Rattle.h2_set.specs.declared.set.Split.{Split}
 use Rattle.h2_set.specs.Ranges.{holds}
 use Rattle.h2_set.specs.RefSet.{RefSet}
-use Rattle.h2_set.specs.Forest.{IsSound, loaded}
-use Rattle.h2_set.specs.ChangeLaws.{same_or_not}
+use Rattle.h2_set.specs.Forest.{IsSound}
 use Rattle.h2_memory_sets.specs.declared.node.Node.{Node}
 use Rattle.h2_memory_sets.specs.Kept.{AreKept}
-use Rattle.h2_memory_sets.specs.Plans.{LiesIn, MakesBlock, refit_block, block_below}
-use Rattle.h2_memory_sets.specs.View.{Block, block, stands_of, root_of, is_top, is_bare, forest_with, moved, moved_up, new_node, parted, with_set, AllRooted}
+use Rattle.h2_memory_sets.specs.Plans.{MakesBlock, refit_block, block_below}
+use Rattle.h2_memory_sets.specs.View.{Block, block, stands_of, forest_with, moved_up, parted, with_set, AllRooted}
 use Rattle.h2_memory_sets.proofs.Gone.{node_at}
 use Rattle.h2_memory_sets.proofs.Hinted.{above_is}
-use Rattle.h2_memory_sets.proofs.Parting.{unlike, alike, one_of, get_map, at_new, at_here, at_other, front_length}
+use Rattle.h2_memory_sets.proofs.Parting.{alike, one_of, get_map, at_new, at_here, at_other, front_length}
 use Rattle.h2_memory_sets.proofs.Passing.{and_parts}
 
 -- what is above a node that lies elsewhere stays

@@ -1,5 +1,5 @@
 -- Which blocks are lost once a node has another set, and which stay.
-use Rattle.std.proofs.Common.{◌≡◌, ℕ, ◌<◌, Bool, true, false, ◌&&◌, ◌||◌, arith, refl, cond, sym, ◌∙◌, ap, List, ◌∷◌, [], length, Option, Some, None, subst, ◌⊎◌, inl, inr, slice_get, slice_set, suc, zero, nat_eq, nat_lt, map}
+use Rattle.std.proofs.Common.{◌≡◌, ℕ, ◌<◌, Bool, true, ◌||◌, arith, refl, cond, sym, ◌∙◌, ap, List, ◌∷◌, [], Option, Some, subst, inl, inr, slice_get, slice_set, suc, zero, nat_eq, nat_lt, map}
 use Rattle.std.proofs.Math.ListN.{length-set}
 use Rattle.std.proofs.lemmas.Bool.{or_cases, or_left, or_right}
 use Rattle.std.proofs.lemmas.Bool.Decides.{nat_tests}
@@ -14,7 +14,7 @@ use Rattle.h2_memory_sets.specs.declared.node.Node.{Node}
 use Rattle.h2_memory_sets.specs.Kept.{AreKept}
 use Rattle.h2_memory_sets.specs.Owners.{is_owner, belongs_to}
 use Rattle.h2_memory_sets.specs.Plans.{Goes, below, owned, GivesBlock, lost_block}
-use Rattle.h2_memory_sets.specs.View.{Block, block, root_of, low_of, bits_of, forest_with, loses, goes, is_lost, goes_with, lost, dropped_all}
+use Rattle.h2_memory_sets.specs.View.{Block, block, root_of, low_of, forest_with, loses, goes, is_lost, goes_with, lost, dropped_all}
 use Rattle.h2_memory_sets.proofs.Drops.{given, goes_of, dropped_with, going, at_here, read_other, not_at, stays_read, loses_is, is_losing, own_stays}
 use Rattle.h2_memory_sets.proofs.Owned.{chain_found, owner_is}
 use Rattle.h2_memory_sets.proofs.Parting.{alike, one_of, get_map}

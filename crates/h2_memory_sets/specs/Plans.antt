@@ -1,5 +1,5 @@
 -- What one call of the traits does to what is planned, and to the blocks of all nodes, loaded or not.
-use Rattle.std.specs.Prelude.{◌≡◌, ◌<◌, ◌≤◌, ◌+◌, ◌-◌, ◌^◌, ℕ, true, List, length, Option, Some, None, Result, Ok, Err, slice_get}
+use Rattle.std.specs.Prelude.{◌≡◌, ◌<◌, ◌≤◌, ◌+◌, ◌-◌, ◌^◌, ℕ, true, List, length, Some, None, Result, Ok, Err, slice_get}
 use Rattle.h2_num.specs.Causes.{one_more}
 use Rattle.h2_ref.specs.declared.faults.Trouble.{Trouble}
 use Rattle.h2_ref.specs.declared.faults.Trouble.TheVariants.{Failed, Bad, NoMemory}
