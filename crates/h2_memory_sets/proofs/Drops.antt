@@ -100,7 +100,7 @@ module _ (xs : List Node) (at : ℕ) (x y : Node) (s : RefSet) (inode : Option I
       go false b e = refl
       go true true e = absurd (cc)
 
-  not_at : (m : ℕ) → going m ≡ true → m ≡ at → ⊥
+  pub not_at : (m : ℕ) → going m ≡ true → m ≡ at → ⊥
   not_at m e same = let clash : true ≡ false = sym e ∙ ap going same ∙ at_stays in cc
 
   -- a node that goes is there

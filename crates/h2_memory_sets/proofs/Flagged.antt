@@ -27,7 +27,7 @@ and_on true b e = refl
 and_on false b e = absurd (cc)
 
 -- the blocks stay where one node is put in place of another with the same block
-blocks_set : (xs : List Node) (at : ℕ) (x y : Node) → slice_get xs at ≡ Some x → block y ≡ block x → map block (slice_set xs at y) ≡ map block xs
+pub blocks_set : (xs : List Node) (at : ℕ) (x y : Node) → slice_get xs at ≡ Some x → block y ≡ block x → map block (slice_set xs at y) ≡ map block xs
 blocks_set [] at x y read same = refl
 blocks_set (z ∷ zs) zero x y read same = ap (λ (u : Block). u ∷ map block zs) (same ∙ sym (ap block (one_of z x read)))
 blocks_set (z ∷ zs) (suc at) x y read same = ap (λ (l : List Block). block z ∷ l) (blocks_set zs at x y read same)

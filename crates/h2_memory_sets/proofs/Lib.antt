@@ -49,3 +49,6 @@ pub mod Unaltered
 pub mod Undropped
 pub mod LongNames
 pub mod Going
+pub mod Gone
+pub mod Below
+pub mod Counted

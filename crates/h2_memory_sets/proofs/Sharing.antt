@@ -15,7 +15,7 @@ use Rattle.h2_set.specs.PutLaws.{Rising-filter, put_from, put_keeps}
 use Rattle.h2_set.specs.MadeLaws.{put_rising, put_fits, PartsNode, parts_node}
 use Rattle.h2_memory_sets.specs.View.{names}
 use Rattle.h2_memory_sets.proofs.Lists.{names_below, below_names, filter_from, filter_keeps, Rising-within}
-use Rattle.h2_memory_sets.proofs.Sides.{outside, same_bool, count_not, not_false, off_range, on_range, off_lies, Rising-wide}
+use Rattle.h2_memory_sets.proofs.Sides.{same_bool, count_not, not_false, off_range, on_range, off_lies, Rising-wide}
 
 module _ (f : Forest) (at : ℕ) (set : RefSet) (s : Split) (ref leaf : Ref) (sound : IsSound f) (stands : f.stands at ≡ true) (made : MadeFrom f at leaf set s) (is_ind : is_indirect ref ≡ true) (key_is : ref.key ≡ s.key) (bits_is : ref.keybits ≡ s.keybits) where
   node : IsSoundNode f at

@@ -1,8 +1,10 @@
 -- What a value is seen as.
-use Rattle.std.specs.Prelude.{◌≡◌, ℕ, List, Option, map, slice_get}
+use Rattle.std.specs.Prelude.{◌≡◌, ℕ, List, Option, None, map, slice_get}
+use Rattle.h2_ref.specs.declared.reference.Ref.{Ref}
 use Rattle.h2_set.specs.Forest.{Forest}
 use Rattle.h2_memory_sets.specs.declared.memory.MemorySets.{MemorySets}
 use Rattle.h2_inode.specs.declared.inode.Inode.{Inode}
+use Rattle.h2_inode.specs.Nodes.{Told}
 use Rattle.h2_memory_sets.specs.Names.{name_in}
 use Rattle.h2_memory_sets.specs.Owners.{beside_of}
 use Rattle.h2_memory_sets.specs.View.{Block, block, forest_with}
@@ -44,3 +46,7 @@ pub record KeepsPlans (p q : MemorySets) : Type 0 where
   pub failing : failing_load q ≡ failing_load p
   pub spoiled : spoiled_load q ≡ spoiled_load p
   pub refused : refused_spare q ≡ refused_spare p
+
+-- no block of an inode is told
+abbrev pub told_of : MemorySets → Ref → Option Told
+told_of p r = None

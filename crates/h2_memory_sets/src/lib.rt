@@ -28,6 +28,7 @@ mod refitting;
 mod roots;
 mod searching;
 mod seeking;
+mod sets;
 mod unloading;
 
 pub use memory::MemorySets;

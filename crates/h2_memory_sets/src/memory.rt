@@ -1,25 +1,21 @@
-ghost use Rattle.std.specs.Prelude.{◌≡◌, ◌<◌, ◌≤◌, ◌^◌, ◌⊎◌, ◌+◌, ◌%◌, length, take, IfOk, IfSome, IfNone};
+ghost use Rattle.std.specs.Prelude.{◌≡◌, ◌<◌, ◌≤◌, ◌^◌, ◌⊎◌, ◌+◌, length, take, IfOk};
 ghost use Rattle.h2_num.specs.Causes.{Rose, one_more};
 ghost use Rattle.std.specs.Vec.{vec_len, vec_capacity};
 ghost use Rattle.h2_memory_sets.specs.View.{AllRooted};
 ghost use Rattle.h2_memory_sets.specs.Kept.{AreKept};
 
-use crate::adding::{add_node, new_reference, with_left, with_one};
-use crate::altering::{clean_all, is_settled, mark_all, place_of, recount_all};
-use crate::dropping::drop_lost;
+use crate::altering::{clean_all, recount_all};
 use crate::hints::Hints;
 use crate::holding::{hold_one, release_one};
-use crate::judging::{bring_in, find_unspoiled, is_due};
-use crate::naming::{LongName, add_long_name, find_unspoiled_name, inline_name};
+use crate::judging::is_due;
+use crate::naming::{LongName, add_long_name, find_unspoiled_name};
 use crate::node::{KeyClass, Leaves, Node};
-use crate::refitting::give_set;
 use crate::roots::add_top;
-use crate::searching::{find_child, find_named};
+use crate::searching::find_named;
 use crate::unloading::{unload_all, unload_owned};
-use h2_inode::Inode;
 use h2_num::{Bytes, NoMemory};
-use h2_ref::{Ref, Trouble, Why};
-use h2_set::{NodeId, Set, Sets, Split};
+use h2_ref::{Trouble, Why};
+use h2_set::NodeId;
 use std::alloc::Global;
 
 /// A forest of sets in one vector of nodes.
@@ -60,6 +56,7 @@ impl MemorySets {
     ghost use Rattle.h2_set.specs.Calls.{MeetsNone, MeetsOnly, Unchanged, HasCause, KeepsBeside};
     ghost use Rattle.h2_memory_sets.specs.Seen.{forest_of, beside_seen, blocks_of, name_of, failing_load, spoiled_load, refused_spare, KeepsNames, KeepsPlans};
     ghost use Rattle.h2_memory_sets.specs.Later.{GoesOn};
+    ghost use Rattle.h2_memory_sets.specs.Plans.{LoadsOne, FailsExactlyIf, TellsBad};
     ghost use Rattle.h2_memory_sets.specs.View.{root_block};
     ghost use Rattle.h2_memory_sets.specs.declared.node.KeyClass.TheVariants.{Low};
     ghost use Rattle.h2_memory_sets.specs.Roots.{AddsRoot, AddsSuperRoot, HoldsRoot, BeginsEpoch, Unloads, UnloadsInodes};
@@ -273,8 +270,13 @@ impl MemorySets {
         unload_owned(&mut self.nodes);
     }
 
-    // The name of this length in the block at a place.
-    fn load_name(&mut self, alloc: Global, place: u64, len: u16) -> Result<Bytes, Trouble>
+    /// The name of this length in the block at a place. One load is counted.
+    pub(crate) fn load_name(
+        &mut self,
+        alloc: Global,
+        place: u64,
+        len: u16,
+    ) -> Result<Bytes, Trouble>
         requires sound { IsSound (forest_of self.old) }
         ensures same { Unchanged (forest_of self.old) (forest_of self.new) }
         ensures len { IfOk result (λ b. length b ≡ len) }
@@ -286,6 +288,11 @@ impl MemorySets {
         ensures met_only { IfErr result (MeetsOnly (forest_of self.old) (forest_of self.new)) }
         ensures beside { beside_seen self.new ≡ beside_seen self.old }
         ensures later { GoesOn self.old self.new }
+        ensures counted { LoadsOne self.old self.new }
+        ensures fails { FailsExactlyIf (failing_load self.old ≡ 1) result }
+        ensures spoils { (failing_load self.old ≡ 1 → ⊥) → spoiled_load self.old ≡ 1 → TellsBad result }
+        ensures counts_bad { let f = forest_of self.old in let g = forest_of self.new in TellsBad result → g.bad ≡ one_more f.bad }
+        ensures blocks { blocks_of self.new ≡ blocks_of self.old }
     {
         if is_due(&mut self.fault) {
             self.failed = one_more(self.failed);
@@ -313,118 +320,4 @@ pub(crate) fn one_more(count: u64) -> u64
     ensures more { count ≤ result }
 {
     count.saturating_add(1)
-}
-
-impl Sets for MemorySets {
-    ghost use Rattle.std.specs.Prelude.{ℕ};
-    ghost use Rattle.h2_memory_sets.specs.Seen.{forest_of, beside_seen};
-    ghost use Rattle.h2_memory_sets.specs.Later.{GoesOn};
-    ghost use Rattle.h2_memory_sets.specs.LaterLaws.{goes_on_refl, goes_on_trans};
-
-    type Beside = Option<Inode>;
-
-    ghost forest = { forest_of };
-
-    ghost beside = { beside_seen };
-
-    ghost later = { GoesOn };
-
-    ghost same_later = { goes_on_refl };
-
-    ghost later_later = { goes_on_trans };
-
-    fn get(&self, at: NodeId) -> &Set {
-        &self.nodes[at.0 as usize].set
-    }
-
-    fn epoch(&self) -> u64 {
-        self.epoch
-    }
-
-    fn child(&mut self, alloc: Global, at: NodeId, i: usize) -> Result<NodeId, Trouble> {
-        let _ = alloc;
-        let r = *self.nodes[at.0 as usize].set.at(i);
-        let hint = self.hints.get(at.0, r.key);
-        if let Some(c) = find_child(&self.nodes, at.0, r.key, hint) {
-            self.hints.set(at.0, r.key, c as u32);
-            return Ok(NodeId(c as u32));
-        }
-        if is_due(&mut self.fault) {
-            self.failed = one_more(self.failed);
-            return Err(Trouble::Failed);
-        }
-        let Some(c) = find_unspoiled(&self.nodes, at.0, &r, &mut self.spoiled) else {
-            self.bad = one_more(self.bad);
-            self.met = Some((r.place, Why::Shape));
-            return Err(Trouble::Bad {
-                place: r.place,
-                why: Why::Shape,
-            });
-        };
-        let x = &self.nodes[at.0 as usize];
-        let (root, copies) = (x.root, x.copies);
-        bring_in(&mut self.nodes[c], root, copies, r.keybits);
-        self.hints.set(at.0, r.key, c as u32);
-        Ok(NodeId(c as u32))
-    }
-
-    fn ready(&mut self, alloc: Global, n: u32) -> Result<(), NoMemory> {
-        if n <= self.spare {
-            return Ok(());
-        }
-        if is_due(&mut self.refused) {
-            return Err(NoMemory);
-        }
-        if self.nodes.len() > (u32::MAX - n) as usize {
-            return Err(NoMemory);
-        }
-        match self.nodes.reserve(n as usize) {
-            Ok(()) => {
-                self.spare = n;
-                self.hints.fit(alloc, &self.nodes);
-                Ok(())
-            }
-            Err(_) => Err(NoMemory),
-        }
-    }
-
-    fn alter(&mut self, at: NodeId) {
-        if is_settled(&self.nodes, at.0) {
-            return;
-        }
-        let x = &self.nodes[at.0 as usize];
-        let (place, copies) = (place_of(x), x.copies);
-        mark_all(&mut self.nodes, place);
-        recount_all(&mut self.nodes);
-        self.room -= copies;
-    }
-
-    fn store(&mut self, at: NodeId, set: Set) {
-        let x = &self.nodes[at.0 as usize];
-        let (root, bits) = (x.root, x.bits);
-        drop_lost(&mut self.nodes, at.0 as usize, root, bits, &set);
-        give_set(&mut self.nodes[at.0 as usize], set);
-    }
-
-    fn make(&mut self, at: NodeId, set: Set, split: Split) -> NodeId {
-        let c = self.nodes.len() as u32;
-        let r = new_reference(split.key, split.keybits, self.epoch);
-        let kept = with_one(with_left(set, split.rest), r);
-        add_node(&mut self.nodes, at.0, kept, split.moved, &r);
-        self.hints.set(at.0, split.key, c);
-        self.spare -= 1;
-        self.room -= 1;
-        NodeId(c)
-    }
-
-    fn name(&mut self, alloc: Global, r: &Ref) -> Result<Bytes, Trouble> {
-        let Some(entry) = r.dirent else {
-            return Err(Trouble::NoMemory);
-        };
-        match inline_name(alloc, entry) {
-            Ok(Some(name)) => Ok(name),
-            Ok(None) => self.load_name(alloc, r.place, entry.len),
-            Err(NoMemory) => Err(Trouble::NoMemory),
-        }
-    }
 }

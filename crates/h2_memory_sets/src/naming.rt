@@ -1,5 +1,5 @@
 //! Names of directories' entries.
-ghost use Rattle.std.specs.Prelude.{◌≡◌, ◌<◌, ◌-◌, ◌⊎◌, ◌∷◌, take, length, Some, None, IfOk, IfSome, IfNone, OnOk, OnErr};
+ghost use Rattle.std.specs.Prelude.{◌≡◌, ◌<◌, ◌≤◌, ◌-◌, ◌⊎◌, ◌∷◌, take, length, Some, None, IfOk, IfSome, IfNone, OnOk, OnErr};
 ghost use Rattle.std.specs.List.{position};
 ghost use Rattle.h2_memory_sets.specs.Names.{is_name_at, name_in};
 
@@ -21,6 +21,8 @@ pub(crate) fn inline_name(alloc: Global, entry: Dirent) -> Result<Option<Bytes>,
     ensures some { IfOk result (λ o. IfSome o (λ b. b ≡ take entry.len entry.name)) }
     ensures len { IfOk result (λ o. IfSome o (λ b. length b ≡ entry.len)) }
     ensures none { IfOk result (λ o. IfNone o (64 < entry.len)) }
+    ensures short { IfOk result (λ o. IfSome o (λ b. entry.len ≤ 64)) }
+    ensures err { OnErr result (entry.len ≤ 64) }
 {
     let all = entry.name.as_slice();
     if entry.len as usize > all.len() {

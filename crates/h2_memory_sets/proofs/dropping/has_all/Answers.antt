@@ -1,4 +1,4 @@
-use Rattle.std.proofs.Common.{◌≡◌, arith, false, sym, ◌∙◌}
+use Rattle.std.proofs.Common.{◌≡◌, arith, false}
 use Rattle.std.proofs.lemmas.Option.{slice_get_within}
 use Rattle.h2_set.specs.RefSet.{RefSet}
 use Rattle.h2_memory_sets.specs.View.{lacks}

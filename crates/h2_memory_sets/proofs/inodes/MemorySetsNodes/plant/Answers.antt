@@ -1,7 +1,9 @@
-use Rattle.std.proofs.Common.{◌-◌, arith, refl, sym, subst}
+use Rattle.std.proofs.Common.{◌∙◌, ◌-◌, ap, arith, map, refl, sym, subst}
+use Rattle.std.proofs.lemmas.List.{length-map, map-append}
 use Rattle.h2_memory_sets.proofs.Planted.{grows}
 use Rattle.h2_memory_sets.specs.LaterLaws.{fails_still, spoils_still}
 use Rattle.h2_memory_sets.specs.Later.{KeepsBlocks}
+use Rattle.h2_memory_sets.specs.View.{block}
 use Rattle.h2_memory_sets.proofs.Going.{keeps_push}
 use Rattle.h2_memory_sets.proofs.inodes.MemorySetsNodes.plant.Goals as goal
 
@@ -30,3 +32,11 @@ returns-clause-later c =
       spoils = spoils_still _ _;
       refuses = omega arith;
     }
+
+pub returns-clause-number : goal.returns-clause-number
+returns-clause-number c = c.add_inode-c.ensures.number ∙ sym (length-map _ _)
+
+pub returns-clause-blocks : goal.returns-clause-blocks
+returns-clause-blocks c =
+    let xs = c.args.self.now.nodes.items in
+    ap (map block) c.add_inode-c.ensures.pushed ∙ map-append block xs _

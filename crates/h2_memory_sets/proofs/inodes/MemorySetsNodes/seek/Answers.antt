@@ -6,6 +6,9 @@ use Rattle.h2_memory_sets.specs.Inodes.{is_sought, IsSought}
 use Rattle.h2_memory_sets.proofs.Nodes.{unchanged_nodes}
 use Rattle.h2_memory_sets.proofs.Sought.{Found, unloaded, loads_root, there_already, sought_is}
 use Rattle.h2_memory_sets.specs.LaterLaws.{blocks_refl, fails_still, spoils_still}
+use Rattle.h2_memory_sets.specs.View.{block}
+use Rattle.h2_memory_sets.proofs.Counted.{counts_failed, counts_met}
+use Rattle.h2_memory_sets.proofs.Flagged.{blocks_set}
 use Rattle.h2_memory_sets.proofs.Going.{keeps_sought, fails_now, fails_later, spoils_now, spoils_later, not_due}
 use Rattle.h2_memory_sets.proofs.inodes.MemorySetsNodes.seek.Goals as goal
 
@@ -159,3 +162,88 @@ returns-clause-later c =
       spoils = spoils_later _ _ _ c.find_sought.ensures.counts c.in-Some-find_sought.ensures.spoiled;
       refuses = omega arith;
     }
+
+-- What is counted
+
+pub returns-in-Some-clause-still : goal.returns-in-Some-clause-still
+returns-in-Some-clause-still c = λ d is. (refl, record { forest = refl; beside = refl; blocks = refl; names = λ place len. refl; plans = record { failing = refl; spoiled = refl; refused = refl } })
+
+pub returns-in-Some-clause-counted : goal.returns-in-Some-clause-counted
+returns-in-Some-clause-counted c = λ needs.
+    let p = c.args.self.now in
+    let it = there_already p.nodes.items p.spare p.epoch p.room p.failed p.bad p.met c.args.root.0 c.args.leaf.now p.rooted p.kept c.requires.sound c.requires.leaf c.in-Some.c (ap (position (is_sought c.args.root.0 c.args.leaf.now.key)) (sym c.deref.ensures.value) ∙ sym c.find_root.ensures ∙ c.in-Some.is) in
+    absurd (needs c.in-Some.c it.seeks.named)
+
+pub returns-in-Some-clause-fails : goal.returns-in-Some-clause-fails
+returns-in-Some-clause-fails c = λ needs.
+    let p = c.args.self.now in
+    let it = there_already p.nodes.items p.spare p.epoch p.room p.failed p.bad p.met c.args.root.0 c.args.leaf.now p.rooted p.kept c.requires.sound c.requires.leaf c.in-Some.c (ap (position (is_sought c.args.root.0 c.args.leaf.now.key)) (sym c.deref.ensures.value) ∙ sym c.find_root.ensures ∙ c.in-Some.is) in
+    absurd (needs c.in-Some.c it.seeks.named)
+
+pub returns-in-Some-clause-spoils : goal.returns-in-Some-clause-spoils
+returns-in-Some-clause-spoils c = λ needs other due.
+    let p = c.args.self.now in
+    let it = there_already p.nodes.items p.spare p.epoch p.room p.failed p.bad p.met c.args.root.0 c.args.leaf.now p.rooted p.kept c.requires.sound c.requires.leaf c.in-Some.c (ap (position (is_sought c.args.root.0 c.args.leaf.now.key)) (sym c.deref.ensures.value) ∙ sym c.find_root.ensures ∙ c.in-Some.is) in
+    absurd (needs c.in-Some.c it.seeks.named)
+
+pub returns-in-Some-clause-counts_bad : goal.returns-in-Some-clause-counts_bad
+returns-in-Some-clause-counts_bad c = λ tells. absurd tells
+
+pub returns-then-is_due-clause-still : goal.returns-then-is_due-clause-still
+returns-then-is_due-clause-still c = λ d is.
+    let p = c.args.self.now in
+    absurd (unloaded p.nodes.items p.spare p.epoch p.room p.failed p.bad p.met c.args.root.0 c.args.leaf.now p.rooted p.kept c.requires.sound c.requires.leaf (ap (position (is_sought c.args.root.0 c.args.leaf.now.key)) (sym c.deref.ensures.value) ∙ sym c.find_root.ensures ∙ c.in_default.is) d is)
+
+pub returns-then-is_due-clause-counted : goal.returns-then-is_due-clause-counted
+returns-then-is_due-clause-counted c = λ needs. counts_failed c.args.self.now _ c.is_due.ensures.counts (c.is_due.ensures.due.0 c.if-is_due.true) c.one_more-self.ensures.exact refl refl
+
+pub returns-then-is_due-clause-fails : goal.returns-then-is_due-clause-fails
+returns-then-is_due-clause-fails c = λ needs. c.is_due.ensures.due.0 c.if-is_due.true
+
+pub returns-then-is_due-clause-spoils : goal.returns-then-is_due-clause-spoils
+returns-then-is_due-clause-spoils c = λ needs other due. absurd (other (c.is_due.ensures.due.0 c.if-is_due.true))
+
+pub returns-then-is_due-clause-counts_bad : goal.returns-then-is_due-clause-counts_bad
+returns-then-is_due-clause-counts_bad c = λ tells. absurd tells
+
+pub returns-in_default-find_sought-clause-still : goal.returns-in_default-find_sought-clause-still
+returns-in_default-find_sought-clause-still c = λ d is.
+    let p = c.args.self.now in
+    absurd (unloaded p.nodes.items p.spare p.epoch p.room p.failed p.bad p.met c.args.root.0 c.args.leaf.now p.rooted p.kept c.requires.sound c.requires.leaf (ap (position (is_sought c.args.root.0 c.args.leaf.now.key)) (sym c.deref.ensures.value) ∙ sym c.find_root.ensures ∙ c.in_default.is) d is)
+
+pub returns-in_default-find_sought-clause-counted : goal.returns-in_default-find_sought-clause-counted
+returns-in_default-find_sought-clause-counted c = λ needs. counts_met c.args.self.now _ c.is_due.ensures.counts (not_due _ _ c.is_due.ensures.due c.if-is_due.false) refl c.find_sought.ensures.counts refl
+
+pub returns-in_default-find_sought-clause-fails : goal.returns-in_default-find_sought-clause-fails
+returns-in_default-find_sought-clause-fails c = λ needs. not_due _ _ c.is_due.ensures.due c.if-is_due.false
+
+pub returns-in_default-find_sought-clause-spoils : goal.returns-in_default-find_sought-clause-spoils
+returns-in_default-find_sought-clause-spoils c = λ needs other due. tt
+
+pub returns-in_default-find_sought-clause-counts_bad : goal.returns-in_default-find_sought-clause-counts_bad
+returns-in_default-find_sought-clause-counts_bad c = λ tells. c.one_more-self-in_default-find_sought.ensures.exact
+
+pub returns-clause-still : goal.returns-clause-still
+returns-clause-still c = λ d is.
+    let p = c.args.self.now in
+    absurd (unloaded p.nodes.items p.spare p.epoch p.room p.failed p.bad p.met c.args.root.0 c.args.leaf.now p.rooted p.kept c.requires.sound c.requires.leaf (ap (position (is_sought c.args.root.0 c.args.leaf.now.key)) (sym c.deref.ensures.value) ∙ sym c.find_root.ensures ∙ c.in_default.is) d is)
+
+pub returns-clause-counted : goal.returns-clause-counted
+returns-clause-counted c = λ needs. counts_met c.args.self.now _ c.is_due.ensures.counts (not_due _ _ c.is_due.ensures.due c.if-is_due.false) refl c.find_sought.ensures.counts refl
+
+pub returns-clause-fails : goal.returns-clause-fails
+returns-clause-fails c = λ needs. not_due _ _ c.is_due.ensures.due c.if-is_due.false
+
+pub returns-clause-spoils : goal.returns-clause-spoils
+returns-clause-spoils c = λ needs other due. c.in-Some-find_sought.ensures.spoiled due
+
+pub returns-clause-counts_bad : goal.returns-clause-counts_bad
+returns-clause-counts_bad c = λ tells. absurd tells
+
+pub returns-clause-blocks : goal.returns-clause-blocks
+returns-clause-blocks c =
+    let xs = c.args.self.now.nodes.items in
+    let k = c.in-Some-find_sought.c in
+    let l = subst (λ (zs : List Node). IsSought zs c.args.root.0 c.args.leaf.now.key k) c.deref-2.ensures.value c.in-Some-find_sought.ensures.found in
+    let y = slice_get_read xs _ k c.index_mut.result.now refl (slice_get_within xs k l.node l.read) c.index_mut.ensures.value in
+    blocks_set xs k c.index_mut.result.now c.bring_root.new.x y (ap block c.bring_root.ensures)

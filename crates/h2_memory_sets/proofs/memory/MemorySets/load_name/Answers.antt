@@ -1,6 +1,7 @@
 use Rattle.std.proofs.Common.{arith, refl}
 use Rattle.h2_memory_sets.proofs.Nodes.{unchanged_nodes}
 use Rattle.h2_memory_sets.specs.LaterLaws.{blocks_refl, spoils_still}
+use Rattle.h2_memory_sets.proofs.Counted.{counts_failed, counts_met}
 use Rattle.h2_memory_sets.proofs.Going.{fails_now, fails_later, spoils_now, spoils_later, not_due}
 use Rattle.h2_memory_sets.proofs.memory.MemorySets.load_name.Goals as goal
 
@@ -51,3 +52,53 @@ returns-in-Err-clause-later c = record {
   spoils = spoils_later _ _ _ c.find_unspoiled_name.ensures.counts c.in-Some.ensures.spoiled;
   refuses = omega arith;
 }
+
+-- What is counted
+
+pub returns-then-is_due-clause-counted : goal.returns-then-is_due-clause-counted
+returns-then-is_due-clause-counted c = counts_failed c.args.self.now _ c.is_due.ensures.counts (c.is_due.ensures.due.0 c.if-is_due.true) c.one_more-self.ensures.exact refl refl
+
+pub returns-then-is_due-clause-fails : goal.returns-then-is_due-clause-fails
+returns-then-is_due-clause-fails c = c.is_due.ensures.due.0 c.if-is_due.true
+
+pub returns-then-is_due-clause-spoils : goal.returns-then-is_due-clause-spoils
+returns-then-is_due-clause-spoils c = λ other due. absurd (other (c.is_due.ensures.due.0 c.if-is_due.true))
+
+pub returns-then-is_due-clause-counts_bad : goal.returns-then-is_due-clause-counts_bad
+returns-then-is_due-clause-counts_bad c = λ tells. absurd tells
+
+pub returns-in_default-clause-counted : goal.returns-in_default-clause-counted
+returns-in_default-clause-counted c = counts_met c.args.self.now _ c.is_due.ensures.counts (not_due _ _ c.is_due.ensures.due c.if-is_due.false) refl c.find_unspoiled_name.ensures.counts refl
+
+pub returns-in_default-clause-fails : goal.returns-in_default-clause-fails
+returns-in_default-clause-fails c = not_due _ _ c.is_due.ensures.due c.if-is_due.false
+
+pub returns-in_default-clause-spoils : goal.returns-in_default-clause-spoils
+returns-in_default-clause-spoils c = λ other due. tt
+
+pub returns-in_default-clause-counts_bad : goal.returns-in_default-clause-counts_bad
+returns-in_default-clause-counts_bad c = λ tells. c.one_more-self-in_default.ensures.exact
+
+pub returns-in-Ok-clause-counted : goal.returns-in-Ok-clause-counted
+returns-in-Ok-clause-counted c = counts_met c.args.self.now _ c.is_due.ensures.counts (not_due _ _ c.is_due.ensures.due c.if-is_due.false) refl c.find_unspoiled_name.ensures.counts refl
+
+pub returns-in-Ok-clause-fails : goal.returns-in-Ok-clause-fails
+returns-in-Ok-clause-fails c = not_due _ _ c.is_due.ensures.due c.if-is_due.false
+
+pub returns-in-Ok-clause-spoils : goal.returns-in-Ok-clause-spoils
+returns-in-Ok-clause-spoils c = λ other due. absurd (c.in-Some.ensures.spoiled due)
+
+pub returns-in-Ok-clause-counts_bad : goal.returns-in-Ok-clause-counts_bad
+returns-in-Ok-clause-counts_bad c = λ tells. absurd tells
+
+pub returns-in-Err-clause-counted : goal.returns-in-Err-clause-counted
+returns-in-Err-clause-counted c = counts_met c.args.self.now _ c.is_due.ensures.counts (not_due _ _ c.is_due.ensures.due c.if-is_due.false) refl c.find_unspoiled_name.ensures.counts refl
+
+pub returns-in-Err-clause-fails : goal.returns-in-Err-clause-fails
+returns-in-Err-clause-fails c = not_due _ _ c.is_due.ensures.due c.if-is_due.false
+
+pub returns-in-Err-clause-spoils : goal.returns-in-Err-clause-spoils
+returns-in-Err-clause-spoils c = λ other due. absurd (c.in-Some.ensures.spoiled due)
+
+pub returns-in-Err-clause-counts_bad : goal.returns-in-Err-clause-counts_bad
+returns-in-Err-clause-counts_bad c = λ tells. absurd tells

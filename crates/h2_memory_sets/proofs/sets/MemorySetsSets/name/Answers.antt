@@ -2,7 +2,7 @@ use Rattle.std.proofs.Common.{ℕ, Option, ap, arith}
 use Rattle.h2_inode.specs.declared.inode.Inode.{Inode}
 use Rattle.h2_memory_sets.proofs.Nodes.{unchanged_nodes}
 use Rattle.h2_memory_sets.specs.LaterLaws.{goes_on_refl}
-use Rattle.h2_memory_sets.proofs.memory.MemorySetsSets.name.Goals as goal
+use Rattle.h2_memory_sets.proofs.sets.MemorySetsSets.name.Goals as goal
 
 pub returns-in-Ok-Some-clause-same : goal.returns-in-Ok-Some-clause-same
 returns-in-Ok-Some-clause-same c =

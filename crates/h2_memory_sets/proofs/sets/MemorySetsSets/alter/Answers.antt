@@ -1,9 +1,9 @@
-use Rattle.std.proofs.Common.{◌≡◌, ◌-◌, true, Some, List, refl, sym, ap, ◌∙◌, subst, arith, slice_get, ◌||◌}
+use Rattle.std.proofs.Common.{◌≡◌, ◌-◌, true, Some, List, refl, sym, ap, ◌∙◌, subst, arith, slice_get, map, ◌||◌}
 use Rattle.std.proofs.lemmas.Option.{slice_get_read}
 use Rattle.h2_set.specs.Calls.{Alters}
 use Rattle.h2_memory_sets.specs.declared.node.Node.{Node}
 use Rattle.h2_memory_sets.specs.declared.node.Place.{Place}
-use Rattle.h2_memory_sets.specs.View.{AllRooted, forest_with, copies_of, is_above, is_over, place_of, marked_all, recounted_all}
+use Rattle.h2_memory_sets.specs.View.{AllRooted, block, forest_with, copies_of, count_copied, with_copies, with_dirty, is_above, is_over, place_of, marked_all, recounted_all}
 use Rattle.h2_memory_sets.proofs.Altered.{alters, written}
 use Rattle.h2_memory_sets.proofs.Nodes.{is_there}
 use Rattle.h2_memory_sets.proofs.Recounting.{rooted_still, kept_still, field}
@@ -17,7 +17,8 @@ use Rattle.h2_memory_sets.proofs.Parting.{item_at}
 use Rattle.h2_memory_sets.specs.LaterLaws.{fails_still, spoils_still, goes_on_refl}
 use Rattle.h2_memory_sets.specs.Later.{KeepsBlocks}
 use Rattle.h2_memory_sets.proofs.Going.{keeps_altered}
-use Rattle.h2_memory_sets.proofs.memory.MemorySetsSets.alter.Goals as goal
+use Rattle.h2_memory_sets.proofs.Unsought.{map_blocks}
+use Rattle.h2_memory_sets.proofs.sets.MemorySetsSets.alter.Goals as goal
 
 pub is_settled-requires : goal.is_settled-requires
 is_settled-requires c = rw c.deref.ensures.value (is_there c.args.self.now.nodes.items c.args.at.0 c.requires.stands)
@@ -90,3 +91,12 @@ returns-clause-later c =
 
 pub returns-then-is_settled-clause-later : goal.returns-then-is_settled-clause-later
 returns-then-is_settled-clause-later c = goes_on_refl _
+
+pub returns-clause-blocks : goal.returns-clause-blocks
+returns-clause-blocks c =
+    let p = c.args.self.now in
+    let xs = p.nodes.items in
+    let at = c.place_of-place.result in
+    let one = written (marked_all at) xs c.deref_mut.result.now c.mark_all.new.nodes p.nodes.len (sym (c.mark_all.auto.nodes ∙ c.deref_mut.ensures.len)) c.deref_mut.ensures.value c.mark_all.ensures in
+    let items = written recounted_all _ c.deref_mut-2.result.now c.recount_all.new.nodes p.nodes.len (sym (c.recount_all.auto.nodes ∙ c.deref_mut-2.ensures.len)) c.deref_mut-2.ensures.value c.recount_all.ensures ∙ ap recounted_all one in
+    ap (map block) items ∙ map_blocks (λ x. with_copies (count_copied (place_of x) (marked_all at xs)) x) (λ x. refl) (marked_all at xs) ∙ map_blocks (λ x. with_dirty (x.dirty || (is_above at x || is_over xs at.root x)) x) (λ x. refl) xs

@@ -1,4 +1,4 @@
-use Rattle.std.proofs.Common.{◌≡◌, ◌≤◌, ◌+◌, ◌-◌, ℕ, true, false, refl, List, [], length, slice_get, sym, ap, ◌∙◌, subst, arith}
+use Rattle.std.proofs.Common.{◌≡◌, ◌≤◌, ◌+◌, ◌-◌, ℕ, true, false, refl, List, [], length, map, slice_get, sym, ap, ◌∙◌, subst, arith}
 use Rattle.std.proofs.lemmas.Option.{slice_get_past}
 use Rattle.h2_set.specs.Ranges.{Rising, put}
 use Rattle.h2_set.specs.RefSet.{RefSet, with_rest}
@@ -8,19 +8,21 @@ use Rattle.h2_memory_sets.specs.declared.node.Node.{Node}
 use Rattle.h2_inode.specs.Nodes.{set_of as set_of_body}
 use Rattle.h2_memory_sets.specs.Kept.{AreKept}
 use Rattle.h2_memory_sets.specs.Owners.{beside_of}
-use Rattle.h2_memory_sets.specs.View.{forest_with, parted, set_of, stands_of, AllRooted}
+use Rattle.h2_memory_sets.specs.View.{block, forest_with, parted, set_of, stands_of, AllRooted}
 use Rattle.h2_memory_sets.proofs.Making.{makes}
 use Rattle.h2_memory_sets.proofs.Sharing.{kept_set, whole_set}
 use Rattle.h2_memory_sets.proofs.Nodes.{is_there}
 use Rattle.h2_memory_sets.proofs.Keeping.{refit_twice}
 use Rattle.h2_memory_sets.proofs.Parted.{kept_part}
-use Rattle.h2_memory_sets.proofs.Parting.{item_at, field}
+use Rattle.h2_memory_sets.proofs.Parting.{at_here, item_at, field}
 use Rattle.h2_memory_sets.proofs.Differing.{differs_by_make}
 use Rattle.h2_memory_sets.proofs.Rooted.{rooted_part, root_not}
 use Rattle.h2_memory_sets.specs.LaterLaws.{fails_still, spoils_still}
 use Rattle.h2_memory_sets.specs.Later.{KeepsBlocks}
+use Rattle.h2_memory_sets.specs.Plans.{MakesBlock}
+use Rattle.h2_memory_sets.proofs.Below.{makes_block, up_apart}
 use Rattle.h2_memory_sets.proofs.Going.{is_open_at, keeps_parted}
-use Rattle.h2_memory_sets.proofs.memory.MemorySetsSets.make.Goals as goal
+use Rattle.h2_memory_sets.proofs.sets.MemorySetsSets.make.Goals as goal
 
 pub new_reference-r-requires-clause-ends : goal.new_reference-r-requires-clause-ends
 new_reference-r-requires-clause-ends c =
@@ -118,3 +120,19 @@ returns-clause-later c =
       spoils = spoils_still _ _;
       refuses = omega arith;
     }
+
+pub returns-clause-blocks : goal.returns-clause-blocks
+returns-clause-blocks c =
+    let p = c.args.self.now in
+    let xs = p.nodes.items in
+    let at = c.args.at.0 in
+    let n = c.new_reference-r.ensures in
+    let lt = is_there xs at c.requires.stands in
+    let it = item_at xs at lt in
+    let kept = c.with_one-kept.result in
+    let part = c.args.split.moved in
+    let made = makes_block xs at it.0 kept c.args.split c.new_reference-r.result p.kept it.1 lt n.key n.keybits (up_apart xs p.spare p.epoch p.room p.failed p.bad p.met p.rooted c.requires.sound at it.0 it.1 c.requires.stands) in
+    let set : kept ≡ set_of (slice_get (parted xs at it.0 kept part c.new_reference-r.result) at) = sym (ap set_of (at_here xs at it.0 kept part c.new_reference-r.result it.1)) in
+    let place : length xs ≡ c.len-c.result = sym (c.len-c.ensures ∙ p.nodes.ok.0) in
+    let new = subst (λ (t : RefSet). MakesBlock (map block xs) (map block (parted xs at it.0 kept part c.new_reference-r.result)) at c.len-c.result t c.args.split) set (subst (λ (k : ℕ). MakesBlock (map block xs) (map block (parted xs at it.0 kept part c.new_reference-r.result)) at k kept c.args.split) place made) in
+    subst (λ (ys : List Node). MakesBlock (map block xs) (map block ys) at c.len-c.result (set_of (slice_get ys at)) c.args.split) (sym (c.add_node.ensures.parted it.0 it.1)) new

@@ -6,15 +6,17 @@ use Rattle.h2_set.specs.StayLaws.{Walks-refl, Unchanged-walks}
 use Rattle.h2_set.specs.Forest.{loaded}
 use Rattle.h2_set.specs.Calls.{Loads}
 use Rattle.h2_memory_sets.specs.declared.node.Node.{Node}
-use Rattle.h2_memory_sets.specs.View.{copies_of, forest_with, is_child, link_of}
+use Rattle.h2_memory_sets.specs.View.{block, copies_of, forest_with, is_child, link_of}
 use Rattle.h2_memory_sets.proofs.Nodes.{unchanged_nodes, is_there}
 use Rattle.h2_memory_sets.proofs.Bringing.{ref_there, ref_same, loads_nothing, bad_place, not_loaded, not_told, is_loaded, loadable_in, loadable_within, loadable_away, brings}
 use Rattle.h2_memory_sets.proofs.Brought.{kept_bring, beside_bring}
 use Rattle.h2_memory_sets.proofs.Rooted.{rooted_bring, root_not}
 use Rattle.h2_memory_sets.proofs.Hinted.{only_child}
 use Rattle.h2_memory_sets.specs.LaterLaws.{blocks_refl, fails_still, spoils_still}
+use Rattle.h2_memory_sets.proofs.Counted.{leads_there, leads_nowhere, counts_failed, counts_met}
+use Rattle.h2_memory_sets.proofs.Flagged.{blocks_set}
 use Rattle.h2_memory_sets.proofs.Going.{keeps_brought, fails_now, fails_later, spoils_now, spoils_later, not_due}
-use Rattle.h2_memory_sets.proofs.memory.MemorySetsSets.child.Goals as goal
+use Rattle.h2_memory_sets.proofs.sets.MemorySetsSets.child.Goals as goal
 
 pub find_child-requires : goal.find_child-requires
 find_child-requires c =
@@ -255,3 +257,98 @@ returns-clause-later c =
       spoils = spoils_later _ _ _ c.find_unspoiled.ensures.counts c.in-Some-find_unspoiled.ensures.spoiled;
       refuses = omega arith;
     }
+
+-- What is counted
+
+pub returns-in-Some-clause-still : goal.returns-in-Some-clause-still
+returns-in-Some-clause-still c = λ d lead. (refl, record { forest = refl; beside = refl; blocks = refl; names = λ place len. refl; plans = record { failing = refl; spoiled = refl; refused = refl } })
+
+pub returns-in-Some-clause-counted : goal.returns-in-Some-clause-counted
+returns-in-Some-clause-counted c = λ needs.
+    let xs = c.args.self.now.nodes.items in
+    let node = slice_get_read xs _ c.args.at.0 c.index.result.now refl (is_there _ _ c.requires.stands) c.index.ensures in
+    let found : position (is_child c.args.at.0 c.at.result.now.key) xs ≡ Some c.in-Some.c = ap (position (is_child c.args.at.0 c.at.result.now.key)) (sym c.deref.ensures.value) ∙ sym c.find_child.ensures ∙ c.in-Some.is in
+    absurd (needs c.in-Some.c (leads_there c.args.self.now c.args.at.0 c.args.i c.in-Some.c c.index.result.now c.at.result.now node c.at.ensures found c.requires.indirect))
+
+pub returns-in-Some-clause-fails : goal.returns-in-Some-clause-fails
+returns-in-Some-clause-fails c = λ needs.
+    let xs = c.args.self.now.nodes.items in
+    let node = slice_get_read xs _ c.args.at.0 c.index.result.now refl (is_there _ _ c.requires.stands) c.index.ensures in
+    let found : position (is_child c.args.at.0 c.at.result.now.key) xs ≡ Some c.in-Some.c = ap (position (is_child c.args.at.0 c.at.result.now.key)) (sym c.deref.ensures.value) ∙ sym c.find_child.ensures ∙ c.in-Some.is in
+    absurd (needs c.in-Some.c (leads_there c.args.self.now c.args.at.0 c.args.i c.in-Some.c c.index.result.now c.at.result.now node c.at.ensures found c.requires.indirect))
+
+pub returns-in-Some-clause-spoils : goal.returns-in-Some-clause-spoils
+returns-in-Some-clause-spoils c = λ needs other due.
+    let xs = c.args.self.now.nodes.items in
+    let node = slice_get_read xs _ c.args.at.0 c.index.result.now refl (is_there _ _ c.requires.stands) c.index.ensures in
+    let found : position (is_child c.args.at.0 c.at.result.now.key) xs ≡ Some c.in-Some.c = ap (position (is_child c.args.at.0 c.at.result.now.key)) (sym c.deref.ensures.value) ∙ sym c.find_child.ensures ∙ c.in-Some.is in
+    absurd (needs c.in-Some.c (leads_there c.args.self.now c.args.at.0 c.args.i c.in-Some.c c.index.result.now c.at.result.now node c.at.ensures found c.requires.indirect))
+
+pub returns-in-Some-clause-counts_bad : goal.returns-in-Some-clause-counts_bad
+returns-in-Some-clause-counts_bad c = λ tells. absurd tells
+
+pub returns-then-is_due-clause-still : goal.returns-then-is_due-clause-still
+returns-then-is_due-clause-still c = λ d lead.
+    let xs = c.args.self.now.nodes.items in
+    let node = slice_get_read xs _ c.args.at.0 c.index.result.now refl (is_there _ _ c.requires.stands) c.index.ensures in
+    let none = ap (position (is_child c.args.at.0 c.at.result.now.key)) (sym c.deref.ensures.value) ∙ sym c.find_child.ensures ∙ c.in_default.is in
+    absurd (leads_nowhere c.args.self.now c.args.at.0 c.args.i d c.index.result.now c.at.result.now node c.at.ensures none lead)
+
+pub returns-then-is_due-clause-counted : goal.returns-then-is_due-clause-counted
+returns-then-is_due-clause-counted c = λ needs. counts_failed c.args.self.now _ c.is_due.ensures.counts (c.is_due.ensures.due.0 c.if-is_due.true) c.one_more-self.ensures.exact refl refl
+
+pub returns-then-is_due-clause-fails : goal.returns-then-is_due-clause-fails
+returns-then-is_due-clause-fails c = λ needs. c.is_due.ensures.due.0 c.if-is_due.true
+
+pub returns-then-is_due-clause-spoils : goal.returns-then-is_due-clause-spoils
+returns-then-is_due-clause-spoils c = λ needs other due. absurd (other (c.is_due.ensures.due.0 c.if-is_due.true))
+
+pub returns-then-is_due-clause-counts_bad : goal.returns-then-is_due-clause-counts_bad
+returns-then-is_due-clause-counts_bad c = λ tells. absurd tells
+
+pub returns-in_default-find_unspoiled-clause-still : goal.returns-in_default-find_unspoiled-clause-still
+returns-in_default-find_unspoiled-clause-still c = λ d lead.
+    let xs = c.args.self.now.nodes.items in
+    let node = slice_get_read xs _ c.args.at.0 c.index.result.now refl (is_there _ _ c.requires.stands) c.index.ensures in
+    let none = ap (position (is_child c.args.at.0 c.at.result.now.key)) (sym c.deref.ensures.value) ∙ sym c.find_child.ensures ∙ c.in_default.is in
+    absurd (leads_nowhere c.args.self.now c.args.at.0 c.args.i d c.index.result.now c.at.result.now node c.at.ensures none lead)
+
+pub returns-in_default-find_unspoiled-clause-counted : goal.returns-in_default-find_unspoiled-clause-counted
+returns-in_default-find_unspoiled-clause-counted c = λ needs. counts_met c.args.self.now _ c.is_due.ensures.counts (not_due _ _ c.is_due.ensures.due c.if-is_due.false) refl c.find_unspoiled.ensures.counts refl
+
+pub returns-in_default-find_unspoiled-clause-fails : goal.returns-in_default-find_unspoiled-clause-fails
+returns-in_default-find_unspoiled-clause-fails c = λ needs. not_due _ _ c.is_due.ensures.due c.if-is_due.false
+
+pub returns-in_default-find_unspoiled-clause-spoils : goal.returns-in_default-find_unspoiled-clause-spoils
+returns-in_default-find_unspoiled-clause-spoils c = λ needs other due. tt
+
+pub returns-in_default-find_unspoiled-clause-counts_bad : goal.returns-in_default-find_unspoiled-clause-counts_bad
+returns-in_default-find_unspoiled-clause-counts_bad c = λ tells. c.one_more-self-in_default-find_unspoiled.ensures.exact
+
+pub returns-clause-still : goal.returns-clause-still
+returns-clause-still c = λ d lead.
+    let xs = c.args.self.now.nodes.items in
+    let node = slice_get_read xs _ c.args.at.0 c.index.result.now refl (is_there _ _ c.requires.stands) c.index.ensures in
+    let none = ap (position (is_child c.args.at.0 c.at.result.now.key)) (sym c.deref.ensures.value) ∙ sym c.find_child.ensures ∙ c.in_default.is in
+    absurd (leads_nowhere c.args.self.now c.args.at.0 c.args.i d c.index.result.now c.at.result.now node c.at.ensures none lead)
+
+pub returns-clause-counted : goal.returns-clause-counted
+returns-clause-counted c = λ needs. counts_met c.args.self.now _ c.is_due.ensures.counts (not_due _ _ c.is_due.ensures.due c.if-is_due.false) refl c.find_unspoiled.ensures.counts refl
+
+pub returns-clause-fails : goal.returns-clause-fails
+returns-clause-fails c = λ needs. not_due _ _ c.is_due.ensures.due c.if-is_due.false
+
+pub returns-clause-spoils : goal.returns-clause-spoils
+returns-clause-spoils c = λ needs other due. c.in-Some-find_unspoiled.ensures.spoiled due
+
+pub returns-clause-counts_bad : goal.returns-clause-counts_bad
+returns-clause-counts_bad c = λ tells. absurd tells
+
+pub returns-clause-blocks : goal.returns-clause-blocks
+returns-clause-blocks c =
+    let xs = c.args.self.now.nodes.items in
+    let at = c.args.at.0 in
+    let k = c.in-Some-find_unspoiled.c in
+    let l = loadable_in _ xs at k c.at.result.now c.deref-2.ensures.value c.in-Some-find_unspoiled.ensures.found in
+    let y = slice_get_read xs _ k c.index_mut.result.now refl (loadable_within xs at k c.at.result.now l) c.index_mut.ensures.value in
+    blocks_set xs k c.index_mut.result.now c.bring_in.new.x y (ap block c.bring_in.ensures)
