@@ -6,7 +6,7 @@ ghost use Rattle.h2_ref.specs.declared.reference.Ref.{Ref};
 ghost use Rattle.h2_ref.specs.declared.faults.Trouble.{Trouble};
 ghost use Rattle.h2_ref.specs.declared.faults.Why.{Why};
 ghost use Rattle.h2_set.specs.Forest.{IsSound, IsRootOf};
-ghost use Rattle.h2_set.specs.Calls.{IsBad, Unchanged, HasCause, MeetsNone, KeepsBeside};
+ghost use Rattle.h2_set.specs.Calls.{IsBad, Unchanged, HasCause, MeetsNone, MeetsOnly, KeepsBeside};
 ghost use Rattle.h2_inode.specs.declared.inode.Inode.{Inode};
 ghost use Rattle.h2_inode.specs.Inode.{IsInode};
 ghost use Rattle.h2_inode.specs.Nodes.{held_by, set_of, HasInode, IsInodeLeaf, IsUnloaded, Told, IsAsTold, IsPlantable, Replaceable, Seeks, Plants, Replaces, KeepsOthersBeside};
@@ -47,7 +47,7 @@ impl Nodes for MemorySets {
         ensures unloaded { OnErr result (let r : Ref = leaf.now in IsUnloaded (forest_of self.old) root.0 r.key) }
         ensures place { let r : Ref = leaf.now in IfErr result (λ e. (place : ℕ) (why : Why) → e ≡ Trouble.Bad place why → place ≡ r.place) }
         ensures none_met { OnOk result (MeetsNone (forest_of self.old) (forest_of self.new)) }
-        ensures none_met_refused { IfErr result (λ e. (IsBad e → ⊥) → MeetsNone (forest_of self.old) (forest_of self.new)) }
+        ensures met_only { IfErr result (MeetsOnly (forest_of self.old) (forest_of self.new)) }
         ensures good { IfErr result (λ e. (x : Told) → told_of self.old leaf.now ≡ Some x → IsBad e → ⊥) }
         ensures beside { KeepsBeside (forest_of self.old) (forest_of self.new) (beside_seen self.old) (beside_seen self.new) }
         ensures later { GoesOn self.old self.new }

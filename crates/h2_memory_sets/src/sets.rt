@@ -8,7 +8,7 @@ ghost use Rattle.h2_ref.specs.declared.faults.Trouble.{Trouble};
 ghost use Rattle.h2_ref.specs.declared.faults.Why.{Why};
 ghost use Rattle.h2_ref.specs.Ref.{IsValid};
 ghost use Rattle.h2_set.specs.Forest.{refs, loaded, told, IsSound};
-ghost use Rattle.h2_set.specs.Calls.{IsBad, IsIndirectAt, Walks, HasCause, MeetsNone, Alters, Storable, Stores, Loads, Unchanged, MadeFrom, Makes, ReadiesOnly, KeepsBeside};
+ghost use Rattle.h2_set.specs.Calls.{IsBad, IsIndirectAt, Walks, HasCause, MeetsNone, MeetsOnly, Alters, Storable, Stores, Loads, Unchanged, MadeFrom, Makes, ReadiesOnly, KeepsBeside};
 ghost use Rattle.h2_memory_sets.specs.Seen.{forest_of, beside_seen, blocks_of, name_of, failing_load, spoiled_load, refused_spare, KeepsPlans};
 ghost use Rattle.h2_memory_sets.specs.Later.{GoesOn};
 ghost use Rattle.h2_memory_sets.specs.LaterLaws.{goes_on_refl, goes_on_trans};
@@ -63,7 +63,7 @@ impl Sets for MemorySets {
         ensures unloaded { let f = forest_of self.old in OnErr result ((r : Ref) (c : ℕ) → slice_get (refs f at.0) i ≡ Some r → f.link at.0 r.key ≡ loaded c → ⊥) }
         ensures place { let f = forest_of self.old in IfErr result (λ e. (r : Ref) (place : ℕ) (why : Why) → slice_get (refs f at.0) i ≡ Some r → e ≡ Trouble.Bad place why → place ≡ r.place) }
         ensures none_met { OnOk result (MeetsNone (forest_of self.old) (forest_of self.new)) }
-        ensures none_met_refused { IfErr result (λ e. (IsBad e → ⊥) → MeetsNone (forest_of self.old) (forest_of self.new)) }
+        ensures met_only { IfErr result (MeetsOnly (forest_of self.old) (forest_of self.new)) }
         ensures good { let f = forest_of self.old in IfErr result (λ e. (r : Ref) (l : List Ref) → slice_get (refs f at.0) i ≡ Some r → f.link at.0 r.key ≡ told l → IsBad e → ⊥) }
         ensures beside { KeepsBeside (forest_of self.old) (forest_of self.new) (beside_seen self.old) (beside_seen self.new) }
         ensures later { GoesOn self.old self.new }
@@ -213,7 +213,7 @@ impl Sets for MemorySets {
         ensures err { IfErr result (HasCause (forest_of self.old) (forest_of self.new)) }
         ensures place { IfErr result (λ e. (place : ℕ) (why : Why) → e ≡ Trouble.Bad place why → place ≡ r.now.place) }
         ensures none_met { OnOk result (MeetsNone (forest_of self.old) (forest_of self.new)) }
-        ensures none_met_refused { IfErr result (λ e. (IsBad e → ⊥) → MeetsNone (forest_of self.old) (forest_of self.new)) }
+        ensures met_only { IfErr result (MeetsOnly (forest_of self.old) (forest_of self.new)) }
         ensures good { let f = forest_of self.old in IfErr result (λ e. (name : List ℕ) → f.name r.now ≡ Some name → IsBad e → ⊥) }
         ensures unread { IfErr result (λ e. (d : Dirent) → r.now.dirent ≡ Some d → d.len ≤ 64 → e ≡ Trouble.NoMemory) }
         ensures beside { KeepsBeside (forest_of self.old) (forest_of self.new) (beside_seen self.old) (beside_seen self.new) }
