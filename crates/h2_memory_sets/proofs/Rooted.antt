@@ -13,7 +13,7 @@ use Rattle.h2_memory_sets.proofs.Parting.{at_new, at_here, at_other, past, item_
 use Rattle.h2_memory_sets.proofs.Bringing.{away_parts, brought_is}
 
 -- a top stands
-top_stands : (o : Option Node) → is_top o ≡ true → stands_of o ≡ true
+pub top_stands : (o : Option Node) → is_top o ≡ true → stands_of o ≡ true
 top_stands None h = absurd (cc)
 top_stands (Some x) h = go x.loaded h
   where

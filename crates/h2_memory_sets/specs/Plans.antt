@@ -12,9 +12,10 @@ use Rattle.h2_inode.specs.declared.inode.Inode.{Inode}
 use Rattle.h2_inode.specs.Inode.{keys_from}
 use Rattle.h2_inode.specs.Nodes.{set_of as set_of_body}
 use Rattle.h2_memory_sets.specs.declared.memory.MemorySets.{MemorySets}
+use Rattle.h2_memory_sets.specs.Inodes.{IsSought}
 use Rattle.h2_memory_sets.specs.Owners.{refit}
 use Rattle.h2_memory_sets.specs.Seen.{forest_of, beside_seen, blocks_of, failing_load, spoiled_load, refused_spare, KeepsNames, KeepsPlans}
-use Rattle.h2_memory_sets.specs.View.{Block}
+use Rattle.h2_memory_sets.specs.View.{Block, IsLoadable}
 
 -- nothing has changed that can be seen
 pub record StaysAll (p q : MemorySets) : Type 0 where
@@ -33,6 +34,14 @@ pub record LeadsTo (f : Forest) (at i c : ℕ) : Type 0 where
 -- what the reference leads to must be loaded first
 abbrev pub NeedsLoad : Forest → ℕ → ℕ → Type 0
 NeedsLoad f at i = (c : ℕ) → LeadsTo f at i c → ⊥
+
+-- no block that isn't loaded may be the one to which the reference at place i of node at leads
+abbrev pub NoneFits : MemorySets → ℕ → ℕ → Type 0
+NoneFits p at i = (r : Ref) (c : ℕ) → slice_get (refs (forest_of p) at) i ≡ Some r → IsLoadable p.nodes.items at r c → ⊥
+
+-- no block that isn't loaded may be that of the inode which the leaf with the key in the tree of the root names
+abbrev pub NoneNamed : MemorySets → ℕ → ℕ → Type 0
+NoneNamed p root key = (c : ℕ) → IsSought p.nodes.items root key c → ⊥
 
 -- One load was counted: a failure of the disk that is planned is one load nearer, or it came and was counted. A load that
 -- the disk fails meets no block; with each other one a bad block that is planned is nearer too.

@@ -1,6 +1,6 @@
 //! The calls of a forest with inodes, in memory. Beside what the trait asks, each says which planned failures it counts, and
 //! which blocks it changes, of all nodes, loaded or not.
-ghost use Rattle.std.specs.Prelude.{◌≡◌, ◌≤◌, ◌++◌, ◌∷◌, [], ℕ, Some, true, false, IfOk, IfErr, OnErr, OnOk, IsOk, length};
+ghost use Rattle.std.specs.Prelude.{◌≡◌, ◌≤◌, ◌++◌, ◌∷◌, [], ◌⊎◌, ℕ, Some, true, false, IfOk, IfErr, OnErr, OnOk, IsOk, length};
 ghost use Rattle.h2_num.specs.Causes.{one_more};
 ghost use Rattle.h2_ref.specs.declared.reference.Ref.{Ref};
 ghost use Rattle.h2_ref.specs.declared.faults.Trouble.{Trouble};
@@ -13,7 +13,7 @@ ghost use Rattle.h2_inode.specs.Nodes.{held_by, set_of, HasInode, IsInodeLeaf, I
 ghost use Rattle.h2_memory_sets.specs.Inodes.{fields_seen};
 ghost use Rattle.h2_memory_sets.specs.Seen.{forest_of, beside_seen, told_of, blocks_of, failing_load, spoiled_load, KeepsPlans};
 ghost use Rattle.h2_memory_sets.specs.Later.{GoesOn};
-ghost use Rattle.h2_memory_sets.specs.Plans.{StaysAll, LoadsOne, FailsExactlyIf, TellsBad, GivesBlock, block_with, inode_block};
+ghost use Rattle.h2_memory_sets.specs.Plans.{StaysAll, NoneNamed, LoadsOne, FailsExactlyIf, TellsBad, GivesBlock, block_with, inode_block};
 
 use crate::dropping::drop_all;
 use crate::judging::is_due;
@@ -54,7 +54,8 @@ impl Nodes for MemorySets {
         ensures still { let r : Ref = leaf.now in (c : ℕ) → IsRootOf (forest_of self.old) root.0 r.key c → IsOk result × StaysAll self.old self.new }
         ensures counted { let r : Ref = leaf.now in IsUnloaded (forest_of self.old) root.0 r.key → LoadsOne self.old self.new }
         ensures fails { let r : Ref = leaf.now in IsUnloaded (forest_of self.old) root.0 r.key → FailsExactlyIf (failing_load self.old ≡ 1) result }
-        ensures spoils { let r : Ref = leaf.now in IsUnloaded (forest_of self.old) root.0 r.key → (failing_load self.old ≡ 1 → ⊥) → spoiled_load self.old ≡ 1 → TellsBad result }
+        ensures spoils { let r : Ref = leaf.now in IsUnloaded (forest_of self.old) root.0 r.key → (failing_load self.old ≡ 1 → ⊥) → (spoiled_load self.old ≡ 1) ⊎ NoneNamed self.old root.0 r.key → TellsBad result }
+        ensures bad { let r : Ref = leaf.now in TellsBad result → (spoiled_load self.old ≡ 1) ⊎ NoneNamed self.old root.0 r.key }
         ensures counts_bad { let f = forest_of self.old in let g = forest_of self.new in TellsBad result → g.bad ≡ one_more f.bad }
         ensures blocks { blocks_of self.new ≡ blocks_of self.old }
     {

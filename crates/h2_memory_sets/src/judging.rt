@@ -1,13 +1,13 @@
-ghost use Rattle.std.specs.Prelude.{◌≡◌, ◌<◌, ◌≤◌, ◌^◌, ◌-◌, ◌↔◌, ◌⊎◌, true, false, IsTrue, IfSome, IfNone, length, slice_get};
+ghost use Rattle.std.specs.Prelude.{◌≡◌, ◌<◌, ◌≤◌, ◌^◌, ◌-◌, ◌↔◌, ◌⊎◌, ℕ, true, false, Some, IsTrue, IfSome, IfNone, length, slice_get};
 ghost use Rattle.h2_ref.specs.declared.reference.Kind.TheVariants.{Empty};
 ghost use Rattle.h2_set.specs.Ranges.{limit, is_indirect, IsAligned};
 ghost use Rattle.h2_set.specs.SetBytes.{IsHeld};
-ghost use Rattle.h2_memory_sets.specs.View.{leaf_bits_of, brought, FitsBelow, AllFitBelow, IsLoadable};
+ghost use Rattle.h2_memory_sets.specs.View.{leaf_bits_of, root_of, brought, FitsBelow, AllFitBelow, IsLoadable};
 ghost use Rattle.h2_memory_sets.specs.Owners.{allows_of};
 
 use crate::allowing::allows;
 use crate::node::Node;
-use crate::searching::{find_away, find_below};
+use crate::searching::{find_below, is_away};
 use h2_ref::{Kind, Ref};
 use h2_set::{Set, is_indirect};
 
@@ -27,6 +27,7 @@ fn lies_below(r: &Ref, top: &Ref) -> bool
     ensures low { IsTrue result → top.now.key ≤ r.now.key }
     ensures high { IsTrue result → limit r.now ≤ limit top.now }
     ensures fewer { IsTrue result → r.now.keybits < top.now.keybits }
+    ensures all { top.now.keybits < 64 → top.now.key ≤ r.now.key → limit r.now ≤ limit top.now → r.now.keybits < top.now.keybits → IsTrue result }
 {
     if top.keybits >= 64 {
         return false;
@@ -47,7 +48,8 @@ fn lies_below(r: &Ref, top: &Ref) -> bool
 
 // Whether the key of a reference is a multiple of the length of its range.
 fn is_aligned(r: &Ref) -> bool
-    ensures { IsTrue result → IsAligned r.now }
+    ensures aligned { IsTrue result → IsAligned r.now }
+    ensures all { r.now.keybits < 64 → IsAligned r.now → IsTrue result }
 {
     if r.keybits >= 64 {
         return false;
@@ -57,7 +59,7 @@ fn is_aligned(r: &Ref) -> bool
 
 // Whether a tree may have the key: one below 2^62, or of at least 2^63.
 fn is_classed(key: u64) -> bool
-    ensures { IsTrue result → (key < 2 ^ 62) ⊎ (2 ^ 63 ≤ key) }
+    ensures { IsTrue result ↔ ((key < 2 ^ 62) ⊎ (2 ^ 63 ≤ key)) }
 {
     if key < 1 << 62 {
         return true;
@@ -70,6 +72,7 @@ fn is_sized(r: &Ref, leaf_bits: u8) -> bool
     ensures leaf { IsTrue result → is_indirect r.now ≡ false → r.now.keybits ≡ leaf_bits }
     ensures wide { IsTrue result → is_indirect r.now ≡ true → leaf_bits ≤ r.now.keybits }
     ensures some { IsTrue result → is_indirect r.now ≡ true → 0 < r.now.keybits }
+    ensures all { (is_indirect r.now ≡ false → r.now.keybits ≡ leaf_bits) → (is_indirect r.now ≡ true → leaf_bits ≤ r.now.keybits) → (is_indirect r.now ≡ true → 0 < r.now.keybits) → IsTrue result }
 {
     if !is_indirect(r) {
         return r.keybits == leaf_bits;
@@ -84,6 +87,7 @@ fn is_sized(r: &Ref, leaf_bits: u8) -> bool
 fn is_held(r: &Ref) -> bool
     ensures named { IsTrue result → r.now.kind ≡ Empty → ⊥ }
     ensures held { IsTrue result → is_indirect r.now ≡ true → IsHeld r.now }
+    ensures all { (r.now.kind ≡ Empty → ⊥) → (is_indirect r.now ≡ true → IsHeld r.now) → IsTrue result }
 {
     if r.kind == Kind::Empty {
         return false;
@@ -96,7 +100,8 @@ fn is_held(r: &Ref) -> bool
 
 // Whether the tree of a root may have a reference: any that is indirect, and those leaves that it allows.
 fn is_allowed(r: &Ref, root: &Node) -> bool
-    ensures { IsTrue result → is_indirect r.now ≡ false → allows_of (Some root.now) r.now ≡ true }
+    ensures allowed { IsTrue result → is_indirect r.now ≡ false → allows_of (Some root.now) r.now ≡ true }
+    ensures all { (is_indirect r.now ≡ false → allows_of (Some root.now) r.now ≡ true) → IsTrue result }
 {
     if is_indirect(r) {
         return true;
@@ -106,7 +111,8 @@ fn is_allowed(r: &Ref, root: &Node) -> bool
 
 /// Whether a reference may stand in a node with the range of `top`, in the tree of this root.
 pub(crate) fn fits_below(r: &Ref, top: &Ref, root: &Node) -> bool
-    ensures { IsTrue result → FitsBelow top.now (Some root.now) r.now }
+    ensures fits { IsTrue result → FitsBelow top.now (Some root.now) r.now }
+    ensures all { top.now.keybits < 64 → FitsBelow top.now (Some root.now) r.now → IsTrue result }
 {
     if !is_held(r) {
         return false;
@@ -128,21 +134,22 @@ pub(crate) fn fits_below(r: &Ref, top: &Ref, root: &Node) -> bool
 
 // Whether a set has a reference.
 fn has_some(set: &Set) -> bool
-    ensures { IsTrue result → 0 < length set.now.refs }
+    ensures { IsTrue result ↔ (0 < length set.now.refs) }
 {
     set.len() > 0
 }
 
 // Whether a set has the room of an indirect block.
 fn has_room(set: &Set) -> bool
-    ensures { IsTrue result → set.now.capacity ≡ 32 }
+    ensures { IsTrue result ↔ (set.now.capacity ≡ 32) }
 {
     set.capacity() == BLOCK_CAPACITY
 }
 
 // Whether a set may be that of the node that `top` names, in the tree of this root.
 fn all_fit(set: &Set, top: &Ref, root: &Node) -> bool
-    ensures { IsTrue result → AllFitBelow top.now (Some root.now) set.now }
+    ensures fits { IsTrue result → AllFitBelow top.now (Some root.now) set.now }
+    ensures all { top.now.keybits < 64 → AllFitBelow top.now (Some root.now) set.now → IsTrue result }
 {
     if !has_room(set) {
         return false;
@@ -158,29 +165,39 @@ fn all_fit(set: &Set, top: &Ref, root: &Node) -> bool
     true
 }
 
-// The root of a tree.
-fn root_node(nodes: &[Node], root: u32) -> Option<&Node>
-    ensures { IfSome result (λ x. slice_get nodes.now root ≡ Some x.now) }
+// Whether node `c` isn't loaded, a reference in the set of node `at` leads to it, and it may be a node of the tree of
+// this root.
+fn is_loadable(nodes: &[Node], c: usize, at: u32, r: &Ref, root: &Node) -> bool
+    requires there { c < length nodes.now }
+    requires small { length nodes.now < 2 ^ 32 }
+    ensures loadable { IsTrue result → slice_get nodes.now (root_of (slice_get nodes.now at)) ≡ Some root.now → IsLoadable nodes.now at r.now c }
+    ensures all { r.now.keybits < 64 → slice_get nodes.now (root_of (slice_get nodes.now at)) ≡ Some root.now → IsLoadable nodes.now at r.now c → IsTrue result }
 {
-    nodes.get(root as usize)
+    let x = &nodes[c];
+    if !is_away(x, at, r.key) {
+        return false;
+    }
+    if !all_fit(&x.set, r, root) {
+        return false;
+    }
+    find_below(nodes, c as u32).is_none()
 }
 
-// The node to which a reference in the set of node `at` leads, where it isn't loaded. None where it isn't one
-// of its tree.
+// The first node to which a reference in the set of node `at` leads, where it isn't loaded, and may be one of its tree.
 fn find_loadable(nodes: &[Node], at: u32, r: &Ref) -> Option<usize>
     requires there { at < length nodes.now }
+    requires root { root_of (slice_get nodes.now at) < length nodes.now }
     requires small { length nodes.now < 2 ^ 32 }
-    ensures { IfSome result (IsLoadable nodes.now at r.now) }
+    ensures found { IfSome result (IsLoadable nodes.now at r.now) }
+    ensures none { r.now.keybits < 64 → IfNone result ((c : ℕ) → IsLoadable nodes.now at r.now c → ⊥) }
 {
-    let c = find_away(nodes, at, r.key)?;
-    let root = root_node(nodes, nodes[at as usize].root)?;
-    if !all_fit(&nodes[c].set, r, root) {
-        return None;
+    let root = &nodes[nodes[at as usize].root as usize];
+    for c in 0..nodes.len() {
+        if is_loadable(nodes, c, at, r, root) {
+            return Some(c);
+        }
     }
-    match find_below(nodes, c as u32) {
-        Some(_) => None,
-        None => Some(c),
-    }
+    None
 }
 
 /// Counts a load, and tells whether it is the one that is counted down to.
@@ -196,8 +213,10 @@ pub(crate) fn is_due(left: &mut u64) -> bool
 /// The node to which a reference leads, unless this load is the one that meets a bad block.
 pub(crate) fn find_unspoiled(nodes: &[Node], at: u32, r: &Ref, spoiled: &mut u64) -> Option<usize>
     requires there { at < length nodes.now }
+    requires root { root_of (slice_get nodes.now at) < length nodes.now }
     requires small { length nodes.now < 2 ^ 32 }
     ensures found { IfSome result (IsLoadable nodes.now at r.now) }
+    ensures none { r.now.keybits < 64 → IfNone result ((spoiled.old ≡ 1) ⊎ ((c : ℕ) → IsLoadable nodes.now at r.now c → ⊥)) }
     ensures spoiled { spoiled.old ≡ 1 → IfSome result (λ c. ⊥) }
     ensures counts { spoiled.new ≡ spoiled.old - 1 }
 {

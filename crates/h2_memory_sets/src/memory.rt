@@ -290,7 +290,7 @@ impl MemorySets {
         ensures later { GoesOn self.old self.new }
         ensures counted { LoadsOne self.old self.new }
         ensures fails { FailsExactlyIf (failing_load self.old ≡ 1) result }
-        ensures spoils { (failing_load self.old ≡ 1 → ⊥) → spoiled_load self.old ≡ 1 → TellsBad result }
+        ensures spoils { (failing_load self.old ≡ 1 → ⊥) → (spoiled_load self.old ≡ 1) ⊎ (name_of self.old place len ≡ None) → TellsBad result }
         ensures counts_bad { let f = forest_of self.old in let g = forest_of self.new in TellsBad result → g.bad ≡ one_more f.bad }
         ensures blocks { blocks_of self.new ≡ blocks_of self.old }
     {

@@ -23,8 +23,8 @@ fn is_child(x: &Node, at: u32, key: u64) -> bool
     x.loaded && (is_up(x.up, at) && x.low == key)
 }
 
-// Whether a node isn't loaded, right below the other, and at this key.
-fn is_away(x: &Node, at: u32, key: u64) -> bool
+/// Whether a node isn't loaded, right below the other, and at this key.
+pub(crate) fn is_away(x: &Node, at: u32, key: u64) -> bool
     ensures { result ≡ is_away at key x.now }
 {
     !x.loaded && (is_up(x.up, at) && x.low == key)
@@ -50,13 +50,6 @@ pub(crate) fn find_child(nodes: &[Node], at: u32, key: u64, hint: u32) -> Option
         return Some(hint as usize);
     }
     nodes.iter().position(|x| is_child(x, at, key))
-}
-
-/// The node that isn't loaded at a key below another.
-pub(crate) fn find_away(nodes: &[Node], at: u32, key: u64) -> Option<usize>
-    ensures { result ≡ position (is_away at key) nodes.now }
-{
-    nodes.iter().position(|x| is_away(x, at, key))
 }
 
 /// A loaded node right below another.

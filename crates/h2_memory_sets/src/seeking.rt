@@ -1,8 +1,9 @@
 //! Roots that a leaf names, loaded or not.
-ghost use Rattle.std.specs.Prelude.{◌≡◌, ◌<◌, ◌-◌, ◌^◌, ℕ, IsTrue, IfSome, length, slice_get, Some};
+ghost use Rattle.std.specs.Prelude.{◌≡◌, ◌<◌, ◌-◌, ◌^◌, ◌↔◌, ◌⊎◌, ℕ, IsTrue, IfSome, IfNone, length, slice_get, Some};
 ghost use Rattle.std.specs.List.{position};
 ghost use Rattle.h2_ref.specs.declared.reference.Ref.{Ref};
-ghost use Rattle.h2_memory_sets.specs.View.{FitsBelow, range_of};
+ghost use Rattle.h2_memory_sets.specs.View.{FitsBelow, bits_of, range_of};
+ghost use Rattle.h2_memory_sets.specs.Kept.{AreKept};
 ghost use Rattle.h2_set.specs.RefSet.{IsRefSet};
 ghost use Rattle.h2_memory_sets.specs.Inodes.{owned_by, is_sought, sought, IsSought, IsRootNode};
 
@@ -42,6 +43,7 @@ pub(crate) fn find_root(nodes: &[Node], root: u32, key: u64) -> Option<usize>
 fn all_fit_in(set: &Set, x: &Node) -> bool
     ensures set { IsRefSet set.now }
     ensures fits { IsTrue result → (i : ℕ) (r : Ref) → slice_get set.now.refs i ≡ Some r → FitsBelow (range_of x.now) (Some x.now) r }
+    ensures all { x.now.bits < 64 → ((i : ℕ) (r : Ref) → slice_get set.now.refs i ≡ Some r → FitsBelow (range_of x.now) (Some x.now) r) → IsTrue result }
 {
     let top = range_of(x);
     for i in 0..set.len() {
@@ -54,21 +56,22 @@ fn all_fit_in(set: &Set, x: &Node) -> bool
 
 // Whether a set has the room of a root's.
 fn has_root_room(set: &Set) -> bool
-    ensures { IsTrue result → set.now.capacity ≡ 4 }
+    ensures { IsTrue result ↔ (set.now.capacity ≡ 4) }
 {
     set.capacity() == ROOT_CAPACITY
 }
 
 // Whether an inode has the number.
 fn has_number(inode: &Inode, number: u64) -> bool
-    ensures { IsTrue result → inode.now.number ≡ number }
+    ensures { IsTrue result ↔ (inode.now.number ≡ number) }
 {
     inode.number == number
 }
 
 // Whether a node is the root of an inode that can be spelled, with references that may stand there.
 fn is_root_node(x: &Node, inode: &Inode, key: u64) -> bool
-    ensures { IsTrue result → IsRootNode x.now inode.now key }
+    ensures fits { IsTrue result → IsRootNode x.now inode.now key }
+    ensures all { x.now.bits < 64 → IsRootNode x.now inode.now key → IsTrue result }
 {
     if !has_root_room(&x.set) {
         return false;
@@ -86,7 +89,8 @@ fn is_root_node(x: &Node, inode: &Inode, key: u64) -> bool
 // inode whose number is the key.
 fn is_seekable(nodes: &[Node], c: u32, root: u32, key: u64) -> bool
     requires { c < length nodes.now }
-    ensures { IsTrue result → IsSought nodes.now root key c }
+    ensures sought { IsTrue result → IsSought nodes.now root key c }
+    ensures all { bits_of (slice_get nodes.now c) < 64 → IsSought nodes.now root key c → IsTrue result }
 {
     let x = &nodes[c as usize];
     if x.loaded {
@@ -107,7 +111,8 @@ fn is_seekable(nodes: &[Node], c: u32, root: u32, key: u64) -> bool
 // The root that the leaf names, where it can be loaded: the last one that was made.
 fn find_away_root(nodes: &[Node], root: u32, key: u64) -> Option<u32>
     requires { length nodes.now < 2 ^ 32 }
-    ensures { IfSome result (IsSought nodes.now root key) }
+    ensures found { IfSome result (IsSought nodes.now root key) }
+    ensures none { AreKept nodes.now → IfNone result ((c : ℕ) → IsSought nodes.now root key c → ⊥) }
 {
     let n = nodes.len() as u32;
     for i in 0..n {
@@ -123,6 +128,7 @@ fn find_away_root(nodes: &[Node], root: u32, key: u64) -> Option<u32>
 pub(crate) fn find_sought(nodes: &[Node], root: u32, key: u64, spoiled: &mut u64) -> Option<u32>
     requires { length nodes.now < 2 ^ 32 }
     ensures found { IfSome result (IsSought nodes.now root key) }
+    ensures none { AreKept nodes.now → IfNone result ((spoiled.old ≡ 1) ⊎ ((c : ℕ) → IsSought nodes.now root key c → ⊥)) }
     ensures spoiled { spoiled.old ≡ 1 → IfSome result (λ c. ⊥) }
     ensures counts { spoiled.new ≡ spoiled.old - 1 }
 {

@@ -12,7 +12,7 @@ ghost use Rattle.h2_set.specs.Calls.{IsBad, IsIndirectAt, Walks, HasCause, Meets
 ghost use Rattle.h2_memory_sets.specs.Seen.{forest_of, beside_seen, blocks_of, name_of, failing_load, spoiled_load, refused_spare, KeepsPlans};
 ghost use Rattle.h2_memory_sets.specs.Later.{GoesOn};
 ghost use Rattle.h2_memory_sets.specs.LaterLaws.{goes_on_refl, goes_on_trans};
-ghost use Rattle.h2_memory_sets.specs.Plans.{StaysAll, LeadsTo, NeedsLoad, LoadsOne, FailsExactlyIf, TellsBad, GivesBlock, refit_block, MakesBlock};
+ghost use Rattle.h2_memory_sets.specs.Plans.{StaysAll, LeadsTo, NeedsLoad, NoneFits, LoadsOne, FailsExactlyIf, TellsBad, GivesBlock, refit_block, MakesBlock};
 
 use crate::adding::{add_node, new_reference, with_left, with_one};
 use crate::altering::{is_settled, mark_all, place_of, recount_all};
@@ -70,7 +70,8 @@ impl Sets for MemorySets {
         ensures still { (c : ℕ) → LeadsTo (forest_of self.old) at.0 i c → IsOk result × StaysAll self.old self.new }
         ensures counted { NeedsLoad (forest_of self.old) at.0 i → LoadsOne self.old self.new }
         ensures fails { NeedsLoad (forest_of self.old) at.0 i → FailsExactlyIf (failing_load self.old ≡ 1) result }
-        ensures spoils { NeedsLoad (forest_of self.old) at.0 i → (failing_load self.old ≡ 1 → ⊥) → spoiled_load self.old ≡ 1 → TellsBad result }
+        ensures spoils { NeedsLoad (forest_of self.old) at.0 i → (failing_load self.old ≡ 1 → ⊥) → (spoiled_load self.old ≡ 1) ⊎ NoneFits self.old at.0 i → TellsBad result }
+        ensures bad { TellsBad result → (spoiled_load self.old ≡ 1) ⊎ NoneFits self.old at.0 i }
         ensures counts_bad { let f = forest_of self.old in let g = forest_of self.new in TellsBad result → g.bad ≡ one_more f.bad }
         ensures blocks { blocks_of self.new ≡ blocks_of self.old }
     {
@@ -223,7 +224,7 @@ impl Sets for MemorySets {
         ensures unknown { IfErr result (λ e. (d : Dirent) → r.now.dirent ≡ Some d → IsBad e → (spoiled_load self.old ≡ 1) ⊎ (name_of self.old r.now.place d.len ≡ None)) }
         ensures counted { (d : Dirent) → r.now.dirent ≡ Some d → 64 < d.len → LoadsOne self.old self.new }
         ensures fails { (d : Dirent) → r.now.dirent ≡ Some d → 64 < d.len → FailsExactlyIf (failing_load self.old ≡ 1) result }
-        ensures spoils { (d : Dirent) → r.now.dirent ≡ Some d → 64 < d.len → (failing_load self.old ≡ 1 → ⊥) → spoiled_load self.old ≡ 1 → TellsBad result }
+        ensures spoils { (d : Dirent) → r.now.dirent ≡ Some d → 64 < d.len → (failing_load self.old ≡ 1 → ⊥) → (spoiled_load self.old ≡ 1) ⊎ (name_of self.old r.now.place d.len ≡ None) → TellsBad result }
         ensures counts_bad { let f = forest_of self.old in let g = forest_of self.new in TellsBad result → g.bad ≡ one_more f.bad }
         ensures blocks { blocks_of self.new ≡ blocks_of self.old }
     {

@@ -1,4 +1,4 @@
-use Rattle.std.proofs.Common.{◌≡◌, List, None, refl, sym, ap, arith, subst, ◌∙◌}
+use Rattle.std.proofs.Common.{◌≡◌, List, None, refl, sym, ap, arith, subst, ◌∙◌, ◌⊎◌, inl, inr}
 use Rattle.std.specs.List.{position}
 use Rattle.std.proofs.lemmas.Option.{slice_get_read, slice_get_within}
 use Rattle.h2_memory_sets.specs.declared.node.Node.{Node}
@@ -7,6 +7,8 @@ use Rattle.h2_memory_sets.proofs.Nodes.{unchanged_nodes}
 use Rattle.h2_memory_sets.proofs.Sought.{Found, unloaded, loads_root, there_already, sought_is}
 use Rattle.h2_memory_sets.specs.LaterLaws.{blocks_refl, fails_still, spoils_still}
 use Rattle.h2_memory_sets.specs.View.{block}
+use Rattle.h2_memory_sets.specs.Kept.{AreKept}
+use Rattle.h2_memory_sets.specs.Plans.{NoneNamed}
 use Rattle.h2_memory_sets.proofs.Counted.{counts_failed, counts_met}
 use Rattle.h2_memory_sets.proofs.Flagged.{blocks_set}
 use Rattle.h2_memory_sets.proofs.Going.{keeps_sought, fails_now, fails_later, spoils_now, spoils_later, not_due}
@@ -235,7 +237,29 @@ pub returns-clause-fails : goal.returns-clause-fails
 returns-clause-fails c = λ needs. not_due _ _ c.is_due.ensures.due c.if-is_due.false
 
 pub returns-clause-spoils : goal.returns-clause-spoils
-returns-clause-spoils c = λ needs other due. c.in-Some-find_sought.ensures.spoiled due
+returns-clause-spoils c = λ needs other why.
+    let l = subst (λ (zs : List Node). IsSought zs c.args.root.0 c.args.leaf.now.key c.in-Some-find_sought.c) c.deref-2.ensures.value c.in-Some-find_sought.ensures.found in
+    elim why as (λ _. ⊥) [
+      | inl due ↦ c.in-Some-find_sought.ensures.spoiled due
+      | inr none ↦ none c.in-Some-find_sought.c l
+    ]
+
+pub returns-clause-bad : goal.returns-clause-bad
+returns-clause-bad c = λ tells. absurd tells
+
+pub returns-in-Some-clause-bad : goal.returns-in-Some-clause-bad
+returns-in-Some-clause-bad c = λ tells. absurd tells
+
+pub returns-then-is_due-clause-bad : goal.returns-then-is_due-clause-bad
+returns-then-is_due-clause-bad c = λ tells. absurd tells
+
+pub returns-in_default-find_sought-clause-bad : goal.returns-in_default-find_sought-clause-bad
+returns-in_default-find_sought-clause-bad c = λ tells.
+    let p = c.args.self.now in
+    elim (c.in_default-find_sought.ensures.none (subst AreKept (sym c.deref-2.ensures.value) p.kept)) as (λ _. (p.spoiled ≡ 1) ⊎ NoneNamed p c.args.root.0 c.args.leaf.now.key) [
+      | inl due ↦ inl due
+      | inr none ↦ inr (λ k l. none k (subst (λ (zs : List Node). IsSought zs c.args.root.0 c.args.leaf.now.key k) (sym c.deref-2.ensures.value) l))
+    ]
 
 pub returns-clause-counts_bad : goal.returns-clause-counts_bad
 returns-clause-counts_bad c = λ tells. absurd tells

@@ -1,6 +1,9 @@
-use Rattle.std.proofs.Common.{arith, refl}
+use Rattle.std.proofs.Common.{List, ap, arith, refl, sym, ◌∙◌, inl, inr}
+use Rattle.std.proofs.lemmas.Option.{none-some}
 use Rattle.h2_memory_sets.proofs.Nodes.{unchanged_nodes}
 use Rattle.h2_memory_sets.specs.LaterLaws.{blocks_refl, spoils_still}
+use Rattle.h2_memory_sets.specs.declared.naming.LongName.{LongName}
+use Rattle.h2_memory_sets.specs.Names.{name_in}
 use Rattle.h2_memory_sets.proofs.Counted.{counts_failed, counts_met}
 use Rattle.h2_memory_sets.proofs.Going.{fails_now, fails_later, spoils_now, spoils_later, not_due}
 use Rattle.h2_memory_sets.proofs.memory.MemorySets.load_name.Goals as goal
@@ -86,7 +89,10 @@ pub returns-in-Ok-clause-fails : goal.returns-in-Ok-clause-fails
 returns-in-Ok-clause-fails c = not_due _ _ c.is_due.ensures.due c.if-is_due.false
 
 pub returns-in-Ok-clause-spoils : goal.returns-in-Ok-clause-spoils
-returns-in-Ok-clause-spoils c = λ other due. absurd (c.in-Some.ensures.spoiled due)
+returns-in-Ok-clause-spoils c = λ other why. elim why as (λ _. ⊥) [
+  | inl due ↦ c.in-Some.ensures.spoiled due
+  | inr none ↦ none-some _ (sym none ∙ sym (ap (λ (l : List LongName). name_in l c.args.place c.args.len) c.deref.ensures.value) ∙ c.in-Some.ensures.found)
+]
 
 pub returns-in-Ok-clause-counts_bad : goal.returns-in-Ok-clause-counts_bad
 returns-in-Ok-clause-counts_bad c = λ tells. absurd tells
@@ -98,7 +104,10 @@ pub returns-in-Err-clause-fails : goal.returns-in-Err-clause-fails
 returns-in-Err-clause-fails c = not_due _ _ c.is_due.ensures.due c.if-is_due.false
 
 pub returns-in-Err-clause-spoils : goal.returns-in-Err-clause-spoils
-returns-in-Err-clause-spoils c = λ other due. absurd (c.in-Some.ensures.spoiled due)
+returns-in-Err-clause-spoils c = λ other why. elim why as (λ _. ⊥) [
+  | inl due ↦ c.in-Some.ensures.spoiled due
+  | inr none ↦ none-some _ (sym none ∙ sym (ap (λ (l : List LongName). name_in l c.args.place c.args.len) c.deref.ensures.value) ∙ c.in-Some.ensures.found)
+]
 
 pub returns-in-Err-clause-counts_bad : goal.returns-in-Err-clause-counts_bad
 returns-in-Err-clause-counts_bad c = λ tells. absurd tells

@@ -1,4 +1,4 @@
-use Rattle.std.proofs.Common.{◌≡◌, ℕ, true, List, Some, None, slice_get, slice_set, refl, sym, ap, ◌∙◌, subst, arith}
+use Rattle.std.proofs.Common.{◌≡◌, ℕ, true, List, Some, None, slice_get, slice_set, refl, sym, ap, ◌∙◌, subst, arith, ◌⊎◌, inl, inr}
 use Rattle.std.specs.List.{position}
 use Rattle.std.proofs.lemmas.Option.{slice_get_read}
 use Rattle.h2_ref.specs.declared.reference.Ref.{Ref}
@@ -6,13 +6,15 @@ use Rattle.h2_set.specs.StayLaws.{Walks-refl, Unchanged-walks}
 use Rattle.h2_set.specs.Forest.{loaded}
 use Rattle.h2_set.specs.Calls.{Loads}
 use Rattle.h2_memory_sets.specs.declared.node.Node.{Node}
-use Rattle.h2_memory_sets.specs.View.{block, copies_of, forest_with, is_child, link_of}
+use Rattle.h2_memory_sets.specs.View.{IsLoadable, block, copies_of, forest_with, is_child, link_of}
 use Rattle.h2_memory_sets.proofs.Nodes.{unchanged_nodes, is_there}
 use Rattle.h2_memory_sets.proofs.Bringing.{ref_there, ref_same, loads_nothing, bad_place, not_loaded, not_told, is_loaded, loadable_in, loadable_within, loadable_away, brings}
 use Rattle.h2_memory_sets.proofs.Brought.{kept_bring, beside_bring}
-use Rattle.h2_memory_sets.proofs.Rooted.{rooted_bring, root_not}
+use Rattle.h2_memory_sets.proofs.Rooted.{rooted_bring, root_not, top_stands}
 use Rattle.h2_memory_sets.proofs.Hinted.{only_child}
 use Rattle.h2_memory_sets.specs.LaterLaws.{blocks_refl, fails_still, spoils_still}
+use Rattle.h2_memory_sets.specs.Plans.{NoneFits}
+use Rattle.h2_memory_sets.proofs.Nesting.{few_bits}
 use Rattle.h2_memory_sets.proofs.Counted.{leads_there, leads_nowhere, counts_failed, counts_met}
 use Rattle.h2_memory_sets.proofs.Flagged.{blocks_set}
 use Rattle.h2_memory_sets.proofs.Going.{keeps_brought, fails_now, fails_later, spoils_now, spoils_later, not_due}
@@ -55,6 +57,11 @@ returns-then-is_due-clause-unloaded c = λ r d read link.
 
 pub find_unspoiled-requires-clause-there : goal.find_unspoiled-requires-clause-there
 find_unspoiled-requires-clause-there c = rw c.deref-2.ensures.value (is_there _ _ c.requires.stands)
+
+pub find_unspoiled-requires-clause-root : goal.find_unspoiled-requires-clause-root
+find_unspoiled-requires-clause-root c =
+    let p = c.args.self.now in
+    rw c.deref-2.ensures.value (is_there _ _ (top_stands _ (p.rooted c.args.at.0 c.requires.stands)))
 
 pub returns-in_default-find_unspoiled-clause-walks : goal.returns-in_default-find_unspoiled-clause-walks
 returns-in_default-find_unspoiled-clause-walks c =
@@ -339,7 +346,41 @@ pub returns-clause-fails : goal.returns-clause-fails
 returns-clause-fails c = λ needs. not_due _ _ c.is_due.ensures.due c.if-is_due.false
 
 pub returns-clause-spoils : goal.returns-clause-spoils
-returns-clause-spoils c = λ needs other due. c.in-Some-find_unspoiled.ensures.spoiled due
+returns-clause-spoils c = λ needs other why.
+    let xs = c.args.self.now.nodes.items in
+    let at = c.args.at.0 in
+    let k = c.in-Some-find_unspoiled.c in
+    let q = c.at.result.now in
+    let node = slice_get_read xs _ at c.index.result.now refl (is_there xs at c.requires.stands) c.index.ensures in
+    let l = loadable_in _ xs at k q c.deref-2.ensures.value c.in-Some-find_unspoiled.ensures.found in
+    elim why as (λ _. ⊥) [
+      | inl due ↦ c.in-Some-find_unspoiled.ensures.spoiled due
+      | inr none ↦ none q k (ref_there xs at c.args.i c.index.result.now q node c.at.ensures) l
+    ]
+
+pub returns-clause-bad : goal.returns-clause-bad
+returns-clause-bad c = λ tells. absurd tells
+
+pub returns-in-Some-clause-bad : goal.returns-in-Some-clause-bad
+returns-in-Some-clause-bad c = λ tells. absurd tells
+
+pub returns-then-is_due-clause-bad : goal.returns-then-is_due-clause-bad
+returns-then-is_due-clause-bad c = λ tells. absurd tells
+
+pub returns-in_default-find_unspoiled-clause-bad : goal.returns-in_default-find_unspoiled-clause-bad
+returns-in_default-find_unspoiled-clause-bad c = λ tells.
+    let p = c.args.self.now in
+    let xs = p.nodes.items in
+    let at = c.args.at.0 in
+    let q = c.at.result.now in
+    let node = slice_get_read xs _ at c.index.result.now refl (is_there xs at c.requires.stands) c.index.ensures in
+    let there = ref_there xs at c.args.i c.index.result.now q node c.at.ensures in
+    let fits = ((c.requires.sound.node at c.requires.stands).fits c.args.i q there).falls (c.requires.indirect.indirect q there) in
+    let few = few_bits _ c.requires.sound at c.requires.stands in
+    elim (c.in_default-find_unspoiled.ensures.none (omega (arith, fits, few))) as (λ _. (p.spoiled ≡ 1) ⊎ NoneFits p at c.args.i) [
+      | inl due ↦ inl due
+      | inr none ↦ inr (λ r k read l. none k (subst (λ (zs : List Node). IsLoadable zs at q k) (sym c.deref-2.ensures.value) (subst (λ (z : Ref). IsLoadable xs at z k) (sym (ref_same xs at c.args.i c.index.result.now q node c.at.ensures r read)) l)))
+    ]
 
 pub returns-clause-counts_bad : goal.returns-clause-counts_bad
 returns-clause-counts_bad c = λ tells. absurd tells
