@@ -18,6 +18,7 @@ pub mod Told
 pub mod Entered
 pub mod Entries
 pub mod Known
+pub mod Meeting
 pub mod Way
 pub mod Stepping
 pub mod Agreed

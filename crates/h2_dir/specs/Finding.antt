@@ -6,7 +6,7 @@ use Rattle.h2_ref.specs.declared.faults.Trouble.TheVariants.{NoMemory}
 use Rattle.h2_ref.specs.declared.reference.Dirent.{Dirent}
 use Rattle.h2_ref.specs.declared.reference.Ref.{Ref}
 use Rattle.h2_set.specs.Forest.{Forest, Reaches}
-use Rattle.h2_set.specs.Calls.{HasCause, IsBad}
+use Rattle.h2_set.specs.Calls.{HasCause, IsBad, MeetsNone, MeetsOnly}
 use Rattle.h2_tree.specs.Changes.{RangeUnloaded}
 use Rattle.h2_dirkey.specs.Name.{IsName}
 use Rattle.h2_dirkey.specs.Key.{upper_bits, least_key, IsNameUnder}
@@ -67,6 +67,13 @@ IsBadBlock fault.NoEntry = ⊥
 IsBadBlock fault.Exists = ⊥
 IsBadBlock fault.NotDir = ⊥
 IsBadBlock (fault.Trouble e) = IsBad e
+
+-- of the faults of the disk just the one was met that is told, and that once
+abbrev pub FaultMeetsOnly : Forest → Forest → DirFault → Type 0
+FaultMeetsOnly f g fault.NoEntry = MeetsNone f g
+FaultMeetsOnly f g fault.Exists = MeetsNone f g
+FaultMeetsOnly f g fault.NotDir = MeetsNone f g
+FaultMeetsOnly f g (fault.Trouble e) = MeetsOnly f g e
 
 -- what was found agrees with the entries of the directory: the number that the name has, or that it has none
 abbrev pub AgreesOn : Entries → List ℕ → Result (ℕ × Dirent) DirFault → Type 0

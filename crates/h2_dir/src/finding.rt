@@ -9,7 +9,7 @@ ghost use Rattle.h2_inode.specs.declared.inode.Inode.{Inode};
 ghost use Rattle.h2_inode.specs.declared.kind.InodeKind.TheVariants.{Directory};
 ghost use Rattle.h2_inode.specs.Nodes.{held_by, HasInode};
 ghost use Rattle.h2_inode.specs.Directory.{Entries};
-ghost use Rattle.h2_dir.specs.Finding.{last_key, HoldsEntries, IsFound, FindFails, AgreesOn, IsBadBlock};
+ghost use Rattle.h2_dir.specs.Finding.{last_key, HoldsEntries, IsFound, FindFails, AgreesOn, IsBadBlock, FaultMeetsOnly};
 ghost use Rattle.h2_dir.specs.Walking.{LoadsNone};
 
 use crate::fault::DirFault;
@@ -41,12 +41,12 @@ fn entry_at(leaves: &[Ref], i: usize) -> (u64, Dirent)
 }
 
 /// The entry of a directory that has the name, with its key. Afterwards the paths of all keys that the name may have
-/// are loaded; no node is loaded of another tree, or whose range has none of them, and only the names of entries
-/// under these keys are read, those of more than 64 bytes and of this length. NoEntry exactly where there is none,
-/// as for a name that no entry may have; NotDir exactly where the inode isn't that of a directory, and then nothing
-/// is loaded; never Exists. Trouble only where one of these nodes isn't loaded or such a name was to be read, or for
-/// want of memory; never a bad block where the directory's entries are known. A bad block is met only where the answer
-/// tells one.
+/// are loaded; no node is loaded of another tree, or whose range has none of them, and only the names of entries under
+/// these keys are read, those of more than 64 bytes and of this length. NoEntry exactly where there is none, as for a
+/// name that no entry may have; NotDir exactly where the inode isn't that of a directory, and then nothing is loaded;
+/// never Exists. Trouble only where one of these nodes isn't loaded or such a name was to be read, or for want of
+/// memory; never a bad block where the directory's entries are known. Of the faults of the disk just the one is met
+/// that the answer tells.
 pub fn find<N: Nodes>(
     alloc: Global,
     n: &mut N,
@@ -60,7 +60,7 @@ pub fn find<N: Nodes>(
     ensures kind { (i : Inode) → HasInode (N.forest n.old) (held_by N.fields (N.beside n.old)) dir.0 i → IfOk result (λ x. i.kind ≡ Directory) }
     ensures err { (i : Inode) → HasInode (N.forest n.old) (held_by N.fields (N.beside n.old)) dir.0 i → IfErr result (FindFails (N.forest n.old) (N.forest n.new) i.kind dir.0 name.now) }
     ensures none_met { OnOk result (MeetsNone (N.forest n.old) (N.forest n.new)) }
-    ensures none_met_refused { IfErr result (λ e. (IsBadBlock e → ⊥) → MeetsNone (N.forest n.old) (N.forest n.new)) }
+    ensures met_only { IfErr result (FaultMeetsOnly (N.forest n.old) (N.forest n.new)) }
     ensures agrees { (may : ℕ → ℕ → Bool) (size : ℕ) (entries : Entries) → HoldsEntries (N.forest n.old) (held_by N.fields (N.beside n.old)) (N.told n.old) may dir.0 size entries → AgreesOn entries name.now result }
     ensures good { (may : ℕ → ℕ → Bool) (size : ℕ) (entries : Entries) → HoldsEntries (N.forest n.old) (held_by N.fields (N.beside n.old)) (N.told n.old) may dir.0 size entries → IfErr result (λ e. IsBadBlock e → ⊥) }
     ensures touched { LoadsIn (N.forest n.old) (N.forest n.new) dir.0 (least_key name.now) (last_key name.now) }

@@ -1,7 +1,7 @@
 ghost use Rattle.std.specs.Prelude.{◌≡◌, ◌≤◌, ◌⊎◌, ◌-◌, ◌^◌, ℕ, Bool, true, IfOk, IfErr, OnOk, List, All, Some, IsPermutation, IsSorted};
 ghost use Rattle.h2_ref.specs.declared.reference.Ref.{Ref};
 ghost use Rattle.h2_set.specs.Forest.{Forest, IsSound};
-ghost use Rattle.h2_set.specs.Calls.{IsBad, Walks, Unchanged, HasCause, MeetsNone, KeepsBeside};
+ghost use Rattle.h2_set.specs.Calls.{IsBad, Walks, Unchanged, HasCause, MeetsNone, MeetsOnly, KeepsBeside};
 ghost use Rattle.h2_tree.specs.Changes.{LoadsIn};
 ghost use Rattle.h2_inode.specs.declared.inode.Inode.{Inode};
 ghost use Rattle.h2_inode.specs.declared.kind.InodeKind.TheVariants.{Directory};
@@ -9,7 +9,7 @@ ghost use Rattle.h2_inode.specs.Access.{OneByOne};
 ghost use Rattle.h2_inode.specs.Nodes.{held_by, HasInode};
 ghost use Rattle.h2_inode.specs.Directory.{Entries};
 ghost use Rattle.h2_dir.specs.Names.{IsEntryNamed, AllNamed};
-ghost use Rattle.h2_dir.specs.Finding.{HoldsEntries, IsBadBlock};
+ghost use Rattle.h2_dir.specs.Finding.{HoldsEntries, IsBadBlock, FaultMeetsOnly};
 ghost use Rattle.h2_dir.specs.Listing.{IsEntryLeaf, SaysEntry, HasLongName, AnyLongName, IsListing, ListFails, by_name, entries_of};
 ghost use Rattle.h2_dir.specs.Walking.{LoadsNone};
 
@@ -33,7 +33,7 @@ fn entry_of<N: Sets>(alloc: Global, n: &mut N, leaf: &Ref) -> Result<(Name, u64)
     ensures says { IfOk result (SaysEntry (N.forest n.old) leaf.now) }
     ensures err { IfErr result (HasCause (N.forest n.old) (N.forest n.new)) }
     ensures none_met { OnOk result (MeetsNone (N.forest n.old) (N.forest n.new)) }
-    ensures none_met_refused { IfErr result (λ e. (IsBad e → ⊥) → MeetsNone (N.forest n.old) (N.forest n.new)) }
+    ensures met_only { IfErr result (MeetsOnly (N.forest n.old) (N.forest n.new)) }
     ensures unread { IfErr result (λ e. (e ≡ Trouble.NoMemory) ⊎ HasLongName leaf.now) }
     ensures good { let f = N.forest n.old in IfErr result (λ e. (own : List ℕ) → IsEntryNamed f leaf.now own → IsBad e → ⊥) }
     ensures beside { KeepsBeside (N.forest n.old) (N.forest n.new) (N.beside n.old) (N.beside n.new) }
@@ -57,7 +57,7 @@ fn all_named<N: Sets>(alloc: Global, n: &mut N, leaves: &[Ref]) -> Result<Vec<(N
     ensures each { IfOk result (λ v. OneByOne (SaysEntry (N.forest n.old)) leaves.now v.items) }
     ensures err { IfErr result (HasCause (N.forest n.old) (N.forest n.new)) }
     ensures none_met { OnOk result (MeetsNone (N.forest n.old) (N.forest n.new)) }
-    ensures none_met_refused { IfErr result (λ e. (IsBad e → ⊥) → MeetsNone (N.forest n.old) (N.forest n.new)) }
+    ensures met_only { IfErr result (MeetsOnly (N.forest n.old) (N.forest n.new)) }
     ensures unread { IfErr result (λ e. (e ≡ Trouble.NoMemory) ⊎ AnyLongName leaves.now) }
     ensures good { let f = N.forest n.old in IfErr result (λ e. AllNamed f leaves.now → IsBad e → ⊥) }
     ensures beside { KeepsBeside (N.forest n.old) (N.forest n.new) (N.beside n.old) (N.beside n.new) }
@@ -85,9 +85,10 @@ fn sort_by_name(all: &mut Vec<(Name, u64)>) -> Result<(), AllocError>
 /// The names and the numbers of a directory's entries, in byte order of the names. Each block of the tree is loaded,
 /// and the name of each entry with more than 64 bytes is read; no node is loaded but of this tree.
 ///
-/// NotDir exactly where the inode isn't that of a directory, and then nothing is loaded; never NoEntry or Exists. Trouble
-/// only where a node that may have entries isn't loaded or an entry has such a name, or for want of memory; never a bad
-/// block where the directory's entries are known. A bad block is met only where the answer tells one.
+/// NotDir exactly where the inode isn't that of a directory, and then nothing is loaded; never NoEntry or Exists.
+/// Trouble only where a node that may have entries isn't loaded or an entry has such a name, or for want of memory;
+/// never a bad block where the directory's entries are known. Of the faults of the disk just the one is met that the
+/// answer tells.
 pub fn list<N: Nodes>(alloc: Global, n: &mut N, dir: NodeId) -> Result<Vec<(Name, u64)>, DirFault>
     requires sound { IsSound (N.forest n.old) }
     requires inode { (i : Inode) × HasInode (N.forest n.old) (held_by N.fields (N.beside n.old)) dir.0 i }
@@ -97,7 +98,7 @@ pub fn list<N: Nodes>(alloc: Global, n: &mut N, dir: NodeId) -> Result<Vec<(Name
     ensures kind { (i : Inode) → HasInode (N.forest n.old) (held_by N.fields (N.beside n.old)) dir.0 i → IfOk result (λ v. i.kind ≡ Directory) }
     ensures err { (i : Inode) → HasInode (N.forest n.old) (held_by N.fields (N.beside n.old)) dir.0 i → IfErr result (ListFails (N.forest n.old) (N.forest n.new) i.kind dir.0) }
     ensures none_met { OnOk result (MeetsNone (N.forest n.old) (N.forest n.new)) }
-    ensures none_met_refused { IfErr result (λ e. (IsBadBlock e → ⊥) → MeetsNone (N.forest n.old) (N.forest n.new)) }
+    ensures met_only { IfErr result (FaultMeetsOnly (N.forest n.old) (N.forest n.new)) }
     ensures good { (may : ℕ → ℕ → Bool) (size : ℕ) (entries : Entries) → HoldsEntries (N.forest n.old) (held_by N.fields (N.beside n.old)) (N.told n.old) may dir.0 size entries → IfErr result (λ e. IsBadBlock e → ⊥) }
     ensures none { (i : Inode) → HasInode (N.forest n.old) (held_by N.fields (N.beside n.old)) dir.0 i → (i.kind ≡ Directory → ⊥) → LoadsNone (N.forest n.old) (N.forest n.new) }
     ensures touched { LoadsIn (N.forest n.old) (N.forest n.new) dir.0 (2 ^ 63) (2 ^ 64 - 1) }

@@ -9,7 +9,7 @@ ghost use Rattle.h2_inode.specs.declared.inode.Inode.{Inode};
 ghost use Rattle.h2_inode.specs.declared.kind.InodeKind.TheVariants.{Directory};
 ghost use Rattle.h2_inode.specs.Nodes.{held_by, HasInode};
 ghost use Rattle.h2_inode.specs.Directory.{Entries};
-ghost use Rattle.h2_dir.specs.Finding.{last_key, HoldsEntries, IsBadBlock};
+ghost use Rattle.h2_dir.specs.Finding.{last_key, HoldsEntries, IsBadBlock, FaultMeetsOnly};
 ghost use Rattle.h2_dir.specs.Placing.{IsSpot, SpotFails, SpotAgrees};
 ghost use Rattle.h2_dir.specs.Walking.{LoadsNone};
 
@@ -62,7 +62,7 @@ pub fn spot<N: Nodes>(alloc: Global, n: &mut N, dir: NodeId, name: &[u8]) -> Res
     ensures kind { (i : Inode) → HasInode (N.forest n.old) (held_by N.fields (N.beside n.old)) dir.0 i → IfOk result (λ x. i.kind ≡ Directory) }
     ensures err { (i : Inode) → HasInode (N.forest n.old) (held_by N.fields (N.beside n.old)) dir.0 i → IfErr result (SpotFails (N.forest n.old) (N.forest n.new) i.kind dir.0 name.now) }
     ensures none_met { OnOk result (MeetsNone (N.forest n.old) (N.forest n.new)) }
-    ensures none_met_refused { IfErr result (λ e. (IsBadBlock e → ⊥) → MeetsNone (N.forest n.old) (N.forest n.new)) }
+    ensures met_only { IfErr result (FaultMeetsOnly (N.forest n.old) (N.forest n.new)) }
     ensures agrees { (may : ℕ → ℕ → Bool) (size : ℕ) (entries : Entries) → HoldsEntries (N.forest n.old) (held_by N.fields (N.beside n.old)) (N.told n.old) may dir.0 size entries → SpotAgrees entries name.now result }
     ensures good { (may : ℕ → ℕ → Bool) (size : ℕ) (entries : Entries) → HoldsEntries (N.forest n.old) (held_by N.fields (N.beside n.old)) (N.told n.old) may dir.0 size entries → IfErr result (λ e. IsBadBlock e → ⊥) }
     ensures none { (i : Inode) → HasInode (N.forest n.old) (held_by N.fields (N.beside n.old)) dir.0 i → (i.kind ≡ Directory → ⊥) → LoadsNone (N.forest n.old) (N.forest n.new) }

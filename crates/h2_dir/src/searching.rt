@@ -1,7 +1,7 @@
 ghost use Rattle.std.specs.Prelude.{◌≡◌, IfOk, IfErr, OnOk, List, filter};
 ghost use Rattle.h2_ref.specs.declared.reference.Ref.{Ref};
 ghost use Rattle.h2_set.specs.Forest.{IsSound, LeavesOf};
-ghost use Rattle.h2_set.specs.Calls.{IsBad, Walks, HasCause, MeetsNone, KeepsBeside};
+ghost use Rattle.h2_set.specs.Calls.{IsBad, Walks, HasCause, MeetsNone, MeetsOnly, KeepsBeside};
 ghost use Rattle.h2_tree.specs.Changes.{LoadsIn, Lists, is_between};
 ghost use Rattle.h2_dirkey.specs.Key.{least_key};
 ghost use Rattle.h2_inode.specs.declared.inode.Inode.{Inode};
@@ -44,7 +44,7 @@ pub(crate) fn search<N: Nodes>(
     ensures scanned { IfOk result (λ s. Scanned (N.forest n.new) s.leaves.items name.now s.place) }
     ensures err { IfErr result (HasCause (N.forest n.old) (N.forest n.new)) }
     ensures none_met { OnOk result (MeetsNone (N.forest n.old) (N.forest n.new)) }
-    ensures none_met_refused { IfErr result (λ e. (IsBad e → ⊥) → MeetsNone (N.forest n.old) (N.forest n.new)) }
+    ensures met_only { IfErr result (MeetsOnly (N.forest n.old) (N.forest n.new)) }
     ensures touched { LoadsIn (N.forest n.old) (N.forest n.new) dir.0 (least_key name.now) (last_key name.now) }
     ensures unread { IfErr result (MayLoad (N.forest n.old) (N.forest n.new) dir.0 name.now) }
     ensures good { let f = N.forest n.old in IfErr result (λ e. (l : List Ref) → LeavesOf f dir.0 l → AllNamed f l → IsBad e → ⊥) }

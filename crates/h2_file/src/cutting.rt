@@ -4,7 +4,7 @@ ghost use Rattle.h2_ref.specs.declared.reference.Kind.{Kind};
 ghost use Rattle.h2_set.specs.Ranges.{is_indirect, limit};
 ghost use Rattle.h2_set.specs.RefSet.{RefSet};
 ghost use Rattle.h2_set.specs.Forest.{Forest, refs, IsSound, LeavesOf, HasLeaves};
-ghost use Rattle.h2_set.specs.Calls.{Walks, HasCause, IsBad, MeetsNone, KeepsBeside};
+ghost use Rattle.h2_set.specs.Calls.{Walks, HasCause, IsBad, MeetsNone, MeetsOnly, KeepsBeside};
 ghost use Rattle.h2_tree.specs.Changes.{LoadsIn, PathUnloaded, WalksUnder};
 ghost use Rattle.h2_inode.specs.Nodes.{held_by, KeepsOthersBeside, NamesOne};
 ghost use Rattle.h2_num.specs.Places.{Places};
@@ -140,7 +140,7 @@ fn cut_below<N: Sets>(
     ensures walks { OnErr result (Walks (N.forest n.old) (N.forest n.new)) }
     ensures err { IfErr result (HasCause (N.forest n.old) (N.forest n.new)) }
     ensures none_met { OnOk result (MeetsNone (N.forest n.old) (N.forest n.new)) }
-    ensures none_met_refused { IfErr result (λ e. (IsBad e → ⊥) → MeetsNone (N.forest n.old) (N.forest n.new)) }
+    ensures met_only { IfErr result (MeetsOnly (N.forest n.old) (N.forest n.new)) }
     ensures touched { OnErr result (LoadsIn (N.forest n.old) (N.forest n.new) at.0 size size) }
     ensures unloaded { OnErr result (PathUnloaded (N.forest n.old) at.0 size) }
     ensures good { IfErr result (λ e. (l : List Ref) → LeavesOf (N.forest n.old) at.0 l → IsBad e → ⊥) }
@@ -192,7 +192,7 @@ fn cut_tree<N: Sets>(
     ensures walks { OnErr result (Walks (N.forest n.old) (N.forest n.new)) }
     ensures err { IfErr result (HasCause (N.forest n.old) (N.forest n.new)) }
     ensures none_met { OnOk result (MeetsNone (N.forest n.old) (N.forest n.new)) }
-    ensures none_met_refused { IfErr result (λ e. (IsBad e → ⊥) → MeetsNone (N.forest n.old) (N.forest n.new)) }
+    ensures met_only { IfErr result (MeetsOnly (N.forest n.old) (N.forest n.new)) }
     ensures touched { OnErr result (LoadsIn (N.forest n.old) (N.forest n.new) root.0 size size) }
     ensures unloaded { OnErr result (PathUnloaded (N.forest n.old) root.0 size) }
     ensures good { IfErr result (λ e. (l : List Ref) → LeavesOf (N.forest n.old) root.0 l → IsBad e → ⊥) }
@@ -215,11 +215,11 @@ fn cut_tree<N: Sets>(
 
 /// Cuts a file to a size: takes out every content reference at or past it, puts `last`, where it is given, in place of
 /// the reference of the block that the cut ends in, where there is one, and sets the size. The file's body is
-/// references. A node that lies wholly past the size goes without being made writable, and one of which nothing goes, nor
-/// below it, stays as it is: only the root, which has the size, is written in any case. The room is at least 62, and is
-/// lowered by the number of nodes that are copied. Trouble only where a node on the path of the size isn't loaded,
-/// and never a bad block where the file's references are known; nothing but loads took place then. A bad block is met
-/// only where the answer is Bad.
+/// references. A node that lies wholly past the size goes without being made writable, and one of which nothing goes,
+/// nor below it, stays as it is: only the root, which has the size, is written in any case. The room is at least 62,
+/// and is lowered by the number of nodes that are copied. Trouble only where a node on the path of the size isn't
+/// loaded, and never a bad block where the file's references are known; nothing but loads took place then. Of the
+/// faults of the disk just the one is met that the answer tells.
 pub fn cut_blocks<N: Nodes>(
     alloc: Global,
     n: &mut N,
@@ -239,7 +239,7 @@ pub fn cut_blocks<N: Nodes>(
     ensures walks { OnErr result (Walks (N.forest n.old) (N.forest n.new)) }
     ensures err { IfErr result (HasCause (N.forest n.old) (N.forest n.new)) }
     ensures none_met { OnOk result (MeetsNone (N.forest n.old) (N.forest n.new)) }
-    ensures none_met_refused { IfErr result (λ e. (IsBad e → ⊥) → MeetsNone (N.forest n.old) (N.forest n.new)) }
+    ensures met_only { IfErr result (MeetsOnly (N.forest n.old) (N.forest n.new)) }
     ensures touched { OnErr result (LoadsIn (N.forest n.old) (N.forest n.new) inode.0 size size) }
     ensures unloaded { OnErr result (PathUnloaded (N.forest n.old) inode.0 size) }
     ensures good { IfErr result (λ e. (l : List Ref) → LeavesOf (N.forest n.old) inode.0 l → IsBad e → ⊥) }

@@ -3,7 +3,7 @@ ghost use Rattle.h2_num.specs.Places.{Places};
 ghost use Rattle.h2_ref.specs.declared.reference.Ref.{Ref};
 ghost use Rattle.h2_set.specs.RefSet.{RefSet};
 ghost use Rattle.h2_set.specs.Forest.{Forest, IsSound, Reaches, LeavesOf};
-ghost use Rattle.h2_set.specs.Calls.{Walks, HasCause, IsBad, MeetsNone, KeepsBeside};
+ghost use Rattle.h2_set.specs.Calls.{Walks, HasCause, IsBad, MeetsNone, MeetsOnly, KeepsBeside};
 ghost use Rattle.h2_tree.specs.Changes.{Prepares};
 ghost use Rattle.h2_inode.specs.declared.inode.Body.{Body};
 ghost use Rattle.h2_inode.specs.declared.inode.Body.TheVariants.{Refs, Bytes};
@@ -35,7 +35,7 @@ fn load_paths<N: Sets>(alloc: Global, n: &mut N, root: NodeId, refs: &[Ref]) -> 
     ensures apart { KeepsOthers (N.forest n.old) (N.forest n.new) root.0 }
     ensures err { IfErr result (HasCause (N.forest n.old) (N.forest n.new)) }
     ensures none_met { OnOk result (MeetsNone (N.forest n.old) (N.forest n.new)) }
-    ensures none_met_refused { IfErr result (λ e. (IsBad e → ⊥) → MeetsNone (N.forest n.old) (N.forest n.new)) }
+    ensures met_only { IfErr result (MeetsOnly (N.forest n.old) (N.forest n.new)) }
     ensures unloaded { OnErr result (PathMissing (N.forest n.old) root.0 refs.now) }
     ensures good { IfErr result (λ e. (l : List Ref) → LeavesOf (N.forest n.old) root.0 l → IsBad e → ⊥) }
     ensures beside { KeepsBeside (N.forest n.old) (N.forest n.new) (N.beside n.old) (N.beside n.new) }
@@ -61,7 +61,7 @@ fn prepare<N: Sets>(alloc: Global, n: &mut N, root: NodeId, refs: &[Ref]) -> Res
     ensures apart { KeepsOthers (N.forest n.old) (N.forest n.new) root.0 }
     ensures err { IfErr result (HasCause (N.forest n.old) (N.forest n.new)) }
     ensures none_met { OnOk result (MeetsNone (N.forest n.old) (N.forest n.new)) }
-    ensures none_met_refused { IfErr result (λ e. (IsBad e → ⊥) → MeetsNone (N.forest n.old) (N.forest n.new)) }
+    ensures met_only { IfErr result (MeetsOnly (N.forest n.old) (N.forest n.new)) }
     ensures unloaded { OnErr result (let f = N.forest n.old in PathMissing f root.0 refs.now ⊎ (f.spare < length refs.now)) }
     ensures good { IfErr result (λ e. (l : List Ref) → LeavesOf (N.forest n.old) root.0 l → IsBad e → ⊥) }
     ensures beside { KeepsBeside (N.forest n.old) (N.forest n.new) (N.beside n.old) (N.beside n.new) }
@@ -150,10 +150,10 @@ fn put_blocks<N: Sets>(alloc: Global, n: &mut N, at: NodeId, refs: &[Ref])
 /// its key. With `k` references the room is at least 7k + 186, and is lowered by at most 7k + 129. For what is copied
 /// is a node of 64 blocks or more on the path of block 0, the first block or the last one, of which each path has at
 /// most 43, or one of at most 6 smaller nodes on the path of the block itself; and a split takes one new block. Spare
-/// nodes are lowered by the new blocks alone; none is made where there is one for each reference before. Trouble
-/// only where a node on the path of one of the keys isn't loaded, or fewer nodes are spare than there are references,
-/// and never a bad block where the file's references are known; nothing but loads took place then. A bad block is met
-/// only where the answer is Bad.
+/// nodes are lowered by the new blocks alone; none is made where there is one for each reference before. Trouble only
+/// where a node on the path of one of the keys isn't loaded, or fewer nodes are spare than there are references, and
+/// never a bad block where the file's references are known; nothing but loads took place then. Of the faults of the
+/// disk just the one is met that the answer tells.
 pub fn link_blocks<N: Nodes>(
     alloc: Global,
     n: &mut N,
@@ -174,7 +174,7 @@ pub fn link_blocks<N: Nodes>(
     ensures walks { OnErr result (Walks (N.forest n.old) (N.forest n.new)) }
     ensures err { IfErr result (HasCause (N.forest n.old) (N.forest n.new)) }
     ensures none_met { OnOk result (MeetsNone (N.forest n.old) (N.forest n.new)) }
-    ensures none_met_refused { IfErr result (λ e. (IsBad e → ⊥) → MeetsNone (N.forest n.old) (N.forest n.new)) }
+    ensures met_only { IfErr result (MeetsOnly (N.forest n.old) (N.forest n.new)) }
     ensures touched { OnErr result (LoadsEach (N.forest n.old) (N.forest n.new) inode.0 refs.now) }
     ensures unloaded { OnErr result (let f = N.forest n.old in PathMissing f inode.0 refs.now ⊎ (f.spare < length refs.now)) }
     ensures good { IfErr result (λ e. (l : List Ref) → LeavesOf (N.forest n.old) inode.0 l → IsBad e → ⊥) }

@@ -2,7 +2,7 @@ ghost use Rattle.std.specs.Prelude.{◌≡◌, ℕ, true, List, Option, IfOk, If
 ghost use Rattle.h2_ref.specs.declared.reference.Ref.{Ref};
 ghost use Rattle.h2_set.specs.Ranges.{find};
 ghost use Rattle.h2_set.specs.Forest.{IsSound, LeavesOf, Reaches};
-ghost use Rattle.h2_set.specs.Calls.{Walks, HasCause, IsBad, MeetsNone, KeepsBeside};
+ghost use Rattle.h2_set.specs.Calls.{Walks, HasCause, IsBad, MeetsNone, MeetsOnly, KeepsBeside};
 ghost use Rattle.h2_tree.specs.Changes.{LoadsIn, PathUnloaded};
 ghost use Rattle.h2_inode.specs.Nodes.{held_by};
 ghost use Rattle.h2_file.specs.Blocks.{IsFileOfRefs};
@@ -18,7 +18,7 @@ use std::alloc::Global;
 /// The content reference of the file's block that holds the byte `start`; None exactly at a hole, where the whole block
 /// that would hold it is zeros. The file's body is references. Afterwards every node on the path of `start` is loaded,
 /// and no other was, in no tree. Trouble only where one wasn't, and never a bad block where the file's references are
-/// known; a bad block is met only where the answer is Bad. Nothing but loads takes place.
+/// known. Of the faults of the disk just the one is met that the answer tells. Nothing but loads takes place.
 pub fn read_block<N: Nodes>(
     alloc: Global,
     n: &mut N,
@@ -34,7 +34,7 @@ pub fn read_block<N: Nodes>(
     ensures touched { LoadsIn (N.forest n.old) (N.forest n.new) inode.0 start start }
     ensures err { IfErr result (HasCause (N.forest n.old) (N.forest n.new)) }
     ensures none_met { OnOk result (MeetsNone (N.forest n.old) (N.forest n.new)) }
-    ensures none_met_refused { IfErr result (λ e. (IsBad e → ⊥) → MeetsNone (N.forest n.old) (N.forest n.new)) }
+    ensures met_only { IfErr result (MeetsOnly (N.forest n.old) (N.forest n.new)) }
     ensures unloaded { OnErr result (PathUnloaded (N.forest n.old) inode.0 start) }
     ensures good { IfErr result (λ e. (l : List Ref) → LeavesOf (N.forest n.old) inode.0 l → IsBad e → ⊥) }
     ensures beside { KeepsBeside (N.forest n.old) (N.forest n.new) (N.beside n.old) (N.beside n.new) }

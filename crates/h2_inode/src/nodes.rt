@@ -3,7 +3,7 @@ ghost use Rattle.h2_ref.specs.declared.reference.Ref.{Ref};
 ghost use Rattle.h2_ref.specs.declared.faults.Trouble.{Trouble};
 ghost use Rattle.h2_ref.specs.declared.faults.Why.{Why};
 ghost use Rattle.h2_set.specs.Forest.{IsSound};
-ghost use Rattle.h2_set.specs.Calls.{IsBad, Unchanged, HasCause, MeetsNone, KeepsBeside};
+ghost use Rattle.h2_set.specs.Calls.{IsBad, Unchanged, HasCause, MeetsNone, MeetsOnly, KeepsBeside};
 ghost use Rattle.h2_inode.specs.declared.inode.Inode.{Inode};
 ghost use Rattle.h2_inode.specs.Inode.{IsInode};
 ghost use Rattle.h2_inode.specs.Nodes.{Fields, held_by, set_of, HasInode, IsInodeLeaf, IsUnloaded, Told, IsAsTold, IsPlantable, Replaceable, Seeks, Plants, Replaces, KeepsOthersBeside};
@@ -30,8 +30,8 @@ pub trait Nodes: Sets {
     /// The root of the inode that an Inode leaf names, in the tree of the root `root`, loaded where it wasn't. The
     /// leaf's path is loaded. Trouble only where the inode wasn't loaded: Failed where the disk failed, Bad with the
     /// leaf's place where the block isn't that of the inode whose number is the key, which is never so of one that is
-    /// told. After it nothing but the two counts and the last bad block that was met has changed. A bad block is met only
-    /// where the answer is Bad.
+    /// told. After it nothing but the two counts and the last bad block that was met has changed. Of the faults of the
+    /// disk just the one is met that the answer tells.
     fn seek(&mut self, alloc: Global, root: NodeId, leaf: &Ref) -> Result<NodeId, Trouble>
         requires sound { IsSound (Self.forest self.old) }
         requires leaf { IsInodeLeaf (Self.forest self.old) root.0 leaf.now }
@@ -44,7 +44,7 @@ pub trait Nodes: Sets {
         ensures unloaded { OnErr result (let r : Ref = leaf.now in IsUnloaded (Self.forest self.old) root.0 r.key) }
         ensures place { let r : Ref = leaf.now in IfErr result (λ e. (place : ℕ) (why : Why) → e ≡ Trouble.Bad place why → place ≡ r.place) }
         ensures none_met { OnOk result (MeetsNone (Self.forest self.old) (Self.forest self.new)) }
-        ensures none_met_refused { IfErr result (λ e. (IsBad e → ⊥) → MeetsNone (Self.forest self.old) (Self.forest self.new)) }
+        ensures met_only { IfErr result (MeetsOnly (Self.forest self.old) (Self.forest self.new)) }
         ensures good { IfErr result (λ e. (x : Told) → told self.old leaf.now ≡ Some x → IsBad e → ⊥) }
         ensures beside { KeepsBeside (Self.forest self.old) (Self.forest self.new) (Self.beside self.old) (Self.beside self.new) }
         ensures later { Self.later self.old self.new };

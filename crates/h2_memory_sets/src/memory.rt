@@ -57,7 +57,7 @@ impl MemorySets {
     ghost use Rattle.h2_ref.specs.declared.faults.Trouble.{Trouble};
     ghost use Rattle.h2_ref.specs.declared.faults.Why.{Why};
     ghost use Rattle.h2_set.specs.Forest.{IsSound};
-    ghost use Rattle.h2_set.specs.Calls.{IsBad, MeetsNone, Unchanged, HasCause, KeepsBeside};
+    ghost use Rattle.h2_set.specs.Calls.{MeetsNone, MeetsOnly, Unchanged, HasCause, KeepsBeside};
     ghost use Rattle.h2_memory_sets.specs.Seen.{forest_of, beside_seen, blocks_of, name_of, failing_load, spoiled_load, refused_spare, KeepsNames, KeepsPlans};
     ghost use Rattle.h2_memory_sets.specs.Later.{GoesOn};
     ghost use Rattle.h2_memory_sets.specs.View.{root_block};
@@ -283,7 +283,7 @@ impl MemorySets {
         ensures err { IfErr result (HasCause (forest_of self.old) (forest_of self.new)) }
         ensures place { IfErr result (λ e. (p : ℕ) (why : Why) → e ≡ Trouble.Bad p why → p ≡ place) }
         ensures none_met { OnOk result (MeetsNone (forest_of self.old) (forest_of self.new)) }
-        ensures none_met_refused { IfErr result (λ e. (IsBad e → ⊥) → MeetsNone (forest_of self.old) (forest_of self.new)) }
+        ensures met_only { IfErr result (MeetsOnly (forest_of self.old) (forest_of self.new)) }
         ensures beside { beside_seen self.new ≡ beside_seen self.old }
         ensures later { GoesOn self.old self.new }
     {

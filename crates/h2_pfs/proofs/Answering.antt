@@ -5,8 +5,12 @@ use Rattle.std.specs.Result.{IsErrAnd}
 use Rattle.h2_ref.specs.declared.faults.Trouble.{Trouble}
 use Rattle.h2_ref.specs.declared.faults.Trouble.TheVariants.{Failed, Bad, NoMemory}
 use Rattle.h2_set.specs.Forest.{Forest}
-use Rattle.h2_set.specs.Calls.{HasCause}
+use Rattle.h2_set.specs.Calls.{HasCause, MeetsNone}
+use Rattle.h2_set.specs.MetLaws.{MeetsNone-trans, MeetsOnly-after}
 use Rattle.h2_inode.specs.Nodes.{Visits}
+use Rattle.h2_pfs.specs.declared.fault.PfsFault.{PfsFault}
+use Rattle.h2_pfs.specs.declared.fault.PfsFault.TheVariants.{NoPfs, Exists, Full, InUse, Trouble as Troubled}
+use Rattle.h2_pfs.specs.Faults.{FaultMeetsOnly}
 
 -- what holds of an error holds where it is handed on
 pub carried_err : {T E : Type 0} (P : E → Type 0) (r : Result T E) (e : E) → IsErrAnd r (λ x. x ≡ e) → P e → IfErr r P
@@ -30,3 +34,11 @@ cause_after f h g (Bad place why) visits cause =
     let rose = cause.0 in
     (grind arith, cause.1)
 cause_after f h g NoMemory visits cause = tt
+
+-- just what the last call's fault tells was met in all calls, where none was met before it
+pub fault_met_after : (f g h : Forest) (e : PfsFault) → MeetsNone f g → FaultMeetsOnly g h e → FaultMeetsOnly f h e
+fault_met_after f g h NoPfs before after = MeetsNone-trans f g h before after
+fault_met_after f g h Exists before after = MeetsNone-trans f g h before after
+fault_met_after f g h Full before after = MeetsNone-trans f g h before after
+fault_met_after f g h (InUse handles) before after = MeetsNone-trans f g h before after
+fault_met_after f g h (Troubled t) before after = MeetsOnly-after f g h t before after

@@ -3,7 +3,7 @@ use Rattle.std.specs.Prelude.{◌≡◌, ◌⊎◌, ◌<◌, ◌≤◌, ◌-◌,
 use Rattle.h2_ref.specs.declared.faults.Trouble.{Trouble}
 use Rattle.h2_ref.specs.declared.faults.Trouble.TheVariants.{NoMemory}
 use Rattle.h2_set.specs.Forest.{Forest}
-use Rattle.h2_set.specs.Calls.{HasCause, IsBad}
+use Rattle.h2_set.specs.Calls.{HasCause, IsBad, MeetsNone, MeetsOnly}
 use Rattle.h2_tree.specs.Changes.{RangeUnloaded, PathUnloaded}
 use Rattle.h2_inode.specs.Nodes.{Fields}
 use Rattle.h2_pfs.specs.declared.fault.PfsFault.{PfsFault}
@@ -53,13 +53,13 @@ IsAddFault f g holds top name id Full = (h : HasId g holds top name None) × (64
 IsAddFault f g holds top name id (InUse handles) = ⊥
 IsAddFault f g holds top name id (Troubled t) = IsTrouble f g top t ⊎ (HasCause f g t × PathUnloaded f top id)
 
--- a block wasn't what it should be
-abbrev pub IsBadBlock : PfsFault → Type 0
-IsBadBlock NoPfs = ⊥
-IsBadBlock Exists = ⊥
-IsBadBlock Full = ⊥
-IsBadBlock (InUse handles) = ⊥
-IsBadBlock (Troubled t) = IsBad t
+-- of the faults of the disk just the one was met that is told, and that once
+abbrev pub FaultMeetsOnly : Forest → Forest → PfsFault → Type 0
+FaultMeetsOnly f g NoPfs = MeetsNone f g
+FaultMeetsOnly f g Exists = MeetsNone f g
+FaultMeetsOnly f g Full = MeetsNone f g
+FaultMeetsOnly f g (InUse handles) = MeetsNone f g
+FaultMeetsOnly f g (Troubled t) = MeetsOnly f g t
 
 -- what a refusal says of the list of PFSs that the tree stood for; trouble is no bad block then
 abbrev pub IsFaultIn : List ℕ → List ListedPfs → PfsFault → Type 0

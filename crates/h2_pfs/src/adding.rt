@@ -12,7 +12,7 @@ ghost use Rattle.h2_pfs.specs.SuperRoot.{IsSuperRoot};
 ghost use Rattle.h2_pfs.specs.Listing.{HasPfss, KeepsPfss};
 ghost use Rattle.h2_pfs.specs.Meets.{LoadsPfss};
 ghost use Rattle.h2_pfs.specs.Addition.{IsFreeId, pfs_of, HasSpace, Founds, AddsPfs, PutsPfs};
-ghost use Rattle.h2_pfs.specs.Faults.{IsSpaceFault, IsAddFault, IsBadBlock, IsFaultIn};
+ghost use Rattle.h2_pfs.specs.Faults.{IsSpaceFault, IsAddFault, IsFaultIn, FaultMeetsOnly};
 
 use crate::fault::PfsFault;
 use crate::met::id_in;
@@ -35,7 +35,7 @@ fn make_space<N: Nodes>(alloc: Global, n: &mut N, root: NodeId, name: &[u8]) -> 
     ensures fault { IfErr result (IsSpaceFault (N.forest n.old) (N.forest n.new) (held_by N.fields (N.beside n.new)) root.0 name.now) }
     ensures refused { IfErr result (λ e. (next : ℕ) (pfss : List ListedPfs) → HasPfss (N.forest n.old) (held_by N.fields (N.beside n.old)) (N.told n.old) root.0 next pfss → IsFaultIn name.now pfss e) }
     ensures none_met { OnOk result (MeetsNone (N.forest n.old) (N.forest n.new)) }
-    ensures none_met_refused { IfErr result (λ e. (IsBadBlock e → ⊥) → MeetsNone (N.forest n.old) (N.forest n.new)) }
+    ensures met_only { IfErr result (FaultMeetsOnly (N.forest n.old) (N.forest n.new)) }
     ensures visits { Visits (N.forest n.old) (N.forest n.new) }
     ensures loads { LoadsPfss (N.forest n.old) (N.forest n.new) root.0 }
     ensures alike { StandsAlike (view_of N.fields (N.forest n.old) (N.beside n.old) (N.told n.old)) (view_of N.fields (N.forest n.new) (N.beside n.new) (N.told n.new)) }
@@ -88,9 +88,10 @@ fn found<N: Nodes>(
 /// Full exactly where there are 64 PFSs or more. No leaf of the super-root's tree has the key, and the room is at least
 /// 63. The room is lowered by at most 63, and the spare nodes by at most 2: by one for the inode, and by one for a
 /// split. Where two are spare, none is made. Trouble only where a leaf of that tree wasn't loaded, or an inode that one
-/// names, or the path of the key, or for want of memory, and never a bad block where the list of PFSs is known; a bad
-/// block is met only where the answer tells one. After a refusal nothing but such loads took place, and all trees stand
-/// for what they stood for; so it is before the addition too, and after it the trees of other roots stay.
+/// names, or the path of the key, or for want of memory, and never a bad block where the list of PFSs is known. Of the
+/// faults of the disk just the one is met that the answer tells. After a refusal nothing but such loads took place, and
+/// all trees stand for what they stood for; so it is before the addition too, and after it the trees of other roots
+/// stay.
 pub fn pfs_add<N: Nodes>(
     alloc: Global,
     n: &mut N,
@@ -116,7 +117,7 @@ pub fn pfs_add<N: Nodes>(
     ensures fault { IfErr result (IsAddFault (N.forest n.old) (N.forest n.new) (held_by N.fields (N.beside n.new)) root.0 inode.name leaf.key) }
     ensures refused { IfErr result (λ e. (next : ℕ) (pfss : List ListedPfs) → HasPfss (N.forest n.old) (held_by N.fields (N.beside n.old)) (N.told n.old) root.0 next pfss → IsFaultIn inode.name pfss e) }
     ensures none_met { OnOk result (MeetsNone (N.forest n.old) (N.forest n.new)) }
-    ensures none_met_refused { IfErr result (λ e. (IsBadBlock e → ⊥) → MeetsNone (N.forest n.old) (N.forest n.new)) }
+    ensures met_only { IfErr result (FaultMeetsOnly (N.forest n.old) (N.forest n.new)) }
     ensures visits { OnErr result (Visits (N.forest n.old) (N.forest n.new)) }
     ensures loads { OnErr result (LoadsPfss (N.forest n.old) (N.forest n.new) root.0) }
     ensures alike { OnErr result (StandsAlike (view_of N.fields (N.forest n.old) (N.beside n.old) (N.told n.old)) (view_of N.fields (N.forest n.new) (N.beside n.new) (N.told n.new))) }

@@ -7,7 +7,7 @@ ghost use Rattle.h2_inode.specs.PfsList.{ListedPfs};
 ghost use Rattle.h2_pfs.specs.SuperRoot.{IsSuperRoot};
 ghost use Rattle.h2_pfs.specs.Listing.{id_of, HasPfss};
 ghost use Rattle.h2_pfs.specs.Meets.{HasId, LoadsPfss};
-ghost use Rattle.h2_pfs.specs.Faults.{IsFindFault, IsBadBlock, IsFaultIn};
+ghost use Rattle.h2_pfs.specs.Faults.{IsFindFault, IsFaultIn, FaultMeetsOnly};
 
 use crate::fault::PfsFault;
 use crate::met::id_in;
@@ -18,9 +18,9 @@ use std::alloc::Global;
 
 /// The id of the PFS with this name, which is the key of its leaf in the super-root's tree. NoPfs exactly where no PFS
 /// has the name. Afterwards all leaves of that tree are loaded, and the inodes that they name. Trouble only where one
-/// of them wasn't, or for want of memory, and never a bad block where the list of PFSs is known; a bad block is met only
-/// where the answer tells one. Nothing but such loads takes place, whatever is answered, and all trees stand for what
-/// they stood for.
+/// of them wasn't, or for want of memory, and never a bad block where the list of PFSs is known. Of the faults of the
+/// disk just the one is met that the answer tells. Nothing but such loads takes place, whatever is answered, and all
+/// trees stand for what they stood for.
 pub fn pfs_find<N: Nodes>(
     alloc: Global,
     n: &mut N,
@@ -34,7 +34,7 @@ pub fn pfs_find<N: Nodes>(
     ensures fault { IfErr result (IsFindFault (N.forest n.old) (N.forest n.new) (held_by N.fields (N.beside n.new)) root.0 name.now) }
     ensures refused { IfErr result (λ e. (next : ℕ) (pfss : List ListedPfs) → HasPfss (N.forest n.old) (held_by N.fields (N.beside n.old)) (N.told n.old) root.0 next pfss → IsFaultIn name.now pfss e) }
     ensures none_met { OnOk result (MeetsNone (N.forest n.old) (N.forest n.new)) }
-    ensures none_met_refused { IfErr result (λ e. (IsBadBlock e → ⊥) → MeetsNone (N.forest n.old) (N.forest n.new)) }
+    ensures met_only { IfErr result (FaultMeetsOnly (N.forest n.old) (N.forest n.new)) }
     ensures visits { Visits (N.forest n.old) (N.forest n.new) }
     ensures loads { LoadsPfss (N.forest n.old) (N.forest n.new) root.0 }
     ensures alike { StandsAlike (view_of N.fields (N.forest n.old) (N.beside n.old) (N.told n.old)) (view_of N.fields (N.forest n.new) (N.beside n.new) (N.told n.new)) }

@@ -1,6 +1,6 @@
 ghost use Rattle.std.specs.Prelude.{◌≡◌, ◌⊎◌, ℕ, List, map, IfOk, IfErr, OnOk};
 ghost use Rattle.h2_set.specs.Forest.{IsSound};
-ghost use Rattle.h2_set.specs.Calls.{IsBad, MeetsNone, KeepsBeside};
+ghost use Rattle.h2_set.specs.Calls.{IsBad, MeetsNone, MeetsOnly, KeepsBeside};
 ghost use Rattle.h2_inode.specs.Nodes.{held_by, Visits};
 ghost use Rattle.h2_inode.specs.Loaded.{StandsAlike, view_of};
 ghost use Rattle.h2_inode.specs.PfsList.{ListedPfs};
@@ -31,8 +31,8 @@ fn names_of(alloc: Global, pfss: &[Met]) -> Result<Names, NoMemory>
 
 /// The names of the PFSs, in order of their ids. Afterwards all leaves of the super-root's tree are loaded, and the
 /// inodes that they name. Trouble only where one of them wasn't, or for want of memory, and never a bad block where the
-/// list is known; a bad block is met only where the answer is Bad. Nothing but such loads takes place, whatever is
-/// answered, and all trees stand for what they stood for.
+/// list is known. Of the faults of the disk just the one is met that the answer tells. Nothing but such loads takes
+/// place, whatever is answered, and all trees stand for what they stood for.
 pub fn pfs_names<N: Nodes>(alloc: Global, n: &mut N, root: NodeId) -> Result<Names, Trouble>
     requires sound { IsSound (N.forest n.old) }
     requires super_root { IsSuperRoot (N.forest n.old) root.0 }
@@ -40,7 +40,7 @@ pub fn pfs_names<N: Nodes>(alloc: Global, n: &mut N, root: NodeId) -> Result<Nam
     ensures listed { IfOk result (λ names. (next : ℕ) (pfss : List ListedPfs) → HasPfss (N.forest n.old) (held_by N.fields (N.beside n.old)) (N.told n.old) root.0 next pfss → names ≡ map name_of pfss) }
     ensures err { IfErr result (IsTrouble (N.forest n.old) (N.forest n.new) root.0) }
     ensures none_met { OnOk result (MeetsNone (N.forest n.old) (N.forest n.new)) }
-    ensures none_met_refused { IfErr result (λ e. (IsBad e → ⊥) → MeetsNone (N.forest n.old) (N.forest n.new)) }
+    ensures met_only { IfErr result (MeetsOnly (N.forest n.old) (N.forest n.new)) }
     ensures good { IfErr result (λ e. (next : ℕ) (pfss : List ListedPfs) → HasPfss (N.forest n.old) (held_by N.fields (N.beside n.old)) (N.told n.old) root.0 next pfss → IsBad e → ⊥) }
     ensures visits { Visits (N.forest n.old) (N.forest n.new) }
     ensures loads { LoadsPfss (N.forest n.old) (N.forest n.new) root.0 }

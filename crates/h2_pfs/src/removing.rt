@@ -8,7 +8,7 @@ ghost use Rattle.h2_pfs.specs.SuperRoot.{IsSuperRoot};
 ghost use Rattle.h2_pfs.specs.Listing.{HasPfss};
 ghost use Rattle.h2_pfs.specs.Meets.{LoadsPfss};
 ghost use Rattle.h2_pfs.specs.Removal.{NoneHeld, RemovesPfs, DropsPfs};
-ghost use Rattle.h2_pfs.specs.Faults.{IsRemoveFault, IsBadBlock, IsFaultIn};
+ghost use Rattle.h2_pfs.specs.Faults.{IsRemoveFault, IsFaultIn, FaultMeetsOnly};
 
 use crate::fault::PfsFault;
 use crate::met::id_in;
@@ -21,10 +21,11 @@ use std::alloc::Global;
 /// Removes the PFS with this name, and all that belongs to it, where no handle is open in it. NoPfs exactly where no
 /// PFS has the name, and otherwise InUse with the number of handles exactly where there are some. Without handles the
 /// room is at least 62, and nothing of the PFS is held. The room is lowered by the number of nodes that are copied, at
-/// most 62, and the spare nodes stay. Trouble only where a leaf of the super-root's tree wasn't loaded, or an inode that
-/// one names, or for want of memory, and never a bad block where the list of PFSs is known; a bad block is met only
-/// where the answer tells one. After a refusal nothing but such loads took place, and all trees stand for what they stood for; so it is before the
-/// removal too, and after it the trees of other roots stay, but for those that belong to the PFS.
+/// most 62, and the spare nodes stay. Trouble only where a leaf of the super-root's tree wasn't loaded, or an inode
+/// that one names, or for want of memory, and never a bad block where the list of PFSs is known. Of the faults of the
+/// disk just the one is met that the answer tells. After a refusal nothing but such loads took place, and all trees
+/// stand for what they stood for; so it is before the removal too, and after it the trees of other roots stay, but for
+/// those that belong to the PFS.
 pub fn pfs_remove<N: Nodes>(
     alloc: Global,
     n: &mut N,
@@ -46,7 +47,7 @@ pub fn pfs_remove<N: Nodes>(
     ensures fault { IfErr result (IsRemoveFault (N.forest n.old) (N.forest n.new) (held_by N.fields (N.beside n.new)) root.0 name.now handles) }
     ensures refused { IfErr result (λ e. (next : ℕ) (pfss : List ListedPfs) → HasPfss (N.forest n.old) (held_by N.fields (N.beside n.old)) (N.told n.old) root.0 next pfss → IsFaultIn name.now pfss e) }
     ensures none_met { OnOk result (MeetsNone (N.forest n.old) (N.forest n.new)) }
-    ensures none_met_refused { IfErr result (λ e. (IsBadBlock e → ⊥) → MeetsNone (N.forest n.old) (N.forest n.new)) }
+    ensures met_only { IfErr result (FaultMeetsOnly (N.forest n.old) (N.forest n.new)) }
     ensures visits { OnErr result (Visits (N.forest n.old) (N.forest n.new)) }
     ensures loads { OnErr result (LoadsPfss (N.forest n.old) (N.forest n.new) root.0) }
     ensures alike { OnErr result (StandsAlike (view_of N.fields (N.forest n.old) (N.beside n.old) (N.told n.old)) (view_of N.fields (N.forest n.new) (N.beside n.new) (N.told n.new))) }

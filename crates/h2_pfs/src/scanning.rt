@@ -1,7 +1,7 @@
 ghost use Rattle.std.specs.Prelude.{◌≡◌, ◌⊎◌, ◌-◌, ◌^◌, ℕ, List, map, slice_get, Some, IfOk, IfErr, OnErr, OnOk};
 ghost use Rattle.h2_ref.specs.declared.reference.Ref.{Ref};
 ghost use Rattle.h2_set.specs.Forest.{IsSound};
-ghost use Rattle.h2_set.specs.Calls.{IsBad, HasCause, MeetsNone, KeepsBeside};
+ghost use Rattle.h2_set.specs.Calls.{IsBad, HasCause, MeetsNone, MeetsOnly, KeepsBeside};
 ghost use Rattle.h2_inode.specs.Nodes.{held_by, IsInodeLeaf, IsUnloaded, Seeks, Visits};
 ghost use Rattle.h2_inode.specs.Access.{OneByOne};
 ghost use Rattle.h2_inode.specs.declared.inode.Inode.{Inode};
@@ -32,7 +32,7 @@ fn meet<N: Nodes>(alloc: Global, n: &mut N, root: NodeId, leaf: &Ref) -> Result<
     ensures alike { StandsAlike (view_of N.fields (N.forest n.old) (N.beside n.old) (N.told n.old)) (view_of N.fields (N.forest n.new) (N.beside n.new) (N.told n.new)) }
     ensures err { IfErr result (HasCause (N.forest n.old) (N.forest n.new)) }
     ensures none_met { OnOk result (MeetsNone (N.forest n.old) (N.forest n.new)) }
-    ensures none_met_refused { IfErr result (λ e. (IsBad e → ⊥) → MeetsNone (N.forest n.old) (N.forest n.new)) }
+    ensures met_only { IfErr result (MeetsOnly (N.forest n.old) (N.forest n.new)) }
     ensures unloaded { IfErr result (λ e. (e ≡ Trouble.NoMemory) ⊎ (let r : Ref = leaf.now in IsUnloaded (N.forest n.old) root.0 r.key)) }
     ensures good { IfErr result (λ e. (i : Inode) (t : Tree) → NamesInode (N.forest n.old) (held_by N.fields (N.beside n.old)) (N.told n.old) (at_root root.0) leaf.now i t → IsBad e → ⊥) }
     ensures beside { KeepsBeside (N.forest n.old) (N.forest n.new) (N.beside n.old) (N.beside n.new) }
@@ -60,7 +60,7 @@ fn meet_all<N: Nodes>(
     ensures alike { StandsAlike (view_of N.fields (N.forest n.old) (N.beside n.old) (N.told n.old)) (view_of N.fields (N.forest n.new) (N.beside n.new) (N.told n.new)) }
     ensures err { IfErr result (HasCause (N.forest n.old) (N.forest n.new)) }
     ensures none_met { OnOk result (MeetsNone (N.forest n.old) (N.forest n.new)) }
-    ensures none_met_refused { IfErr result (λ e. (IsBad e → ⊥) → MeetsNone (N.forest n.old) (N.forest n.new)) }
+    ensures met_only { IfErr result (MeetsOnly (N.forest n.old) (N.forest n.new)) }
     ensures unloaded { IfErr result (λ e. (e ≡ Trouble.NoMemory) ⊎ InodeMissing (N.forest n.old) (N.forest n.old) root.0) }
     ensures good { IfErr result (λ e. AreKnown (N.forest n.old) (held_by N.fields (N.beside n.old)) (N.told n.old) root.0 leaves.now → IsBad e → ⊥) }
     ensures beside { KeepsBeside (N.forest n.old) (N.forest n.new) (N.beside n.old) (N.beside n.new) }
@@ -88,7 +88,7 @@ pub(crate) fn scan<N: Nodes>(alloc: Global, n: &mut N, root: NodeId) -> Result<V
     ensures alike { StandsAlike (view_of N.fields (N.forest n.old) (N.beside n.old) (N.told n.old)) (view_of N.fields (N.forest n.new) (N.beside n.new) (N.told n.new)) }
     ensures err { IfErr result (IsTrouble (N.forest n.old) (N.forest n.new) root.0) }
     ensures none_met { OnOk result (MeetsNone (N.forest n.old) (N.forest n.new)) }
-    ensures none_met_refused { IfErr result (λ e. (IsBad e → ⊥) → MeetsNone (N.forest n.old) (N.forest n.new)) }
+    ensures met_only { IfErr result (MeetsOnly (N.forest n.old) (N.forest n.new)) }
     ensures good { IfErr result (λ e. (next : ℕ) (pfss : List ListedPfs) → HasPfss (N.forest n.old) (held_by N.fields (N.beside n.old)) (N.told n.old) root.0 next pfss → IsBad e → ⊥) }
     ensures beside { KeepsBeside (N.forest n.old) (N.forest n.new) (N.beside n.old) (N.beside n.new) }
     ensures later { N.later n.old n.new }

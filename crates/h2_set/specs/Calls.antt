@@ -1,6 +1,6 @@
 -- What the calls over a forest of sets do to it: loads, changes of what is writable, stored sets and splits.
 use Rattle.std.specs.Prelude.{◌≡◌, ℕ, ◌+◌, ◌^◌, ◌≤◌, ◌<◌, ◌⊎◌, Bool, true, false, List, [], ◌∷◌, length, Some, slice_get, filter, not}
-use Rattle.h2_num.specs.Causes.{Rose}
+use Rattle.h2_num.specs.Causes.{Rose, one_more}
 use Rattle.h2_ref.specs.declared.reference.Ref.{Ref}
 use Rattle.h2_ref.specs.declared.reference.Kind.{Kind}
 use Rattle.h2_ref.specs.declared.reference.Kind.TheVariants.{Empty, Inode, Indirect, Content, Dirent, MapNode, MapLeaf}
@@ -243,10 +243,17 @@ IsBad Failed = ⊥
 IsBad (Bad place why) = Unit {0}
 IsBad NoMemory = ⊥
 
--- no bad block was met
+-- no fault of the disk was met: no read failed, and no bad block was met
 pub record MeetsNone (f g : Forest) : Type 0 where
+  pub failed : g.failed ≡ f.failed
   pub bad : g.bad ≡ f.bad
   pub met : g.met ≡ f.met
+
+-- of the faults of the disk just the one was met that is told, and that once
+abbrev pub MeetsOnly : Forest → Forest → Trouble → Type 0
+MeetsOnly f g Failed = (g.failed ≡ one_more f.failed) × (g.bad ≡ f.bad) × (g.met ≡ f.met)
+MeetsOnly f g (Bad place why) = (g.failed ≡ f.failed) × (g.bad ≡ one_more f.bad)
+MeetsOnly f g NoMemory = MeetsNone f g
 
 -- the reference at place i leads further down
 pub record IsIndirectAt (rs : List Ref) (i : ℕ) : Type 0 where

@@ -1,11 +1,11 @@
 -- Nodes that stand where they stood, while references name other blocks.
-use Rattle.std.proofs.Common.{◌≡◌, ℕ, true, false, refl, sym, ◌∙◌, ap, List, [], ◌∷◌, ◌++◌, length, Some, subst, inl, inr, slice_get, suc, zero}
+use Rattle.std.proofs.Common.{◌≡◌, ℕ, false, refl, sym, ◌∙◌, ap, List, [], ◌∷◌, ◌++◌, length, Some, subst, inl, inr, slice_get, suc, zero}
 use Rattle.std.proofs.lemmas.Option.{none-some}
 use Rattle.h2_ref.specs.declared.reference.Ref.{Ref}
 use Rattle.h2_ref.specs.declared.reference.Kind.{Kind}
 use Rattle.h2_ref.specs.declared.reference.Kind.TheVariants.{Empty, Inode, Indirect, Content, Dirent, MapNode, MapLeaf}
 use Rattle.h2_set.specs.Ranges.{leads_on, IsApart, Apart, Rising, limit}
-use Rattle.h2_set.specs.Forest.{Forest, refs, IsSound, LeavesOf, loaded, told, HasLeaves, done, one, near, far}
+use Rattle.h2_set.specs.Forest.{Forest, refs, loaded, told, HasLeaves, done, one, near, far}
 use Rattle.h2_set.specs.Calls.{IsAlike, Alike, names_node, IsRenewed, AllRenewed, Keeps, Renews}
 use Rattle.h2_set.specs.StayLaws.{InPlace-trans}
 
@@ -141,10 +141,3 @@ module _ (f g : Forest) (P : ℕ → Type 0) (closed : (m k c : ℕ) → P m →
       let link' : g.link at q.key ≡ told b = rw a.0.key ((renew at p).link r.key ∙ link) in
       let inside' : Rising q.key (limit q) b = rw (a.0.key, a.0.keybits) inside in
       record { list = b ++ it.list; leaves = far (ap leads_on a.0.kind ∙ ind) link' inside' it.leaves; renewed = AllRenewed-append b b l it.list (AllRenewed-refl b) it.renewed }
-
--- where the nodes of every tree but one were renewed, so were the lists of their leaves
-pub trees_renewed : (f g : Forest) (top : ℕ) → IsSound f → ((m : ℕ) → f.stands m ≡ true → (f.root m ≡ top → ⊥) → Renews f g m) → (at : ℕ) → f.stands at ≡ true → (f.root at ≡ top → ⊥) → (l : List Ref) → LeavesOf f at l → RenewsLeaves g at (refs g at) l
-trees_renewed f g top sound renew at stands other l h =
-    let P : ℕ → Type 0 = λ m. (f.stands m ≡ true) × (f.root m ≡ top → ⊥) in
-    let closed : (m k c : ℕ) → P m → f.link m k ≡ loaded c → P c = λ m k c p link. let child = (sound.node m p.0).child k c link in (child.stands, λ e. p.1 (sym child.root ∙ e)) in
-    leaves_renewed f g P closed (λ m p. renew m p.0 p.1) (stands, other) h (refs g at) (renew at stands other).renewed

@@ -5,7 +5,7 @@ ghost use Rattle.h2_ref.specs.declared.faults.Trouble.{Trouble};
 ghost use Rattle.h2_ref.specs.declared.faults.Why.{Why};
 ghost use Rattle.h2_ref.specs.Ref.{IsValid};
 ghost use Rattle.h2_set.specs.Forest.{Forest, refs, loaded, told, IsSound};
-ghost use Rattle.h2_set.specs.Calls.{IsBad, IsIndirectAt, Walks, HasCause, MeetsNone, Alters, Storable, Stores, Loads, Unchanged, MadeFrom, Makes, ReadiesOnly, KeepsBeside};
+ghost use Rattle.h2_set.specs.Calls.{IsBad, IsIndirectAt, Walks, HasCause, MeetsNone, MeetsOnly, Alters, Storable, Stores, Loads, Unchanged, MadeFrom, Makes, ReadiesOnly, KeepsBeside};
 
 use crate::set::{Set, Split};
 use h2_num::{Bytes, NoMemory};
@@ -49,8 +49,8 @@ pub trait Sets {
     /// The node that the indirect reference at place `i` of the set leads to, loaded where it wasn't. No other node
     /// is loaded, and it isn't writable. Trouble only where it wasn't loaded: Failed where the disk failed, Bad with the
     /// reference's place where the block isn't one of this tree, which is never so of a block whose leaves are told. After
-    /// it nothing but the two counts and the last bad block that was met has changed. A bad block is met only where the
-    /// answer is Bad.
+    /// it nothing but the two counts and the last bad block that was met has changed. Of the faults of the disk just the one
+    /// is met that the answer tells, so none where it is Ok or want of memory.
     fn child(&mut self, alloc: Global, at: NodeId, i: usize) -> Result<NodeId, Trouble>
         requires sound { IsSound (forest self.old) }
         requires stands { let f = forest self.old in f.stands at.0 ≡ true }
@@ -63,7 +63,7 @@ pub trait Sets {
         ensures unloaded { let f = forest self.old in OnErr result ((r : Ref) (c : ℕ) → slice_get (refs f at.0) i ≡ Some r → f.link at.0 r.key ≡ loaded c → ⊥) }
         ensures place { let f = forest self.old in IfErr result (λ e. (r : Ref) (place : ℕ) (why : Why) → slice_get (refs f at.0) i ≡ Some r → e ≡ Trouble.Bad place why → place ≡ r.place) }
         ensures none_met { OnOk result (MeetsNone (forest self.old) (forest self.new)) }
-        ensures none_met_refused { IfErr result (λ e. (IsBad e → ⊥) → MeetsNone (forest self.old) (forest self.new)) }
+        ensures met_only { IfErr result (MeetsOnly (forest self.old) (forest self.new)) }
         ensures good { let f = forest self.old in IfErr result (λ e. (r : Ref) (l : List Ref) → slice_get (refs f at.0) i ≡ Some r → f.link at.0 r.key ≡ told l → IsBad e → ⊥) }
         ensures beside { KeepsBeside (forest self.old) (forest self.new) (beside self.old) (beside self.new) }
         ensures later { later self.old self.new };
@@ -117,8 +117,8 @@ pub trait Sets {
 
     /// The name of a directory's entry, as long as the entry says. Nothing but the two counts and the last bad block that
     /// was met changes. Trouble only from a load or want of memory in this call, and a name of at most 64 bytes, which
-    /// stands in its entry, needs no load; the block of a name that is told is never bad. A bad block is met only where
-    /// the answer is Bad.
+    /// stands in its entry, needs no load; the block of a name that is told is never bad. Of the faults of the disk just the
+    /// one is met that the answer tells, so none where it is Ok or want of memory.
     fn name(&mut self, alloc: Global, r: &Ref) -> Result<Bytes, Trouble>
         requires sound { IsSound (forest self.old) }
         requires valid { IsValid r.now }
@@ -130,7 +130,7 @@ pub trait Sets {
         ensures err { IfErr result (HasCause (forest self.old) (forest self.new)) }
         ensures place { IfErr result (λ e. (place : ℕ) (why : Why) → e ≡ Trouble.Bad place why → place ≡ r.now.place) }
         ensures none_met { OnOk result (MeetsNone (forest self.old) (forest self.new)) }
-        ensures none_met_refused { IfErr result (λ e. (IsBad e → ⊥) → MeetsNone (forest self.old) (forest self.new)) }
+        ensures met_only { IfErr result (MeetsOnly (forest self.old) (forest self.new)) }
         ensures good { let f = forest self.old in IfErr result (λ e. (name : List ℕ) → f.name r.now ≡ Some name → IsBad e → ⊥) }
         ensures unread { IfErr result (λ e. (d : Dirent) → r.now.dirent ≡ Some d → d.len ≤ 64 → e ≡ Trouble.NoMemory) }
         ensures beside { KeepsBeside (forest self.old) (forest self.new) (beside self.old) (beside self.new) }

@@ -2,7 +2,7 @@ ghost use Rattle.std.specs.Prelude.{◌≡◌, ◌<◌, ◌≤◌, ◌⊎◌, tr
 ghost use Rattle.h2_ref.specs.declared.reference.Ref.{Ref};
 ghost use Rattle.h2_set.specs.Ranges.{find, is_indirect, NoneHolds};
 ghost use Rattle.h2_set.specs.Forest.{Forest, refs, IsSound, LeavesOf, Reaches};
-ghost use Rattle.h2_set.specs.Calls.{Walks, HasCause, IsBad, MeetsNone, KeepsBeside, ReadiesOnly};
+ghost use Rattle.h2_set.specs.Calls.{Walks, HasCause, IsBad, MeetsNone, MeetsOnly, KeepsBeside, ReadiesOnly};
 ghost use Rattle.h2_tree.specs.Changes.{Takes, Inserts, KeepsPaths, LoadsTouched, LoadsIn, PathUnloaded};
 
 use crate::loading::load_child;
@@ -97,12 +97,12 @@ fn add<N: Sets>(alloc: Global, n: &mut N, at: NodeId, leaf: Ref) -> Result<(), N
     Ok(())
 }
 
-/// Adds a leaf to the tree, or puts it in place of the one with its range, which is answered; None exactly where
-/// there is none. It goes into the set of one node on the path of its key, and a full set is split by the split rule.
-/// The room is at least 63, and is lowered by the number of nodes that are copied and by one for a split, as spare is.
-/// No node is unloaded, none off the path of its key is loaded, and paths to all keys stay loaded. Trouble only where
-/// a node on the path of its key isn't loaded, or no node is spare, and never a bad block where the tree's leaves are
-/// known; nothing but loads took place then. A bad block is met only where the answer is Bad.
+/// Adds a leaf to the tree, or puts it in place of the one with its range, which is answered; None exactly where there
+/// is none. It goes into the set of one node on the path of its key, and a full set is split by the split rule. The
+/// room is at least 63, and is lowered by the number of nodes that are copied and by one for a split, as spare is. No
+/// node is unloaded, none off the path of its key is loaded, and paths to all keys stay loaded. Trouble only where a
+/// node on the path of its key isn't loaded, or no node is spare, and never a bad block where the tree's leaves are
+/// known; nothing but loads took place then. Of the faults of the disk just the one is met that the answer tells.
 pub fn insert<N: Sets>(
     alloc: Global,
     n: &mut N,
@@ -120,7 +120,7 @@ pub fn insert<N: Sets>(
     ensures walks { OnErr result (Walks (N.forest n.old) (N.forest n.new)) }
     ensures err { IfErr result (HasCause (N.forest n.old) (N.forest n.new)) }
     ensures none_met { OnOk result (MeetsNone (N.forest n.old) (N.forest n.new)) }
-    ensures none_met_refused { IfErr result (λ e. (IsBad e → ⊥) → MeetsNone (N.forest n.old) (N.forest n.new)) }
+    ensures met_only { IfErr result (MeetsOnly (N.forest n.old) (N.forest n.new)) }
     ensures touched { OnErr result (LoadsTouched (N.forest n.old) (N.forest n.new) leaf.key leaf.key) }
     ensures tree { OnErr result (LoadsIn (N.forest n.old) (N.forest n.new) root.0 leaf.key leaf.key) }
     ensures unloaded { let f = N.forest n.old in OnErr result (PathUnloaded f root.0 leaf.key ⊎ (f.spare ≡ 0)) }

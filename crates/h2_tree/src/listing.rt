@@ -1,7 +1,7 @@
 ghost use Rattle.std.specs.Prelude.{◌≡◌, ◌⊎◌, ℕ, [], ◌∷◌, ◌++◌, true, List, IfOk, IfErr, OnOk, filter};
 ghost use Rattle.h2_ref.specs.declared.reference.Ref.{Ref};
 ghost use Rattle.h2_set.specs.Forest.{Forest, refs, IsSound, LeavesOf};
-ghost use Rattle.h2_set.specs.Calls.{Walks, HasCause, IsBad, MeetsNone, KeepsBeside};
+ghost use Rattle.h2_set.specs.Calls.{Walks, HasCause, IsBad, MeetsNone, MeetsOnly, KeepsBeside};
 ghost use Rattle.h2_tree.specs.Changes.{is_between, touches, RangeUnloaded, LoadsTouched, LoadsIn, Lists};
 ghost use Rattle.h2_tree.specs.Listing.{Adds};
 
@@ -55,7 +55,7 @@ fn collect<N: Sets>(
     ensures walks { Walks (N.forest n.old) (N.forest n.new) }
     ensures err { IfErr result (HasCause (N.forest n.old) (N.forest n.new)) }
     ensures none_met { OnOk result (MeetsNone (N.forest n.old) (N.forest n.new)) }
-    ensures none_met_refused { IfErr result (λ e. (IsBad e → ⊥) → MeetsNone (N.forest n.old) (N.forest n.new)) }
+    ensures met_only { IfErr result (MeetsOnly (N.forest n.old) (N.forest n.new)) }
     ensures touched { LoadsIn (N.forest n.old) (N.forest n.new) at.0 from to }
     ensures unloaded { IfErr result (λ e. (e ≡ Trouble.NoMemory) ⊎ RangeUnloaded (N.forest n.old) from to at.0) }
     ensures good { IfErr result (λ e. (l : List Ref) → LeavesOf (N.forest n.old) at.0 l → IsBad e → ⊥) }
@@ -80,7 +80,7 @@ fn collect<N: Sets>(
 /// The leaves with keys from `from` to `to`, in order: exactly those that loaded nodes lead to, and every node whose
 /// range has such a key is loaded then. No other node is loaded, in no tree; so none is where `from` is above `to`, and
 /// there are no such leaves. Trouble only where one of them wasn't loaded, or for want of memory; never a bad block
-/// where the tree's leaves are known. A bad block is met only where the answer is Bad.
+/// where the tree's leaves are known. Of the faults of the disk just the one is met that the answer tells.
 pub fn range<N: Sets>(
     alloc: Global,
     n: &mut N,
@@ -95,7 +95,7 @@ pub fn range<N: Sets>(
     ensures walks { Walks (N.forest n.old) (N.forest n.new) }
     ensures err { IfErr result (HasCause (N.forest n.old) (N.forest n.new)) }
     ensures none_met { OnOk result (MeetsNone (N.forest n.old) (N.forest n.new)) }
-    ensures none_met_refused { IfErr result (λ e. (IsBad e → ⊥) → MeetsNone (N.forest n.old) (N.forest n.new)) }
+    ensures met_only { IfErr result (MeetsOnly (N.forest n.old) (N.forest n.new)) }
     ensures touched { LoadsTouched (N.forest n.old) (N.forest n.new) from to }
     ensures tree { LoadsIn (N.forest n.old) (N.forest n.new) root.0 from to }
     ensures unloaded { IfErr result (λ e. (e ≡ Trouble.NoMemory) ⊎ RangeUnloaded (N.forest n.old) from to root.0) }

@@ -2,7 +2,7 @@ ghost use Rattle.std.specs.Prelude.{◌≡◌, ℕ, true, List, Option, IfOk, If
 ghost use Rattle.h2_ref.specs.declared.reference.Ref.{Ref};
 ghost use Rattle.h2_set.specs.Ranges.{find};
 ghost use Rattle.h2_set.specs.Forest.{Forest, refs, loaded, IsSound, LeavesOf, Reaches};
-ghost use Rattle.h2_set.specs.Calls.{Walks, HasCause, IsBad, MeetsNone, KeepsBeside};
+ghost use Rattle.h2_set.specs.Calls.{Walks, HasCause, IsBad, MeetsNone, MeetsOnly, KeepsBeside};
 ghost use Rattle.h2_tree.specs.Changes.{WalksUnder, LoadsTouched, LoadsIn, PathUnloaded};
 
 use h2_ref::{Ref, Trouble};
@@ -11,8 +11,8 @@ use std::alloc::Global;
 
 /// The leaf whose range holds the key; None exactly where there is none. Afterwards every node on the key's path is
 /// loaded, and no other was, in no tree; nodes of other trees, or out of the root's range, stay as they were. Trouble
-/// only where one on the path wasn't loaded, and never a bad block where the leaves are known. A bad block is met only
-/// where the answer is Bad.
+/// only where one on the path wasn't loaded, and never a bad block where the leaves are known. Of the faults of the
+/// disk just the one is met that the answer tells.
 pub fn lookup<N: Sets>(
     alloc: Global,
     n: &mut N,
@@ -27,7 +27,7 @@ pub fn lookup<N: Sets>(
     ensures path { IfOk result (Reaches (N.forest n.new) key root.0) }
     ensures err { IfErr result (HasCause (N.forest n.old) (N.forest n.new)) }
     ensures none_met { OnOk result (MeetsNone (N.forest n.old) (N.forest n.new)) }
-    ensures none_met_refused { IfErr result (λ e. (IsBad e → ⊥) → MeetsNone (N.forest n.old) (N.forest n.new)) }
+    ensures met_only { IfErr result (MeetsOnly (N.forest n.old) (N.forest n.new)) }
     ensures touched { LoadsTouched (N.forest n.old) (N.forest n.new) key key }
     ensures tree { LoadsIn (N.forest n.old) (N.forest n.new) root.0 key key }
     ensures unloaded { OnErr result (PathUnloaded (N.forest n.old) root.0 key) }

@@ -2,7 +2,7 @@ ghost use Rattle.std.specs.Prelude.{◌≡◌, ◌<◌, ◌≤◌, ◌⊎◌, tr
 ghost use Rattle.h2_ref.specs.declared.reference.Ref.{Ref};
 ghost use Rattle.h2_set.specs.Ranges.{at_key, is_indirect};
 ghost use Rattle.h2_set.specs.Forest.{Forest, refs, IsSound, LeavesOf, Reaches};
-ghost use Rattle.h2_set.specs.Calls.{Walks, HasCause, IsBad, MeetsNone, KeepsBeside};
+ghost use Rattle.h2_set.specs.Calls.{Walks, HasCause, IsBad, MeetsNone, MeetsOnly, KeepsBeside};
 ghost use Rattle.h2_tree.specs.Changes.{IsFree, LeadsOnly, Removes, KeepsPaths, TakesOut, LacksLeaf, LoadsTouched, LoadsIn, PathUnloaded};
 
 use crate::loading::load_child;
@@ -68,7 +68,7 @@ fn take<N: Sets>(alloc: Global, n: &mut N, at: NodeId, key: u64) -> Result<Taken
     ensures walks { OnErr result (Walks (N.forest n.old) (N.forest n.new)) }
     ensures err { IfErr result (HasCause (N.forest n.old) (N.forest n.new)) }
     ensures none_met { OnOk result (MeetsNone (N.forest n.old) (N.forest n.new)) }
-    ensures none_met_refused { IfErr result (λ e. (IsBad e → ⊥) → MeetsNone (N.forest n.old) (N.forest n.new)) }
+    ensures met_only { IfErr result (MeetsOnly (N.forest n.old) (N.forest n.new)) }
     ensures touched { OnErr result (LoadsIn (N.forest n.old) (N.forest n.new) at.0 key key) }
     ensures unloaded { OnErr result (PathUnloaded (N.forest n.old) at.0 key) }
     ensures good { IfErr result (λ e. (l : List Ref) → LeavesOf (N.forest n.old) at.0 l → IsBad e → ⊥) }
@@ -99,8 +99,8 @@ fn take<N: Sets>(alloc: Global, n: &mut N, at: NodeId, key: u64) -> Result<Taken
 /// that belongs to what the leaf names is held, and the room is at least 62; it is lowered by the number of nodes that
 /// are copied. Of the tree nothing goes but indirect blocks that would be left empty: the reference to the uppermost of
 /// them is cut. Paths to other keys stay loaded. Trouble only where a node on the key's path isn't loaded, and never a
-/// bad block where the tree's leaves are known; nothing but loads took place then. A bad block is met only where the
-/// answer is Bad.
+/// bad block where the tree's leaves are known; nothing but loads took place then. Of the faults of the disk just the
+/// one is met that the answer tells.
 pub fn remove<N: Sets>(
     alloc: Global,
     n: &mut N,
@@ -121,7 +121,7 @@ pub fn remove<N: Sets>(
     ensures walks { OnErr result (Walks (N.forest n.old) (N.forest n.new)) }
     ensures err { IfErr result (HasCause (N.forest n.old) (N.forest n.new)) }
     ensures none_met { OnOk result (MeetsNone (N.forest n.old) (N.forest n.new)) }
-    ensures none_met_refused { IfErr result (λ e. (IsBad e → ⊥) → MeetsNone (N.forest n.old) (N.forest n.new)) }
+    ensures met_only { IfErr result (MeetsOnly (N.forest n.old) (N.forest n.new)) }
     ensures none { IfOk result (λ o. IfNone o (LacksLeaf (N.forest n.new) root.0 key)) }
     ensures touched { OnErr result (LoadsTouched (N.forest n.old) (N.forest n.new) key key) }
     ensures tree { OnErr result (LoadsIn (N.forest n.old) (N.forest n.new) root.0 key key) }

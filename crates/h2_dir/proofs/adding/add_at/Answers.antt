@@ -172,7 +172,7 @@ pub returns-clause-one : goal.returns-clause-one
 returns-clause-one g c = added_one _ _ c.args.dir.0 _ c.requires.sound c.requires.directory.has.stands (returns-clause-adds g c)
 
 pub returns-clause-none_met : goal.returns-clause-none_met
-returns-clause-none_met g c = MeetsNone-trans _ _ _ c.put_in.ensures.none_met (record { bad = c.resize.ensures.replaces.bad; met = c.resize.ensures.replaces.met })
+returns-clause-none_met g c = MeetsNone-trans _ _ _ c.put_in.ensures.none_met (record { failed = c.resize.ensures.replaces.failed; bad = c.resize.ensures.replaces.bad; met = c.resize.ensures.replaces.met })
 
 pub returns-clause-falls : goal.returns-clause-falls
 returns-clause-falls g c =

@@ -9,7 +9,8 @@ use Rattle.h2_dir.specs.declared.fault.DirFault.TheVariants as fault
 use Rattle.h2_dir.specs.Finding.{IsBadBlock}
 use Rattle.h2_dir.proofs.Known.{entries_named}
 use Rattle.h2_dir.proofs.Searched.{found_there, missing_there, scanned_stays, loads_none}
-use Rattle.h2_set.specs.Calls.{MeetsNone}
+use Rattle.h2_set.specs.MetLaws.{MeetsNone-refl}
+use Rattle.h2_dir.proofs.Meeting.{handed_fault_met}
 use Rattle.h2_dir.proofs.finding.find.Goals as goal
 
 pub returns-then-not-is_directory-clause-walks : goal.returns-then-not-is_directory-clause-walks
@@ -78,7 +79,5 @@ returns-in_err-candidates-clause-good g c may size entries h =
     let good : IsBadBlock (fault.Trouble c.in_err-candidates.field-0.0) → ⊥ = c.in_err-candidates.ensures.good h.leaves h.has.read (entries_named _ _ _ _ _ _ _ h) in
     search (good, rules)
 
-pub returns-in_err-candidates-clause-none_met_refused : goal.returns-in_err-candidates-clause-none_met_refused
-returns-in_err-candidates-clause-none_met_refused g c =
-    let good : (IsBadBlock (fault.Trouble c.in_err-candidates.field-0.0) → ⊥) → MeetsNone (g.N.Sets.forest c.args.n.now) (g.N.Sets.forest c.search.new.n) = c.in_err-candidates.ensures.none_met_refused in
-    search (good, rules)
+pub returns-in_err-candidates-clause-met_only : goal.returns-in_err-candidates-clause-met_only
+returns-in_err-candidates-clause-met_only g c = handed_fault_met _ _ _ c.from_residual.result c.in_err-candidates.field-0.0 c.from_residual.ensures.1 (MeetsNone-refl _) c.in_err-candidates.ensures.met_only

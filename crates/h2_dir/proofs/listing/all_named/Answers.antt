@@ -8,7 +8,7 @@ use Rattle.h2_dir.proofs.Known.{named_at}
 use Rattle.h2_dir.proofs.Told.{any_long}
 use Rattle.h2_dir.proofs.Unchanging.{unchanged_trans, beside_unchanged}
 use Rattle.h2_dir.proofs.Listed.{each_more, each_all, says_stays}
-use Rattle.h2_set.specs.MetLaws.{MeetsNone-trans, handed_none_met}
+use Rattle.h2_set.specs.MetLaws.{MeetsNone-trans, handed_met_only}
 use Rattle.h2_dir.proofs.listing.all_named.Goals as goal
 
 pub returns-in_err-named-clause-same : goal.returns-in_err-named-clause-same
@@ -45,8 +45,8 @@ returns-in_err-named-clause-good g c =
     let good : AllNamed f c.args.leaves.now → IsBad c.in_err-named.field-0.0 → ⊥ = λ all bad. let own = named_at f _ _ _ _ c.loop-i.invariant.same.fixed.name c.loop-i-test.true all in c.in_err-named.ensures.good own.0 own.1 bad in
     search (good, rules)
 
-pub returns-in_err-named-clause-none_met_refused : goal.returns-in_err-named-clause-none_met_refused
-returns-in_err-named-clause-none_met_refused g c = handed_none_met _ _ _ c.from_residual.result c.in_err-named.field-0.0 c.from_residual.ensures.1 c.loop-i.invariant.none_met c.in_err-named.ensures.none_met_refused
+pub returns-in_err-named-clause-met_only : goal.returns-in_err-named-clause-met_only
+returns-in_err-named-clause-met_only g c = handed_met_only _ _ _ c.from_residual.result c.in_err-named.field-0.0 c.from_residual.ensures.1 c.loop-i.invariant.none_met c.in_err-named.ensures.met_only
 
-pub returns-in-Err-clause-none_met_refused : goal.returns-in-Err-clause-none_met_refused
-returns-in-Err-clause-none_met_refused g c = λ good. MeetsNone-trans _ _ _ c.loop-i.invariant.none_met c.in_ok-named.ensures.none_met
+pub returns-in-Err-clause-met_only : goal.returns-in-Err-clause-met_only
+returns-in-Err-clause-met_only g c = MeetsNone-trans _ _ _ c.loop-i.invariant.none_met c.in_ok-named.ensures.none_met

@@ -3,7 +3,7 @@ use Rattle.std.proofs.lemmas.Option.{none-some}
 use Rattle.h2_set.specs.Calls.{IsBad}
 use Rattle.h2_dir.specs.Names.{IsEntryNamed}
 use Rattle.h2_dir.proofs.Known.{no_bad_name}
-use Rattle.h2_set.specs.MetLaws.{MeetsNone-refl, handed_none_met}
+use Rattle.h2_set.specs.MetLaws.{MeetsNone-refl, handed_met_only}
 use Rattle.h2_dir.proofs.listing.entry_of.Goals as goal
 
 pub unreachable-requires : goal.unreachable-requires
@@ -22,5 +22,5 @@ returns-in_err-told-clause-good g c =
     let good : (own : List ℕ) → IsEntryNamed f c.args.leaf.now own → IsBad c.in_err-told.field-0.0 → ⊥ = λ own named bad. no_bad_name f c.args.leaf.now entry own c.in_err-told.field-0.0 c.requires.leaf.entry_is (λ short. c.in_err-told.ensures.unread entry c.requires.leaf.entry_is short) c.in_err-told.ensures.good named bad in
     search (good, rules)
 
-pub returns-in_err-told-clause-none_met_refused : goal.returns-in_err-told-clause-none_met_refused
-returns-in_err-told-clause-none_met_refused g c = handed_none_met _ _ _ c.from_residual.result c.in_err-told.field-0.0 c.from_residual.ensures.1 (MeetsNone-refl _) c.in_err-told.ensures.none_met_refused
+pub returns-in_err-told-clause-met_only : goal.returns-in_err-told-clause-met_only
+returns-in_err-told-clause-met_only g c = handed_met_only _ _ _ c.from_residual.result c.in_err-told.field-0.0 c.from_residual.ensures.1 (MeetsNone-refl _) c.in_err-told.ensures.met_only

@@ -7,7 +7,7 @@ use Rattle.h2_inode.specs.VisitLaws.{walks_visit, visits_inode}
 use Rattle.h2_inode.specs.Access.{OneByOne}
 use Rattle.h2_dir.specs.Listing.{IsEntryLeaf, SaysEntry, AnyLongName, ListMayLoad, ListFails}
 use Rattle.h2_dir.specs.declared.fault.DirFault.TheVariants as fault
-use Rattle.h2_set.specs.Calls.{HasCause, IsBad, MeetsNone}
+use Rattle.h2_set.specs.Calls.{HasCause, IsBad}
 use Rattle.h2_dir.specs.Names.{AllNamed}
 use Rattle.h2_dir.specs.Finding.{IsBadBlock}
 use Rattle.h2_dir.proofs.Known.{named_kept, entries_named}
@@ -16,7 +16,8 @@ use Rattle.h2_dir.proofs.Listed.{entry_leaves, each_stays}
 use Rattle.h2_dir.proofs.Paths.{lists_same}
 use Rattle.h2_dir.proofs.Searched.{loads_same, loads_none}
 use Rattle.h2_dir.proofs.Told.{lists_entries, long_loads}
-use Rattle.h2_set.specs.MetLaws.{MeetsNone-trans}
+use Rattle.h2_set.specs.MetLaws.{MeetsNone-refl, MeetsNone-trans}
+use Rattle.h2_dir.proofs.Meeting.{handed_fault_met}
 use Rattle.h2_dir.proofs.listing.list.Goals as goal
 
 pub returns-then-not-is_directory-clause-walks : goal.returns-then-not-is_directory-clause-walks
@@ -119,18 +120,14 @@ returns-in-Ok-clause-none g c i h not = absurd (not ((c.is_directory.ensures i h
 pub returns-clause-none : goal.returns-clause-none
 returns-clause-none g c i h not = absurd (not ((c.is_directory.ensures i h).0 c.if-not-is_directory.false))
 
-pub returns-in_err-leaves-clause-none_met_refused : goal.returns-in_err-leaves-clause-none_met_refused
-returns-in_err-leaves-clause-none_met_refused g c =
-    let good : (IsBadBlock (fault.Trouble c.in_err-leaves.field-0.0) → ⊥) → MeetsNone (g.N.Sets.forest c.args.n.now) (g.N.Sets.forest c.range.new.n) = c.in_err-leaves.ensures.none_met_refused in
-    search (good, rules)
+pub returns-in_err-leaves-clause-met_only : goal.returns-in_err-leaves-clause-met_only
+returns-in_err-leaves-clause-met_only g c = handed_fault_met _ _ _ c.from_residual.result c.in_err-leaves.field-0.0 c.from_residual.ensures.1 (MeetsNone-refl _) c.in_err-leaves.ensures.met_only
 
-pub returns-in_err-all-clause-none_met_refused : goal.returns-in_err-all-clause-none_met_refused
-returns-in_err-all-clause-none_met_refused g c =
-    let good : (IsBadBlock (fault.Trouble c.in_err-all.field-0.0) → ⊥) → MeetsNone (g.N.Sets.forest c.args.n.now) (g.N.Sets.forest c.all_named.new.n) = λ good. MeetsNone-trans _ _ _ c.in_ok-leaves.ensures.none_met (c.in_err-all.ensures.none_met_refused good) in
-    search (good, rules)
+pub returns-in_err-all-clause-met_only : goal.returns-in_err-all-clause-met_only
+returns-in_err-all-clause-met_only g c = handed_fault_met _ _ _ c.from_residual-in_err-all.result c.in_err-all.field-0.0 c.from_residual-in_err-all.ensures.1 c.in_ok-leaves.ensures.none_met c.in_err-all.ensures.met_only
 
 pub returns-in-Ok-clause-none_met : goal.returns-in-Ok-clause-none_met
 returns-in-Ok-clause-none_met g c = MeetsNone-trans _ _ _ c.in_ok-leaves.ensures.none_met c.in_ok-all.ensures.none_met
 
-pub returns-clause-none_met_refused : goal.returns-clause-none_met_refused
-returns-clause-none_met_refused g c = λ good. MeetsNone-trans _ _ _ c.in_ok-leaves.ensures.none_met c.in_ok-all.ensures.none_met
+pub returns-clause-met_only : goal.returns-clause-met_only
+returns-clause-met_only g c = MeetsNone-trans _ _ _ c.in_ok-leaves.ensures.none_met c.in_ok-all.ensures.none_met

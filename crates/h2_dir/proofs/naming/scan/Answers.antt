@@ -5,7 +5,7 @@ use Rattle.h2_set.specs.Calls.{IsBad}
 use Rattle.h2_dir.specs.Names.{AllNamed}
 use Rattle.h2_dir.proofs.Known.{named_at}
 use Rattle.h2_dir.proofs.Scanning.{place_found, none_more}
-use Rattle.h2_set.specs.MetLaws.{MeetsNone-trans, handed_none_met}
+use Rattle.h2_set.specs.MetLaws.{MeetsNone-trans, handed_met_only}
 use Rattle.h2_dir.proofs.naming.scan.Goals as goal
 
 pub returns-in_err-has_name-clause-same : goal.returns-in_err-has_name-clause-same
@@ -41,8 +41,8 @@ returns-in_err-has_name-clause-good g c =
     let good : AllNamed f c.args.leaves.now → IsBad c.in_err-has_name.field-0.0 → ⊥ = λ all bad. let own = named_at f _ _ _ _ c.loop-i.invariant.same.fixed.name c.loop-i-test.true all in c.in_err-has_name.ensures.good own.0 own.1 bad in
     search (good, rules)
 
-pub returns-in_err-has_name-clause-none_met_refused : goal.returns-in_err-has_name-clause-none_met_refused
-returns-in_err-has_name-clause-none_met_refused g c = handed_none_met _ _ _ c.from_residual.result c.in_err-has_name.field-0.0 c.from_residual.ensures.1 c.loop-i.invariant.none_met c.in_err-has_name.ensures.none_met_refused
+pub returns-in_err-has_name-clause-met_only : goal.returns-in_err-has_name-clause-met_only
+returns-in_err-has_name-clause-met_only g c = handed_met_only _ _ _ c.from_residual.result c.in_err-has_name.field-0.0 c.from_residual.ensures.1 c.loop-i.invariant.none_met c.in_err-has_name.ensures.met_only
 
 pub returns-then-branch-clause-none_met : goal.returns-then-branch-clause-none_met
 returns-then-branch-clause-none_met g c = MeetsNone-trans _ _ _ c.loop-i.invariant.none_met c.in_ok-has_name.ensures.none_met

@@ -12,7 +12,8 @@ use Rattle.h2_dir.specs.Finding.{IsBadBlock}
 use Rattle.h2_dir.proofs.Known.{entries_named}
 use Rattle.h2_dir.proofs.Searched.{scanned_stays, loads_none}
 use Rattle.h2_dir.proofs.Spotting.{spot_there, taken_there, is_some}
-use Rattle.h2_set.specs.Calls.{MeetsNone}
+use Rattle.h2_set.specs.MetLaws.{MeetsNone-refl}
+use Rattle.h2_dir.proofs.Meeting.{handed_fault_met}
 use Rattle.h2_dir.proofs.placing.spot.Goals as goal
 
 pub returns-then-not-is_directory-clause-walks : goal.returns-then-not-is_directory-clause-walks
@@ -77,7 +78,5 @@ returns-in_default-place-clause-none g c i h not = absurd (not ((c.is_directory.
 pub returns-in-Ok-free_key-clause-none : goal.returns-in-Ok-free_key-clause-none
 returns-in-Ok-free_key-clause-none g c i h not = absurd (not ((c.is_directory.ensures i h).0 c.if-not-is_directory.false))
 
-pub returns-in_err-candidates-clause-none_met_refused : goal.returns-in_err-candidates-clause-none_met_refused
-returns-in_err-candidates-clause-none_met_refused g c =
-    let good : (IsBadBlock (fault.Trouble c.in_err-candidates.field-0.0) → ⊥) → MeetsNone (g.N.Sets.forest c.args.n.now) (g.N.Sets.forest c.search.new.n) = c.in_err-candidates.ensures.none_met_refused in
-    search (good, rules)
+pub returns-in_err-candidates-clause-met_only : goal.returns-in_err-candidates-clause-met_only
+returns-in_err-candidates-clause-met_only g c = handed_fault_met _ _ _ c.from_residual.result c.in_err-candidates.field-0.0 c.from_residual.ensures.1 (MeetsNone-refl _) c.in_err-candidates.ensures.met_only

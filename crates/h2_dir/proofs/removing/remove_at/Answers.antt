@@ -178,7 +178,7 @@ pub returns-clause-one : goal.returns-clause-one
 returns-clause-one g c = taken_one _ _ c.args.dir.0 _ (returns-clause-takes g c c.requires.there.0 c.requires.there.1)
 
 pub returns-clause-none_met : goal.returns-clause-none_met
-returns-clause-none_met g c = MeetsNone-trans _ _ _ c.take_out-leaf.ensures.none_met (record { bad = c.resize.ensures.replaces.bad; met = c.resize.ensures.replaces.met })
+returns-clause-none_met g c = MeetsNone-trans _ _ _ c.take_out-leaf.ensures.none_met (record { failed = c.resize.ensures.replaces.failed; bad = c.resize.ensures.replaces.bad; met = c.resize.ensures.replaces.met })
 
 pub returns-clause-falls : goal.returns-clause-falls
 returns-clause-falls g c = omega (arith, c.take_out-leaf.ensures.removes.room_falls, c.resize.ensures.replaces.room)

@@ -15,7 +15,7 @@ use Rattle.h2_dir.proofs.Known.{carried_err, no_bad_search}
 use Rattle.h2_dir.specs.Finding.{MayLoad}
 use Rattle.h2_dir.proofs.Unchanging.{beside_walks}
 use Rattle.h2_dir.proofs.Searched.{loads_same, scanned_stays, candidate_loads}
-use Rattle.h2_set.specs.MetLaws.{MeetsNone-refl, MeetsNone-trans, handed_none_met}
+use Rattle.h2_set.specs.MetLaws.{MeetsNone-refl, MeetsNone-trans, handed_met_only}
 use Rattle.h2_dir.proofs.searching.search.Goals as goal
 
 pub range-requires-clause-stands : goal.range-requires-clause-stands
@@ -86,11 +86,11 @@ returns-in_err-place-clause-good g c =
     carried_err Good c.from_residual-in_err-place.result c.in_err-place.field-0.0 c.from_residual-in_err-place.ensures.1
     (no_bad_search f (g.N.Sets.forest c.range.new.n) _ c.in_ok-leaves.leaves.items _ c.args.dir.0 c.in_err-place.field-0.0 c.in_ok-leaves.ensures.walks.fixed.name c.deref.ensures.value c.in_ok-leaves.ensures.found c.in_err-place.ensures.good)
 
-pub returns-in_err-leaves-clause-none_met_refused : goal.returns-in_err-leaves-clause-none_met_refused
-returns-in_err-leaves-clause-none_met_refused g c = handed_none_met _ _ _ c.from_residual.result c.in_err-leaves.field-0.0 c.from_residual.ensures.1 (MeetsNone-refl _) c.in_err-leaves.ensures.none_met_refused
+pub returns-in_err-leaves-clause-met_only : goal.returns-in_err-leaves-clause-met_only
+returns-in_err-leaves-clause-met_only g c = handed_met_only _ _ _ c.from_residual.result c.in_err-leaves.field-0.0 c.from_residual.ensures.1 (MeetsNone-refl _) c.in_err-leaves.ensures.met_only
 
-pub returns-in_err-place-clause-none_met_refused : goal.returns-in_err-place-clause-none_met_refused
-returns-in_err-place-clause-none_met_refused g c = handed_none_met _ _ _ c.from_residual-in_err-place.result c.in_err-place.field-0.0 c.from_residual-in_err-place.ensures.1 c.in_ok-leaves.ensures.none_met c.in_err-place.ensures.none_met_refused
+pub returns-in_err-place-clause-met_only : goal.returns-in_err-place-clause-met_only
+returns-in_err-place-clause-met_only g c = handed_met_only _ _ _ c.from_residual-in_err-place.result c.in_err-place.field-0.0 c.from_residual-in_err-place.ensures.1 c.in_ok-leaves.ensures.none_met c.in_err-place.ensures.met_only
 
 pub returns-clause-none_met : goal.returns-clause-none_met
 returns-clause-none_met g c = MeetsNone-trans _ _ _ c.in_ok-leaves.ensures.none_met c.in_ok-place.ensures.none_met

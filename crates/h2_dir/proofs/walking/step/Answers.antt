@@ -16,10 +16,8 @@ use Rattle.h2_inode.specs.AlikeLaws.{walks_alike, unchanged_alike, seeks_alike}
 use Rattle.h2_dir.proofs.Loading.{path_loads, inode_loads, search_loads, failed_loads}
 use Rattle.h2_dir.proofs.Walked.{cause_earlier, inode_before, pfs_leaf, pfs_stays, step_found, step_fails, step_trouble}
 use Rattle.h2_dir.proofs.Agreed.{trouble_agrees, nothing_agrees, found_agrees_on, failed_agrees_on}
-use Rattle.std.proofs.Common.{rules}
-use Rattle.h2_set.specs.Calls.{MeetsNone}
-use Rattle.h2_dir.specs.Finding.{IsBadBlock}
-use Rattle.h2_set.specs.MetLaws.{MeetsNone-trans}
+use Rattle.h2_set.specs.MetLaws.{MeetsNone-refl, MeetsNone-trans}
+use Rattle.h2_dir.proofs.Meeting.{fault_met_after, handed_fault_met}
 use Rattle.h2_dir.proofs.walking.step.Goals as goal
 
 pub leaf_of-requires-clause-stands : goal.leaf_of-requires-clause-stands
@@ -324,18 +322,14 @@ returns-in-Err-clause-agrees g c u may l names a stands has way =
     let s = seeks_reread w v c.args.pfs.0 c.in_ok-dir.dir.0 c.in-Some.leaf walks.sound there.0 seeks (beside_holds g.N.Nodes.fields h k _ _ (g.N.Nodes.told c.leaf_of.new.n) (g.N.Nodes.told c.seek.new.self) c.in_ok-dir.ensures.beside) (g.met.N.Nodes.told_later _ _ c.in_ok-dir.ensures.later) c.in_ok-dir.ensures.told in
     failed_agrees_on u o a may c.args.pfs.0 c.args.number l c.args.name.now names stands has way w v r s c.in-Some.leaf there.1 (there.0).path c.in_ok-dir.dir.0 seeks k (g.N.Sets.forest c.find.new.n) c.in-Err.fault c.in-Err.ensures.err (c.in-Err.ensures.agrees may)
 
-pub returns-in_err-found-clause-none_met_refused : goal.returns-in_err-found-clause-none_met_refused
-returns-in_err-found-clause-none_met_refused g c =
-    let good : (IsBadBlock (fault.Trouble c.in_err-found.field-0.0) → ⊥) → MeetsNone (g.N.Sets.forest c.args.n.now) (g.N.Sets.forest c.leaf_of.new.n) = c.in_err-found.ensures.none_met_refused in
-    search (good, rules)
+pub returns-in_err-found-clause-met_only : goal.returns-in_err-found-clause-met_only
+returns-in_err-found-clause-met_only g c = handed_fault_met _ _ _ c.from_residual.result c.in_err-found.field-0.0 c.from_residual.ensures.1 (MeetsNone-refl _) c.in_err-found.ensures.met_only
 
-pub returns-in_err-dir-clause-none_met_refused : goal.returns-in_err-dir-clause-none_met_refused
-returns-in_err-dir-clause-none_met_refused g c =
-    let good : (IsBadBlock (fault.Trouble c.in_err-dir.field-0.0) → ⊥) → MeetsNone (g.N.Sets.forest c.args.n.now) (g.N.Sets.forest c.seek.new.self) = λ good. MeetsNone-trans _ _ _ c.in_ok-found.ensures.none_met (c.in_err-dir.ensures.none_met_refused good) in
-    search (good, rules)
+pub returns-in_err-dir-clause-met_only : goal.returns-in_err-dir-clause-met_only
+returns-in_err-dir-clause-met_only g c = handed_fault_met _ _ _ c.from_residual-in_err-dir.result c.in_err-dir.field-0.0 c.from_residual-in_err-dir.ensures.1 c.in_ok-found.ensures.none_met c.in_err-dir.ensures.met_only
 
 pub returns-in-Ok-clause-none_met : goal.returns-in-Ok-clause-none_met
 returns-in-Ok-clause-none_met g c = MeetsNone-trans _ _ _ (MeetsNone-trans _ _ _ c.in_ok-found.ensures.none_met c.in_ok-dir.ensures.none_met) c.in-Ok.ensures.none_met
 
-pub returns-in-Err-clause-none_met_refused : goal.returns-in-Err-clause-none_met_refused
-returns-in-Err-clause-none_met_refused g c = λ good. MeetsNone-trans _ _ _ (MeetsNone-trans _ _ _ c.in_ok-found.ensures.none_met c.in_ok-dir.ensures.none_met) (c.in-Err.ensures.none_met_refused good)
+pub returns-in-Err-clause-met_only : goal.returns-in-Err-clause-met_only
+returns-in-Err-clause-met_only g c = fault_met_after _ _ _ c.in-Err.fault (MeetsNone-trans _ _ _ c.in_ok-found.ensures.none_met c.in_ok-dir.ensures.none_met) c.in-Err.ensures.met_only

@@ -13,6 +13,7 @@ use Rattle.h2_tree.specs.AnswerLaws.{beside_same}
 use Rattle.h2_dir.proofs.Unchanging.{beside_visits, visits_refl}
 use Rattle.h2_dir.proofs.Walked.{names_at, names_end, ends_err}
 use Rattle.h2_set.specs.MetLaws.{MeetsNone-refl, MeetsNone-trans}
+use Rattle.h2_dir.proofs.Meeting.{fault_met_after}
 use Rattle.h2_dir.proofs.walking.walk.Goals as goal
 
 pub loop-i-init : goal.loop-i-init
@@ -131,5 +132,5 @@ returns-clause-agrees g c may l has way =
     let end : drop c.loop-i.i c.args.names.now ≡ [] = subst (λ (xs : List (List ℕ)). drop c.loop-i.i xs ≡ []) c.items-items.ensures (names_end c.items-items.result.now c.loop-i.i c.loop-i-test.false) in
     (c.loop-i.invariant.agrees may l has way).leads (Ok c.loop-i.number) (subst (λ (xs : List (List ℕ)). LeadsBy was may c.args.pfs.0 l c.loop-i.number xs (Ok c.loop-i.number)) (sym end) ended)
 
-pub returns-in-Err-clause-none_met_refused : goal.returns-in-Err-clause-none_met_refused
-returns-in-Err-clause-none_met_refused g c = λ good. MeetsNone-trans _ _ _ c.loop-i.invariant.none_met (c.in-Err.ensures.none_met_refused good)
+pub returns-in-Err-clause-met_only : goal.returns-in-Err-clause-met_only
+returns-in-Err-clause-met_only g c = fault_met_after _ _ _ c.in-Err.fault c.loop-i.invariant.none_met c.in-Err.ensures.met_only

@@ -17,7 +17,7 @@ use Rattle.h2_file.proofs.CutNodes.{ends_before, ends_below, nodes_here}
 use Rattle.h2_file.proofs.CutWhole.{cut_short, none_given, short_none_new}
 use Rattle.h2_file.proofs.CutOver.{nodes_over}
 use Rattle.h2_file.proofs.Known.{good_load, good_below, carried_good}
-use Rattle.h2_set.specs.MetLaws.{MeetsNone-refl, MeetsNone-trans, handed_none_met}
+use Rattle.h2_set.specs.MetLaws.{MeetsNone-refl, MeetsNone-trans, handed_met_only}
 use Rattle.h2_file.proofs.cutting.+cut_below.Goals as goal
 
 pub returns-then-count-eq0-clause-left : goal.returns-then-count-eq0-clause-left
@@ -368,11 +368,11 @@ returns-in_err-cut_below-clause-good g t c =
     let child = c.in_ok-child.ensures in
     carried_good _ _ c.from_residual-in_err-cut_below.result c.in_err-cut_below.field-0.0 c.from_residual-in_err-cut_below.ensures.1 (good_below f _ c.args.at.0 (count - 1) c.in_ok-child.child.0 c.at.result.now c.in_err-cut_below.field-0.0 c.requires.sound c.requires.stands child.walks read ind (child.ok _ read) c.in_err-cut_below.ensures.good)
 
-pub returns-in_err-child-clause-none_met_refused : goal.returns-in_err-child-clause-none_met_refused
-returns-in_err-child-clause-none_met_refused g t c = handed_none_met _ _ _ c.from_residual.result c.in_err-child.field-0.0 c.from_residual.ensures.1 (MeetsNone-refl _) c.in_err-child.ensures.none_met_refused
+pub returns-in_err-child-clause-met_only : goal.returns-in_err-child-clause-met_only
+returns-in_err-child-clause-met_only g t c = handed_met_only _ _ _ c.from_residual.result c.in_err-child.field-0.0 c.from_residual.ensures.1 (MeetsNone-refl _) c.in_err-child.ensures.met_only
 
-pub returns-in_err-cut_below-clause-none_met_refused : goal.returns-in_err-cut_below-clause-none_met_refused
-returns-in_err-cut_below-clause-none_met_refused g t c = handed_none_met _ _ _ c.from_residual-in_err-cut_below.result c.in_err-cut_below.field-0.0 c.from_residual-in_err-cut_below.ensures.1 c.in_ok-child.ensures.none_met c.in_err-cut_below.ensures.none_met_refused
+pub returns-in_err-cut_below-clause-met_only : goal.returns-in_err-cut_below-clause-met_only
+returns-in_err-cut_below-clause-met_only g t c = handed_met_only _ _ _ c.from_residual-in_err-cut_below.result c.in_err-cut_below.field-0.0 c.from_residual-in_err-cut_below.ensures.1 c.in_ok-child.ensures.none_met c.in_err-cut_below.ensures.met_only
 
 pub returns-then-count-eq1-clause-none_met : goal.returns-then-count-eq1-clause-none_met
 returns-then-count-eq1-clause-none_met g t c = MeetsNone-trans _ _ _ c.in_ok-child.ensures.none_met c.in_ok-cut_below.ensures.none_met

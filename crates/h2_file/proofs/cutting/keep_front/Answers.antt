@@ -12,4 +12,4 @@ pub returns-clause-kept : goal.returns-clause-kept
 returns-clause-kept g c = keeps_made _ _ _ _ _ c.requires.sound c.requires.stands c.alter.ensures.alters c.requires.contents c.requires.last _ _ c.get.ensures c.front-set.ensures _ c.store.ensures.stores
 
 pub returns-clause-none_met : goal.returns-clause-none_met
-returns-clause-none_met g c = record { bad = c.store.ensures.stores.bad ∙ c.alter.ensures.alters.bad; met = c.store.ensures.stores.met ∙ c.alter.ensures.alters.met }
+returns-clause-none_met g c = record { failed = c.store.ensures.stores.failed ∙ c.alter.ensures.alters.failed; bad = c.store.ensures.stores.bad ∙ c.alter.ensures.alters.bad; met = c.store.ensures.stores.met ∙ c.alter.ensures.alters.met }

@@ -4,7 +4,7 @@ use Rattle.h2_set.specs.StayLaws.{Walks-refl, Walks-trans}
 use Rattle.h2_tree.specs.AnswerLaws.{always_err, beside_on, beside_same}
 use Rattle.h2_file.proofs.Loaded.{apart_refl, apart_on, Each-refl, each_on, one_loaded, unloaded_before, at_place, loaded_more}
 use Rattle.h2_file.proofs.Known.{good_before, carried_good}
-use Rattle.h2_set.specs.MetLaws.{MeetsNone-refl, MeetsNone-trans, handed_none_met}
+use Rattle.h2_set.specs.MetLaws.{MeetsNone-refl, MeetsNone-trans, handed_met_only}
 use Rattle.h2_file.proofs.linking.load_paths.Goals as goal
 
 pub loop-at-init : goal.loop-at-init
@@ -62,5 +62,5 @@ returns-clause-loaded g c = λ i r read. c.loop-at.invariant.loaded i r read (le
 pub returns-in_err-lookup-clause-good : goal.returns-in_err-lookup-clause-good
 returns-in_err-lookup-clause-good g c = carried_good _ _ c.from_residual.result c.in_err-lookup.field-0.0 c.from_residual.ensures.1 (good_before _ _ c.args.root.0 c.in_err-lookup.field-0.0 c.requires.sound c.loop-at.invariant.walks c.requires.stands c.in_err-lookup.ensures.good)
 
-pub returns-in_err-lookup-clause-none_met_refused : goal.returns-in_err-lookup-clause-none_met_refused
-returns-in_err-lookup-clause-none_met_refused g c = handed_none_met _ _ _ c.from_residual.result c.in_err-lookup.field-0.0 c.from_residual.ensures.1 c.loop-at.invariant.none_met c.in_err-lookup.ensures.none_met_refused
+pub returns-in_err-lookup-clause-met_only : goal.returns-in_err-lookup-clause-met_only
+returns-in_err-lookup-clause-met_only g c = handed_met_only _ _ _ c.from_residual.result c.in_err-lookup.field-0.0 c.from_residual.ensures.1 c.loop-at.invariant.none_met c.in_err-lookup.ensures.met_only

@@ -22,7 +22,7 @@ returns-clause-opens g c =
     body_of_bytes c.alter.ensures.alters bare (subst (Replaces (g.N.Sets.forest c.alter.new.self) (g.N.Sets.forest c.set_inode.new.self) c.args.at.0) now c.set_inode.ensures.replaces)
 
 pub returns-then-has_refs-clause-none_met : goal.returns-then-has_refs-clause-none_met
-returns-then-has_refs-clause-none_met g c = record { bad = c.alter.ensures.alters.bad; met = c.alter.ensures.alters.met }
+returns-then-has_refs-clause-none_met g c = record { failed = c.alter.ensures.alters.failed; bad = c.alter.ensures.alters.bad; met = c.alter.ensures.alters.met }
 
 pub returns-clause-none_met : goal.returns-clause-none_met
-returns-clause-none_met g c = record { bad = c.set_inode.ensures.replaces.bad ∙ c.alter.ensures.alters.bad; met = c.set_inode.ensures.replaces.met ∙ c.alter.ensures.alters.met }
+returns-clause-none_met g c = record { failed = c.set_inode.ensures.replaces.failed ∙ c.alter.ensures.alters.failed; bad = c.set_inode.ensures.replaces.bad ∙ c.alter.ensures.alters.bad; met = c.set_inode.ensures.replaces.met ∙ c.alter.ensures.alters.met }

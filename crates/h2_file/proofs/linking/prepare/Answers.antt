@@ -35,7 +35,7 @@ pub returns-in-Err-clause-apart : goal.returns-in-Err-clause-apart
 returns-in-Err-clause-apart g c = apart_readied _ _ _ c.args.root.0 c.in_ok-load_paths.ensures.apart c.ready.ensures.same
 
 pub returns-in-Ok-clause-none_met : goal.returns-in-Ok-clause-none_met
-returns-in-Ok-clause-none_met g c = MeetsNone-trans _ _ _ c.in_ok-load_paths.ensures.none_met (record { bad = c.ready.ensures.same.bad; met = c.ready.ensures.same.met })
+returns-in-Ok-clause-none_met g c = MeetsNone-trans _ _ _ c.in_ok-load_paths.ensures.none_met (record { failed = c.ready.ensures.same.failed; bad = c.ready.ensures.same.bad; met = c.ready.ensures.same.met })
 
-pub returns-in-Err-clause-none_met_refused : goal.returns-in-Err-clause-none_met_refused
-returns-in-Err-clause-none_met_refused g c = λ good. MeetsNone-trans _ _ _ c.in_ok-load_paths.ensures.none_met (record { bad = c.ready.ensures.same.bad; met = c.ready.ensures.same.met })
+pub returns-in-Err-clause-met_only : goal.returns-in-Err-clause-met_only
+returns-in-Err-clause-met_only g c = MeetsNone-trans _ _ _ c.in_ok-load_paths.ensures.none_met (record { failed = c.ready.ensures.same.failed; bad = c.ready.ensures.same.bad; met = c.ready.ensures.same.met })

@@ -89,7 +89,7 @@ pub returns-clause-later : goal.returns-clause-later
 returns-clause-later g c = g.met.N.Sets.later_later _ _ _ (g.met.N.Sets.later_later _ _ _ c.in_ok-ready.ensures.later c.in-Ok.ensures.later) c.plant.ensures.later
 
 pub returns-in_err-ready-clause-none_met : goal.returns-in_err-ready-clause-none_met
-returns-in_err-ready-clause-none_met g c = record { bad = c.in_err-ready.ensures.same.bad; met = c.in_err-ready.ensures.same.met }
+returns-in_err-ready-clause-none_met g c = record { failed = c.in_err-ready.ensures.same.failed; bad = c.in_err-ready.ensures.same.bad; met = c.in_err-ready.ensures.same.met }
 
 pub returns-in-Err-clause-none_met : goal.returns-in-Err-clause-none_met
 returns-in-Err-clause-none_met g c =
@@ -104,4 +104,4 @@ pub returns-clause-none_met : goal.returns-clause-none_met
 returns-clause-none_met g c =
     let ready = c.in_ok-ready.ensures.same in
     let plants = c.plant.ensures.plants in
-    MeetsNone-trans _ _ _ (MeetsNone-trans _ _ _ (record { bad = ready.bad; met = ready.met }) c.in-Ok.ensures.none_met) (record { bad = plants.bad; met = plants.met })
+    MeetsNone-trans _ _ _ (MeetsNone-trans _ _ _ (record { failed = ready.failed; bad = ready.bad; met = ready.met }) c.in-Ok.ensures.none_met) (record { failed = plants.failed; bad = plants.bad; met = plants.met })

@@ -4,10 +4,9 @@ use Rattle.h2_inode.specs.PfsList.{ListedPfs}
 use Rattle.h2_pfs.specs.declared.fault.PfsFault.{PfsFault}
 use Rattle.h2_pfs.specs.declared.fault.PfsFault.TheVariants.{Trouble as Troubled}
 use Rattle.h2_pfs.specs.Listing.{HasPfss}
-use Rattle.h2_pfs.specs.Faults.{IsBadBlock, IsFaultIn}
+use Rattle.h2_pfs.specs.Faults.{FaultMeetsOnly, IsFaultIn}
 use Rattle.h2_pfs.proofs.Answering.{carried_err}
 use Rattle.h2_pfs.proofs.Kept.{kept_id, kept_length, found_as, some_of, none_of}
-use Rattle.h2_set.specs.Calls.{MeetsNone}
 use Rattle.h2_pfs.proofs.adding.make_space.Goals as goal
 
 pub returns-in_err-pfss-clause-refused : goal.returns-in_err-pfss-clause-refused
@@ -60,13 +59,13 @@ returns-clause-space g c =
     let few : length met.0 < 64 = omega (arith, count, c.deref.ensures.len, c.len.ensures, c.if-len-ge-PFSS.false) in
     (record { pfss = met.0; meets = met.1; absent = id_is ∙ none; few = few }, met.3)
 
-pub returns-in_err-pfss-clause-none_met_refused : goal.returns-in_err-pfss-clause-none_met_refused
-returns-in_err-pfss-clause-none_met_refused g c =
-    let Unmet = λ (x : PfsFault). (IsBadBlock x → ⊥) → MeetsNone (g.N.Sets.forest c.args.n.now) (g.N.Sets.forest c.scan.new.n) in
-    carried_err Unmet c.from_residual.result (Troubled c.in_err-pfss.field-0.0) c.from_residual.ensures.1 c.in_err-pfss.ensures.none_met_refused
+pub returns-in_err-pfss-clause-met_only : goal.returns-in_err-pfss-clause-met_only
+returns-in_err-pfss-clause-met_only g c =
+    let Met = FaultMeetsOnly (g.N.Sets.forest c.args.n.now) (g.N.Sets.forest c.scan.new.n) in
+    carried_err Met c.from_residual.result (Troubled c.in_err-pfss.field-0.0) c.from_residual.ensures.1 c.in_err-pfss.ensures.met_only
 
-pub returns-then-is_some-clause-none_met_refused : goal.returns-then-is_some-clause-none_met_refused
-returns-then-is_some-clause-none_met_refused g c = λ good. c.in_ok-pfss.ensures.none_met
+pub returns-then-is_some-clause-met_only : goal.returns-then-is_some-clause-met_only
+returns-then-is_some-clause-met_only g c = c.in_ok-pfss.ensures.none_met
 
-pub returns-then-len-ge-PFSS-clause-none_met_refused : goal.returns-then-len-ge-PFSS-clause-none_met_refused
-returns-then-len-ge-PFSS-clause-none_met_refused g c = λ good. c.in_ok-pfss.ensures.none_met
+pub returns-then-len-ge-PFSS-clause-met_only : goal.returns-then-len-ge-PFSS-clause-met_only
+returns-then-len-ge-PFSS-clause-met_only g c = c.in_ok-pfss.ensures.none_met

@@ -5,14 +5,14 @@ use Rattle.h2_inode.specs.PfsList.{ListedPfs}
 use Rattle.h2_pfs.specs.declared.fault.PfsFault.{PfsFault}
 use Rattle.h2_pfs.specs.declared.fault.PfsFault.TheVariants.{Trouble as Troubled}
 use Rattle.h2_pfs.specs.Listing.{HasPfss, id_of}
-use Rattle.h2_pfs.specs.Faults.{IsAddFault, IsBadBlock, IsFaultIn}
+use Rattle.h2_pfs.specs.Faults.{IsAddFault, FaultMeetsOnly, IsFaultIn}
 use Rattle.h2_pfs.specs.Addition.{HasSpace}
 use Rattle.h2_inode.specs.LoadedLaws.{alike_trans}
 use Rattle.h2_inode.specs.AlikeLaws.{walks_alike}
 use Rattle.h2_pfs.proofs.Loading.{tree_loads, loads_trans}
 use Rattle.h2_pfs.proofs.Apart.{founds_others}
 use Rattle.h2_tree.specs.AnswerLaws.{always_err, beside_on}
-use Rattle.h2_pfs.proofs.Answering.{carried_err}
+use Rattle.h2_pfs.proofs.Answering.{fault_met_after, carried_err}
 use Rattle.h2_pfs.proofs.Scanned.{super_stays}
 use Rattle.h2_pfs.proofs.Kept.{found_as}
 use Rattle.h2_pfs.proofs.Gone.{held_beside}
@@ -21,7 +21,6 @@ use Rattle.h2_pfs.proofs.Spaced.{list_stays, fault_before}
 use Rattle.h2_pfs.proofs.Added.{added}
 use Rattle.h2_pfs.proofs.Single.{founded_one}
 use Rattle.h2_inode.specs.NamesOneLaws.{walks_one}
-use Rattle.h2_set.specs.Calls.{MeetsNone}
 use Rattle.h2_set.specs.MetLaws.{MeetsNone-trans}
 use Rattle.h2_pfs.proofs.adding.pfs_add.Goals as goal
 
@@ -198,18 +197,18 @@ returns-in-Ok-clause-one g c names =
     let super = super_stays f k c.args.root.0 c.requires.super_root (visits_trans f h k (walks_visit f h look.walks) made.visits) in
     founded_one k (g.N.Sets.forest c.found.new.n) (held_by g.N.Nodes.fields (g.N.Sets.beside c.found.new.n)) c.args.root.0 c.args.leaf c.args.inode super.stands super.root c.in-Ok.ensures.founds (made.visits.names_one look.walks.sound (walks_one f h names look.walks))
 
-pub returns-in_err-lookup-clause-none_met_refused : goal.returns-in_err-lookup-clause-none_met_refused
-returns-in_err-lookup-clause-none_met_refused g c =
-    let Unmet = λ (x : PfsFault). (IsBadBlock x → ⊥) → MeetsNone (g.N.Sets.forest c.args.n.now) (g.N.Sets.forest c.lookup.new.n) in
-    carried_err Unmet c.from_residual.result (Troubled c.in_err-lookup.field-0.0) c.from_residual.ensures.1 c.in_err-lookup.ensures.none_met_refused
+pub returns-in_err-lookup-clause-met_only : goal.returns-in_err-lookup-clause-met_only
+returns-in_err-lookup-clause-met_only g c =
+    let Met = FaultMeetsOnly (g.N.Sets.forest c.args.n.now) (g.N.Sets.forest c.lookup.new.n) in
+    carried_err Met c.from_residual.result (Troubled c.in_err-lookup.field-0.0) c.from_residual.ensures.1 c.in_err-lookup.ensures.met_only
 
-pub returns-in_err-make_space-clause-none_met_refused : goal.returns-in_err-make_space-clause-none_met_refused
-returns-in_err-make_space-clause-none_met_refused g c =
-    let Unmet = λ (x : PfsFault). (IsBadBlock x → ⊥) → MeetsNone (g.N.Sets.forest c.args.n.now) (g.N.Sets.forest c.make_space.new.n) in
-    carried_err Unmet c.from_residual-in_err-make_space.result c.in_err-make_space.field-0.0 c.from_residual-in_err-make_space.ensures.1 (λ good. MeetsNone-trans _ _ _ c.in_ok-lookup.ensures.none_met (c.in_err-make_space.ensures.none_met_refused good))
+pub returns-in_err-make_space-clause-met_only : goal.returns-in_err-make_space-clause-met_only
+returns-in_err-make_space-clause-met_only g c =
+    let Met = FaultMeetsOnly (g.N.Sets.forest c.args.n.now) (g.N.Sets.forest c.make_space.new.n) in
+    carried_err Met c.from_residual-in_err-make_space.result c.in_err-make_space.field-0.0 c.from_residual-in_err-make_space.ensures.1 (fault_met_after _ _ _ c.in_err-make_space.field-0.0 c.in_ok-lookup.ensures.none_met c.in_err-make_space.ensures.met_only)
 
 pub returns-in-Ok-clause-none_met : goal.returns-in-Ok-clause-none_met
 returns-in-Ok-clause-none_met g c = MeetsNone-trans _ _ _ (MeetsNone-trans _ _ _ c.in_ok-lookup.ensures.none_met c.in_ok-make_space.ensures.none_met) c.in-Ok.ensures.none_met
 
-pub returns-in-Err-clause-none_met_refused : goal.returns-in-Err-clause-none_met_refused
-returns-in-Err-clause-none_met_refused g c = λ good. MeetsNone-trans _ _ _ (MeetsNone-trans _ _ _ c.in_ok-lookup.ensures.none_met c.in_ok-make_space.ensures.none_met) c.in-Err.ensures.none_met
+pub returns-in-Err-clause-met_only : goal.returns-in-Err-clause-met_only
+returns-in-Err-clause-met_only g c = MeetsNone-trans _ _ _ (MeetsNone-trans _ _ _ c.in_ok-lookup.ensures.none_met c.in_ok-make_space.ensures.none_met) c.in-Err.ensures.none_met

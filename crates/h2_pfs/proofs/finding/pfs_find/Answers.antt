@@ -4,10 +4,9 @@ use Rattle.h2_inode.specs.PfsList.{ListedPfs}
 use Rattle.h2_pfs.specs.declared.fault.PfsFault.{PfsFault}
 use Rattle.h2_pfs.specs.declared.fault.PfsFault.TheVariants.{Trouble as Troubled}
 use Rattle.h2_pfs.specs.Listing.{HasPfss}
-use Rattle.h2_pfs.specs.Faults.{IsBadBlock, IsFaultIn}
+use Rattle.h2_pfs.specs.Faults.{FaultMeetsOnly, IsFaultIn}
 use Rattle.h2_pfs.proofs.Answering.{carried_err}
 use Rattle.h2_pfs.proofs.Kept.{kept_id, found_as}
-use Rattle.h2_set.specs.Calls.{MeetsNone}
 use Rattle.h2_pfs.proofs.finding.pfs_find.Goals as goal
 
 pub returns-in_err-pfss-clause-refused : goal.returns-in_err-pfss-clause-refused
@@ -39,10 +38,10 @@ returns-clause-refused g c next known has =
     let met = c.in_ok-pfss.ensures.met in
     found_as c.args.name.now met.0 known _ (met.3 next known has).1 (kept_id c.args.name.now _ _ met.0 _ (sym c.in-None.is ∙ c.id_in.ensures) c.deref.ensures.value met.2)
 
-pub returns-in_err-pfss-clause-none_met_refused : goal.returns-in_err-pfss-clause-none_met_refused
-returns-in_err-pfss-clause-none_met_refused g c =
-    let Unmet = λ (x : PfsFault). (IsBadBlock x → ⊥) → MeetsNone (g.N.Sets.forest c.args.n.now) (g.N.Sets.forest c.scan.new.n) in
-    carried_err Unmet c.from_residual.result (Troubled c.in_err-pfss.field-0.0) c.from_residual.ensures.1 c.in_err-pfss.ensures.none_met_refused
+pub returns-in_err-pfss-clause-met_only : goal.returns-in_err-pfss-clause-met_only
+returns-in_err-pfss-clause-met_only g c =
+    let Met = FaultMeetsOnly (g.N.Sets.forest c.args.n.now) (g.N.Sets.forest c.scan.new.n) in
+    carried_err Met c.from_residual.result (Troubled c.in_err-pfss.field-0.0) c.from_residual.ensures.1 c.in_err-pfss.ensures.met_only
 
-pub returns-clause-none_met_refused : goal.returns-clause-none_met_refused
-returns-clause-none_met_refused g c = λ good. c.in_ok-pfss.ensures.none_met
+pub returns-clause-met_only : goal.returns-clause-met_only
+returns-clause-met_only g c = c.in_ok-pfss.ensures.none_met

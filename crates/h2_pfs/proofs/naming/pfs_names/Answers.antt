@@ -6,7 +6,7 @@ use Rattle.h2_inode.specs.PfsList.{ListedPfs}
 use Rattle.h2_pfs.specs.Listing.{HasPfss}
 use Rattle.h2_pfs.proofs.Answering.{carried_err}
 use Rattle.h2_pfs.proofs.Kept.{kept_names, named_as}
-use Rattle.h2_set.specs.MetLaws.{MeetsNone-refl, handed_none_met}
+use Rattle.h2_set.specs.MetLaws.{MeetsNone-refl, handed_met_only}
 use Rattle.h2_pfs.proofs.naming.pfs_names.Goals as goal
 
 pub returns-in-Ok-clause-names : goal.returns-in-Ok-clause-names
@@ -31,8 +31,8 @@ returns-in-Ok-clause-listed g c next known has =
     let met = c.in_ok-pfss.ensures.met in
     named_as c.in-Ok.names met.0 known (met.3 next known has).1 (kept_names c.in-Ok.names _ _ met.0 c.in-Ok.ensures c.deref.ensures.value met.2)
 
-pub returns-in_err-pfss-clause-none_met_refused : goal.returns-in_err-pfss-clause-none_met_refused
-returns-in_err-pfss-clause-none_met_refused g c = handed_none_met _ _ _ c.from_residual.result c.in_err-pfss.field-0.0 c.from_residual.ensures.1 (MeetsNone-refl _) c.in_err-pfss.ensures.none_met_refused
+pub returns-in_err-pfss-clause-met_only : goal.returns-in_err-pfss-clause-met_only
+returns-in_err-pfss-clause-met_only g c = handed_met_only _ _ _ c.from_residual.result c.in_err-pfss.field-0.0 c.from_residual.ensures.1 (MeetsNone-refl _) c.in_err-pfss.ensures.met_only
 
-pub returns-clause-none_met_refused : goal.returns-clause-none_met_refused
-returns-clause-none_met_refused g c = λ good. c.in_ok-pfss.ensures.none_met
+pub returns-clause-met_only : goal.returns-clause-met_only
+returns-clause-met_only g c = c.in_ok-pfss.ensures.none_met

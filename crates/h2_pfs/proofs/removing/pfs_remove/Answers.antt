@@ -5,7 +5,7 @@ use Rattle.h2_inode.specs.PfsList.{ListedPfs}
 use Rattle.h2_pfs.specs.declared.fault.PfsFault.{PfsFault}
 use Rattle.h2_pfs.specs.declared.fault.PfsFault.TheVariants.{Trouble as Troubled}
 use Rattle.h2_pfs.specs.Listing.{HasPfss}
-use Rattle.h2_pfs.specs.Faults.{IsBadBlock, IsFaultIn}
+use Rattle.h2_pfs.specs.Faults.{FaultMeetsOnly, IsFaultIn}
 use Rattle.h2_pfs.proofs.Apart.{all_goes, removes_others}
 use Rattle.h2_tree.specs.AnswerLaws.{beside_on}
 use Rattle.h2_pfs.proofs.Answering.{carried_err}
@@ -15,8 +15,7 @@ use Rattle.h2_pfs.proofs.Gone.{Gone, gone, dropped, removes_pfs}
 use Rattle.h2_pfs.proofs.Single.{removed_one}
 use Rattle.h2_pfs.proofs.removing.pfs_remove.Given.{Over}
 use Rattle.h2_pfs.proofs.removing.pfs_remove.Goals.{After-drop-pfss-2}
-use Rattle.h2_set.specs.Calls.{MeetsNone}
-use Rattle.h2_set.specs.MetLaws.{MeetsNone-trans}
+use Rattle.h2_set.specs.MetLaws.{MeetsNone-trans, MeetsOnly-after}
 use Rattle.h2_pfs.proofs.removing.pfs_remove.Goals as goal
 
 pub returns-in_err-pfss-clause-refused : goal.returns-in_err-pfss-clause-refused
@@ -166,21 +165,21 @@ returns-in_err-remove-clause-one g c =
 pub returns-clause-one : goal.returns-clause-one
 returns-clause-one g c names = let gone = out g c in removed_one _ _ c.args.root.0 gone.leaf gone.removes (c.in_ok-pfss.ensures.visits.names_one c.requires.sound names)
 
-pub returns-in_err-pfss-clause-none_met_refused : goal.returns-in_err-pfss-clause-none_met_refused
-returns-in_err-pfss-clause-none_met_refused g c =
-    let Unmet = λ (x : PfsFault). (IsBadBlock x → ⊥) → MeetsNone (g.N.Sets.forest c.args.n.now) (g.N.Sets.forest c.scan.new.n) in
-    carried_err Unmet c.from_residual.result (Troubled c.in_err-pfss.field-0.0) c.from_residual.ensures.1 c.in_err-pfss.ensures.none_met_refused
+pub returns-in_err-pfss-clause-met_only : goal.returns-in_err-pfss-clause-met_only
+returns-in_err-pfss-clause-met_only g c =
+    let Met = FaultMeetsOnly (g.N.Sets.forest c.args.n.now) (g.N.Sets.forest c.scan.new.n) in
+    carried_err Met c.from_residual.result (Troubled c.in_err-pfss.field-0.0) c.from_residual.ensures.1 c.in_err-pfss.ensures.met_only
 
-pub returns-in_err-remove-clause-none_met_refused : goal.returns-in_err-remove-clause-none_met_refused
-returns-in_err-remove-clause-none_met_refused g c =
-    let Unmet = λ (x : PfsFault). (IsBadBlock x → ⊥) → MeetsNone (g.N.Sets.forest c.args.n.now) (g.N.Sets.forest c.remove.new.n) in
-    carried_err Unmet c.from_residual-in_err-remove.result (Troubled c.in_err-remove.field-0.0) c.from_residual-in_err-remove.ensures.1 (λ good. MeetsNone-trans _ _ _ c.in_ok-pfss.ensures.none_met (c.in_err-remove.ensures.none_met_refused good))
+pub returns-in_err-remove-clause-met_only : goal.returns-in_err-remove-clause-met_only
+returns-in_err-remove-clause-met_only g c =
+    let Met = FaultMeetsOnly (g.N.Sets.forest c.args.n.now) (g.N.Sets.forest c.remove.new.n) in
+    carried_err Met c.from_residual-in_err-remove.result (Troubled c.in_err-remove.field-0.0) c.from_residual-in_err-remove.ensures.1 (MeetsOnly-after _ _ _ c.in_err-remove.field-0.0 c.in_ok-pfss.ensures.none_met c.in_err-remove.ensures.met_only)
 
-pub returns-in_default-clause-none_met_refused : goal.returns-in_default-clause-none_met_refused
-returns-in_default-clause-none_met_refused g c = λ good. c.in_ok-pfss.ensures.none_met
+pub returns-in_default-clause-met_only : goal.returns-in_default-clause-met_only
+returns-in_default-clause-met_only g c = c.in_ok-pfss.ensures.none_met
 
-pub returns-then-handles-gt0-clause-none_met_refused : goal.returns-then-handles-gt0-clause-none_met_refused
-returns-then-handles-gt0-clause-none_met_refused g c = λ good. c.in_ok-pfss.ensures.none_met
+pub returns-then-handles-gt0-clause-met_only : goal.returns-then-handles-gt0-clause-met_only
+returns-then-handles-gt0-clause-met_only g c = c.in_ok-pfss.ensures.none_met
 
 pub returns-clause-none_met : goal.returns-clause-none_met
 returns-clause-none_met g c = MeetsNone-trans _ _ _ c.in_ok-pfss.ensures.none_met c.in_ok-remove.ensures.none_met

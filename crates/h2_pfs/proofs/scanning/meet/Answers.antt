@@ -12,7 +12,7 @@ use Rattle.h2_pfs.proofs.Known.{named_good}
 use Rattle.h2_inode.specs.AlikeLaws.{unchanged_alike, seeks_alike}
 use Rattle.h2_pfs.proofs.Loading.{none_loads, seek_loads}
 use Rattle.h2_pfs.proofs.Visiting.{seeks_meets, seeks_tells}
-use Rattle.h2_set.specs.MetLaws.{MeetsNone-refl, handed_none_met}
+use Rattle.h2_set.specs.MetLaws.{MeetsNone-refl, handed_met_only}
 use Rattle.h2_pfs.proofs.scanning.meet.Goals as goal
 
 pub returns-in_err-at-clause-visits : goal.returns-in_err-at-clause-visits
@@ -74,8 +74,8 @@ returns-in-Ok-clause-loads g c = seek_loads _ _ c.args.root.0 c.in_ok-at.at.0 c.
 pub returns-in-Err-clause-loads : goal.returns-in-Err-clause-loads
 returns-in-Err-clause-loads g c = seek_loads _ _ c.args.root.0 c.in_ok-at.at.0 c.args.leaf.now c.requires.sound c.requires.leaf c.in_ok-at.ensures.ok
 
-pub returns-in_err-at-clause-none_met_refused : goal.returns-in_err-at-clause-none_met_refused
-returns-in_err-at-clause-none_met_refused g c = handed_none_met _ _ _ c.from_residual.result c.in_err-at.field-0.0 c.from_residual.ensures.1 (MeetsNone-refl _) c.in_err-at.ensures.none_met_refused
+pub returns-in_err-at-clause-met_only : goal.returns-in_err-at-clause-met_only
+returns-in_err-at-clause-met_only g c = handed_met_only _ _ _ c.from_residual.result c.in_err-at.field-0.0 c.from_residual.ensures.1 (MeetsNone-refl _) c.in_err-at.ensures.met_only
 
-pub returns-in-Err-clause-none_met_refused : goal.returns-in-Err-clause-none_met_refused
-returns-in-Err-clause-none_met_refused g c = λ good. c.in_ok-at.ensures.none_met
+pub returns-in-Err-clause-met_only : goal.returns-in-Err-clause-met_only
+returns-in-Err-clause-met_only g c = c.in_ok-at.ensures.none_met

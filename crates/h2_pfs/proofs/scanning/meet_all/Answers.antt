@@ -17,7 +17,7 @@ use Rattle.h2_pfs.proofs.Members.{whole_front, at_place, map_more}
 use Rattle.h2_pfs.proofs.Growing.{front_met, named_no_more}
 use Rattle.h2_pfs.proofs.Loading.{none_loads, leaves_stand, loads_trans}
 use Rattle.h2_pfs.proofs.Visiting.{visits_same, visits_unloaded, known_stays}
-use Rattle.h2_set.specs.MetLaws.{MeetsNone-refl, MeetsNone-trans, handed_none_met}
+use Rattle.h2_set.specs.MetLaws.{MeetsNone-refl, MeetsNone-trans, handed_met_only}
 use Rattle.h2_pfs.proofs.scanning.meet_all.Goals as goal
 
 pub loop-i-init : goal.loop-i-init
@@ -121,8 +121,8 @@ returns-clause-met g c =
     let rest = subst (λ k. OneByOne (MetBy (g.N.Sets.forest c.args.n.now) (g.N.Sets.forest c.loop-i.n) (held_by g.N.Nodes.fields (g.N.Sets.beside c.args.n.now)) (held_by g.N.Nodes.fields (g.N.Sets.beside c.loop-i.n)) (g.N.Nodes.told c.args.n.now) c.args.root.0) (take k c.args.leaves.now) met.0) all met.1 in
     (met.0, whole_front _ c.args.leaves.now met.0 rest, met.2)
 
-pub returns-in_err-met-clause-none_met_refused : goal.returns-in_err-met-clause-none_met_refused
-returns-in_err-met-clause-none_met_refused g c = handed_none_met _ _ _ c.from_residual.result c.in_err-met.field-0.0 c.from_residual.ensures.1 c.loop-i.invariant.none_met c.in_err-met.ensures.none_met_refused
+pub returns-in_err-met-clause-met_only : goal.returns-in_err-met-clause-met_only
+returns-in_err-met-clause-met_only g c = handed_met_only _ _ _ c.from_residual.result c.in_err-met.field-0.0 c.from_residual.ensures.1 c.loop-i.invariant.none_met c.in_err-met.ensures.met_only
 
-pub returns-in-Err-clause-none_met_refused : goal.returns-in-Err-clause-none_met_refused
-returns-in-Err-clause-none_met_refused g c = λ good. MeetsNone-trans _ _ _ c.loop-i.invariant.none_met c.in_ok-met.ensures.none_met
+pub returns-in-Err-clause-met_only : goal.returns-in-Err-clause-met_only
+returns-in-Err-clause-met_only g c = MeetsNone-trans _ _ _ c.loop-i.invariant.none_met c.in_ok-met.ensures.none_met

@@ -18,7 +18,7 @@ use Rattle.h2_pfs.proofs.Loading.{tree_loads, loads_trans}
 use Rattle.h2_pfs.proofs.Scanned.{listed_leaves, super_stays}
 use Rattle.h2_pfs.proofs.Known.{known_after}
 use Rattle.h2_pfs.proofs.Listed.{meets_after, listed_after, trouble_after}
-use Rattle.h2_set.specs.MetLaws.{MeetsNone-refl, ok_none_met, err_none_met, handed_none_met}
+use Rattle.h2_set.specs.MetLaws.{MeetsNone-refl, ok_none_met, err_met_only, handed_met_only}
 use Rattle.h2_pfs.proofs.scanning.scan.Goals as goal
 
 pub meet_all-requires-clause-leaves : goal.meet_all-requires-clause-leaves
@@ -105,11 +105,11 @@ returns-clause-err g c =
     let top = c.args.root.0 in
     on_err (HasCause h f') (λ e. (e ≡ NoMemory) ⊎ InodeMissing h h top) (IsTrouble f f' top) c.meet_all.result (λ e cause only. trouble_after f h f' top e range.walks.sound c.requires.super_root.stands (walks_visit f h range.walks) c.meet_all.ensures.visits cause only) c.meet_all.ensures.err c.meet_all.ensures.unloaded
 
-pub returns-in_err-leaves-clause-none_met_refused : goal.returns-in_err-leaves-clause-none_met_refused
-returns-in_err-leaves-clause-none_met_refused g c = handed_none_met _ _ _ c.from_residual.result c.in_err-leaves.field-0.0 c.from_residual.ensures.1 (MeetsNone-refl _) c.in_err-leaves.ensures.none_met_refused
+pub returns-in_err-leaves-clause-met_only : goal.returns-in_err-leaves-clause-met_only
+returns-in_err-leaves-clause-met_only g c = handed_met_only _ _ _ c.from_residual.result c.in_err-leaves.field-0.0 c.from_residual.ensures.1 (MeetsNone-refl _) c.in_err-leaves.ensures.met_only
 
 pub returns-clause-none_met : goal.returns-clause-none_met
 returns-clause-none_met g c = ok_none_met _ _ _ c.meet_all.result c.in_ok-leaves.ensures.none_met c.meet_all.ensures.none_met
 
-pub returns-clause-none_met_refused : goal.returns-clause-none_met_refused
-returns-clause-none_met_refused g c = err_none_met _ _ _ c.meet_all.result c.in_ok-leaves.ensures.none_met c.meet_all.ensures.none_met_refused
+pub returns-clause-met_only : goal.returns-clause-met_only
+returns-clause-met_only g c = err_met_only _ _ _ c.meet_all.result c.in_ok-leaves.ensures.none_met c.meet_all.ensures.met_only

@@ -10,7 +10,7 @@ use Rattle.h2_tree.proofs.Descend.{child_stands, child_fewer, child_takes, child
 use Rattle.h2_tree.specs.AnswerLaws.{always_err, beside_on}
 use Rattle.h2_tree.proofs.Paths.{inserts_paths, inserts_path, ok_paths, ok_path}
 use Rattle.h2_tree.proofs.Known.{child_good, good_above, carried_good, result_good}
-use Rattle.h2_set.specs.MetLaws.{MeetsNone-refl, ok_none_met, err_none_met, handed_none_met}
+use Rattle.h2_set.specs.MetLaws.{MeetsNone-refl, ok_none_met, err_met_only, handed_met_only}
 use Rattle.h2_tree.proofs.inserting.+insert.Goals as goal
 
 pub returns-in-Ok-clause-paths : goal.returns-in-Ok-clause-paths
@@ -158,11 +158,11 @@ returns-clause-path g t c = ok_path _ _ _ _ c.insert.result c.requires.stands c.
 pub returns-clause-beside : goal.returns-clause-beside
 returns-clause-beside g t c = beside_on _ _ _ _ _ _ (λ m st. (c.in_ok-child.ensures.walks.stays m st).place.stands) c.in_ok-child.ensures.beside c.insert.ensures.beside
 
-pub returns-in_err-child-clause-none_met_refused : goal.returns-in_err-child-clause-none_met_refused
-returns-in_err-child-clause-none_met_refused g t c = handed_none_met _ _ _ c.from_residual.result c.in_err-child.field-0.0 c.from_residual.ensures.1 (MeetsNone-refl _) c.in_err-child.ensures.none_met_refused
+pub returns-in_err-child-clause-met_only : goal.returns-in_err-child-clause-met_only
+returns-in_err-child-clause-met_only g t c = handed_met_only _ _ _ c.from_residual.result c.in_err-child.field-0.0 c.from_residual.ensures.1 (MeetsNone-refl _) c.in_err-child.ensures.met_only
 
 pub returns-clause-none_met : goal.returns-clause-none_met
 returns-clause-none_met g t c = ok_none_met _ _ _ c.insert.result c.in_ok-child.ensures.none_met c.insert.ensures.none_met
 
-pub returns-clause-none_met_refused : goal.returns-clause-none_met_refused
-returns-clause-none_met_refused g t c = err_none_met _ _ _ c.insert.result c.in_ok-child.ensures.none_met c.insert.ensures.none_met_refused
+pub returns-clause-met_only : goal.returns-clause-met_only
+returns-clause-met_only g t c = err_met_only _ _ _ c.insert.result c.in_ok-child.ensures.none_met c.insert.ensures.met_only

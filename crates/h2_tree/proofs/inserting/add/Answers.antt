@@ -32,7 +32,7 @@ pub returns-then-is_full-clause-ok : goal.returns-then-is_full-clause-ok
 returns-then-is_full-clause-ok g c = inserts_after _ _ _ _ c.requires.stands c.in_ok-ready.ensures.same c.in_ok-ready.ensures.still _ _ c.requires.sound c.part.ensures.inserts
 
 pub returns-in_err-ready-clause-none_met : goal.returns-in_err-ready-clause-none_met
-returns-in_err-ready-clause-none_met g c = record { bad = c.in_err-ready.ensures.same.bad; met = c.in_err-ready.ensures.same.met }
+returns-in_err-ready-clause-none_met g c = record { failed = c.in_err-ready.ensures.same.failed; bad = c.in_err-ready.ensures.same.bad; met = c.in_err-ready.ensures.same.met }
 
 pub returns-then-is_full-clause-none_met : goal.returns-then-is_full-clause-none_met
-returns-then-is_full-clause-none_met g c = record { bad = c.part.ensures.none_met.bad ∙ c.in_ok-ready.ensures.same.bad; met = c.part.ensures.none_met.met ∙ c.in_ok-ready.ensures.same.met }
+returns-then-is_full-clause-none_met g c = record { failed = c.part.ensures.none_met.failed ∙ c.in_ok-ready.ensures.same.failed; bad = c.part.ensures.none_met.bad ∙ c.in_ok-ready.ensures.same.bad; met = c.part.ensures.none_met.met ∙ c.in_ok-ready.ensures.same.met }

@@ -36,4 +36,4 @@ pub returns-clause-beside : goal.returns-clause-beside
 returns-clause-beside g c = beside_on _ _ _ _ _ _ (alters_still _ _ _ c.alter.ensures.alters) c.alter.ensures.beside c.make.ensures.beside
 
 pub returns-clause-none_met : goal.returns-clause-none_met
-returns-clause-none_met g c = record { bad = c.make.ensures.makes.bad ∙ c.alter.ensures.alters.bad; met = c.make.ensures.makes.met ∙ c.alter.ensures.alters.met }
+returns-clause-none_met g c = record { failed = c.make.ensures.makes.failed ∙ c.alter.ensures.alters.failed; bad = c.make.ensures.makes.bad ∙ c.alter.ensures.alters.bad; met = c.make.ensures.makes.met ∙ c.alter.ensures.alters.met }

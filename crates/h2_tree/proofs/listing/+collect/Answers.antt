@@ -16,7 +16,7 @@ use Rattle.h2_tree.specs.AnswerLaws.{beside_same, beside_on}
 use Rattle.h2_tree.proofs.Collect.{no_leaves, collected_more, leaf_step, child_step}
 use Rattle.h2_tree.proofs.Known.{child_good, good_above, good_before, no_memory_good, carried_good}
 use Rattle.h2_tree.proofs.listing.+collect.Goals as goal
-use Rattle.h2_set.specs.MetLaws.{MeetsNone-refl, MeetsNone-trans, handed_none_met}
+use Rattle.h2_set.specs.MetLaws.{MeetsNone-refl, MeetsNone-trans, handed_met_only, no_memory_met}
 use Rattle.h2_tree.proofs.listing.+collect.Goals.{then-touches+then-is_indirect+in_ok-child+in_ok-collect, then-touches+else-is_indirect+in_ok-take_leaf, else-touches}
 
 pub loop-i-init : goal.loop-i-init
@@ -207,11 +207,11 @@ returns-in_err-collect-clause-unloaded g t c =
       | inr u ↦ inr (unloaded_back c.requires.sound loaded_walk c.requires.stands (deeper c.loop-i.i read_h ind on (child.ok c.at.result.now read) u))
     ])
 
-pub returns-in_err-child-clause-none_met_refused : goal.returns-in_err-child-clause-none_met_refused
-returns-in_err-child-clause-none_met_refused g t c = handed_none_met _ _ _ c.from_residual.result c.in_err-child.field-0.0 c.from_residual.ensures.1 c.loop-i.invariant.none_met c.in_err-child.ensures.none_met_refused
+pub returns-in_err-child-clause-met_only : goal.returns-in_err-child-clause-met_only
+returns-in_err-child-clause-met_only g t c = handed_met_only _ _ _ c.from_residual.result c.in_err-child.field-0.0 c.from_residual.ensures.1 c.loop-i.invariant.none_met c.in_err-child.ensures.met_only
 
-pub returns-in_err-collect-clause-none_met_refused : goal.returns-in_err-collect-clause-none_met_refused
-returns-in_err-collect-clause-none_met_refused g t c = handed_none_met _ _ _ c.from_residual-in_err-collect.result c.in_err-collect.field-0.0 c.from_residual-in_err-collect.ensures.1 (MeetsNone-trans _ _ _ c.loop-i.invariant.none_met c.in_ok-child.ensures.none_met) c.in_err-collect.ensures.none_met_refused
+pub returns-in_err-collect-clause-met_only : goal.returns-in_err-collect-clause-met_only
+returns-in_err-collect-clause-met_only g t c = handed_met_only _ _ _ c.from_residual-in_err-collect.result c.in_err-collect.field-0.0 c.from_residual-in_err-collect.ensures.1 (MeetsNone-trans _ _ _ c.loop-i.invariant.none_met c.in_ok-child.ensures.none_met) c.in_err-collect.ensures.met_only
 
-pub returns-in_err-take_leaf-clause-none_met_refused : goal.returns-in_err-take_leaf-clause-none_met_refused
-returns-in_err-take_leaf-clause-none_met_refused g t c = handed_none_met _ _ _ c.from_residual-in_err-take_leaf.result c.in_err-take_leaf.field-0.0 c.from_residual-in_err-take_leaf.ensures.1 c.loop-i.invariant.none_met (λ good. MeetsNone-refl _)
+pub returns-in_err-take_leaf-clause-met_only : goal.returns-in_err-take_leaf-clause-met_only
+returns-in_err-take_leaf-clause-met_only g t c = handed_met_only _ _ _ c.from_residual-in_err-take_leaf.result c.in_err-take_leaf.field-0.0 c.from_residual-in_err-take_leaf.ensures.1 c.loop-i.invariant.none_met (no_memory_met _ _ c.in_err-take_leaf.field-0.0 c.in_err-take_leaf.ensures.err (MeetsNone-refl _))

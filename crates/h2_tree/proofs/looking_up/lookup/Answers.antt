@@ -8,7 +8,7 @@ use Rattle.h2_tree.proofs.Taking.{itself_under, under_refl}
 use Rattle.h2_tree.proofs.TakeBelow.{under_step, under_next}
 use Rattle.h2_tree.specs.AnswerLaws.{always_err, beside_same, beside_on}
 use Rattle.h2_tree.proofs.Known.{child_known, child_good, carried_good}
-use Rattle.h2_set.specs.MetLaws.{MeetsNone-refl, MeetsNone-trans, handed_none_met}
+use Rattle.h2_set.specs.MetLaws.{MeetsNone-refl, MeetsNone-trans, handed_met_only}
 use Rattle.h2_tree.proofs.looking_up.lookup.Goals as goal
 
 pub loop-i-init : goal.loop-i-init
@@ -121,5 +121,5 @@ loop-i-preserved g c =
       none_met = MeetsNone-trans _ _ _ now.none_met child.none_met;
     }
 
-pub returns-in_err-at-clause-none_met_refused : goal.returns-in_err-at-clause-none_met_refused
-returns-in_err-at-clause-none_met_refused g c = handed_none_met _ _ _ c.from_residual.result c.in_err-at.field-0.0 c.from_residual.ensures.1 c.loop-i.invariant.none_met c.in_err-at.ensures.none_met_refused
+pub returns-in_err-at-clause-met_only : goal.returns-in_err-at-clause-met_only
+returns-in_err-at-clause-met_only g c = handed_met_only _ _ _ c.from_residual.result c.in_err-at.field-0.0 c.from_residual.ensures.1 c.loop-i.invariant.none_met c.in_err-at.ensures.met_only

@@ -14,7 +14,7 @@ use Rattle.h2_tree.proofs.Taking.{under_refl, at_key_none, at_key_other}
 use Rattle.h2_tree.proofs.RemoveBelow.{child_stands, child_fewer}
 use Rattle.h2_tree.proofs.TakeBelow.{nothing_below, out_below, under_sole, only_sole, free_sole, room_sole, taken_sole, child_free, child_room, unloaded_path}
 use Rattle.h2_tree.proofs.Known.{child_good, good_above, carried_good}
-use Rattle.h2_set.specs.MetLaws.{MeetsNone-refl, MeetsNone-trans, handed_none_met}
+use Rattle.h2_set.specs.MetLaws.{MeetsNone-refl, MeetsNone-trans, handed_met_only}
 use Rattle.h2_tree.proofs.removing.+take.Goals as goal
 
 pub returns-in_default-clause-taken : goal.returns-in_default-clause-taken
@@ -228,11 +228,11 @@ returns-in-Sole-clause-beside g t c =
     let whole = (under_sole _ _ _ _ _ c.args.key c.at.result.now c.requires.sound c.requires.stands read ind in_r child.walks (child.loads _ read) (child.ok _ read) _ c.in-Sole.leaf taken).walks in
     beside_on _ _ _ _ _ _ (λ m st. (whole.stays m st).place.stands) first c.cut_unless_sole-in-Sole.ensures.beside
 
-pub returns-in_err-child-clause-none_met_refused : goal.returns-in_err-child-clause-none_met_refused
-returns-in_err-child-clause-none_met_refused g t c = handed_none_met _ _ _ c.from_residual.result c.in_err-child.field-0.0 c.from_residual.ensures.1 (MeetsNone-refl _) c.in_err-child.ensures.none_met_refused
+pub returns-in_err-child-clause-met_only : goal.returns-in_err-child-clause-met_only
+returns-in_err-child-clause-met_only g t c = handed_met_only _ _ _ c.from_residual.result c.in_err-child.field-0.0 c.from_residual.ensures.1 (MeetsNone-refl _) c.in_err-child.ensures.met_only
 
-pub returns-in_err-leaf-clause-none_met_refused : goal.returns-in_err-leaf-clause-none_met_refused
-returns-in_err-leaf-clause-none_met_refused g t c = handed_none_met _ _ _ c.from_residual-in_err-leaf.result c.in_err-leaf.field-0.0 c.from_residual-in_err-leaf.ensures.1 c.in_ok-child.ensures.none_met c.in_err-leaf.ensures.none_met_refused
+pub returns-in_err-leaf-clause-met_only : goal.returns-in_err-leaf-clause-met_only
+returns-in_err-leaf-clause-met_only g t c = handed_met_only _ _ _ c.from_residual-in_err-leaf.result c.in_err-leaf.field-0.0 c.from_residual-in_err-leaf.ensures.1 c.in_ok-child.ensures.none_met c.in_err-leaf.ensures.met_only
 
 pub returns-in-Sole-clause-none_met : goal.returns-in-Sole-clause-none_met
 returns-in-Sole-clause-none_met g t c = MeetsNone-trans _ _ _ (MeetsNone-trans _ _ _ c.in_ok-child.ensures.none_met c.in_ok-leaf.ensures.none_met) c.cut_unless_sole-in-Sole.ensures.none_met
