@@ -1,0 +1,8 @@
+//! Worked examples of the ledger of space, as laws; nothing else. They show that the definitions of `h2_ledger` say on
+//! volumes of two segments what was worked out by hand, of ledgers and moves that there may be as of those that can't
+//! be; and that the law of two passes needs each of its premises.
+#![tactic(auto)]
+
+mod passes;
+
+pub use passes::{worked_pass_law, worked_passes_law};
