@@ -68,6 +68,10 @@ free_code x y z c le f g h =
     let e : nat_eq c 258 ≡ false = unlike c 258 h in
     rw (a, b, d, e) refl
 
+-- codes that differ in chunk 258 alone
+pub same_codes : (x y z t : Code) (c : ℕ) → c ≢ 258 → codes_of x y t c ≡ codes_of x y z c
+same_codes x y z t c ne = let a : nat_eq c 258 ≡ false = unlike c 258 ne in rw a refl
+
 -- the number of a code
 number : Code → ℕ
 number Free = 0
@@ -89,6 +93,10 @@ free_not_staged e = absurd (let n : ◌≡◌ {A = ℕ} 0 2 = unlike_codes Free 
 pub free_not_used : Free ≡ Used → ⊥
 unfolding number
 free_not_used e = absurd (let n : ◌≡◌ {A = ℕ} 0 3 = unlike_codes Free Used e in omega arith)
+
+pub used_not_reserved : Used ≡ Reserved → ⊥
+unfolding number
+used_not_reserved e = absurd (let n : ◌≡◌ {A = ℕ} 3 1 = unlike_codes Used Reserved e in omega arith)
 
 pub reserved_not_free : Reserved ≡ Free → ⊥
 unfolding number

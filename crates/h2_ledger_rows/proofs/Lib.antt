@@ -2,3 +2,4 @@ pub mod Blocks
 pub mod Steps
 pub mod Shown
 pub mod Lists
+pub mod Joining

@@ -2,7 +2,7 @@
 use Rattle.std.proofs.Common.{◌<◌, ◌*◌, ℕ, zero, suc, List, [], ◌∷◌, length, Contains, arith, subst}
 use Rattle.std.specs.List.{AllByRecursion}
 use Rattle.h2_ledger.specs.Moves.{Move, take_next, take_first, take_whole, adopt, relink, reserve, freeze, freeze_of_pass, complete, begin_pass, begin_scan, end_pass, apply}
-use Rattle.h2_ledger.specs.Passes.{IsComplete}
+use Rattle.h2_ledger.specs.Passes.{IsComplete, AreSuccessive}
 
 -- a property of all moves is one of each
 pub of_each : (P : Move → Type 0) (moves : List Move) (move : Move) → AllByRecursion P moves → Contains moves move → P move
@@ -47,3 +47,7 @@ pub two_segments : (number : ℕ) (moves : List Move) → Contains moves (apply 
 two_segments number moves first second zero lt = first
 two_segments number moves first second (suc zero) lt = second
 two_segments number moves first second (suc (suc s)) lt = absurd (let f : 256 * suc (suc s) < 512 = lt in omega arith)
+
+-- passes whose numbers follow each other have none between them
+pub successive : (p : ℕ) (moves : List Move) → IsComplete 512 p moves → IsComplete 512 (suc p) moves → AreSuccessive 512 p (suc p) moves
+successive p moves first second = record { first = first; second = second; none_between = λ r low high all. absurd (omega arith) }

@@ -9,9 +9,9 @@ use Rattle.h2_codes.specs.declared.code.Code.TheVariants.{Free, Reserved}
 use Rattle.h2_codes.specs.declared.cursor.Cursor.{Cursor}
 use Rattle.h2_ledger.specs.declared.pass.Pass.{Pass}
 use Rattle.h2_ledger.specs.declared.pass.Pass.TheVariants.{Idle, Begun, Marked, Scanning}
-use Rattle.h2_ledger.specs.Ledger.{HasBlockIn}
+use Rattle.h2_ledger.specs.Ledger.{block_chunk, LiesInOneChunk, IsTaken, HasBlockIn}
 use Rattle.h2_ledger.specs.Moves.{freeze_of_pass, complete, begin_pass, begin_scan, apply, Makes, OnlyPass}
-use Rattle.h2_ledger.specs.Runs.{Run}
+use Rattle.h2_ledger.specs.Runs.{Run, IsOpened}
 use Rattle.h2_ledger.specs.RunLaws.{stays_self, run_one, run_append}
 use Rattle.h2_ledger_rows.specs.Ledgers.{IsIn, codes_of, resting, flushing}
 use Rattle.h2_ledger_rows.specs.Passes.{half_pass, pass_moves, half_applied, applied}
@@ -192,3 +192,18 @@ whole_run a b c p q r n completed live m sees =
     (resting (codes_of a b c) n completed live Idle m) (half_applied (codes_of a b c) (suc n) live) (applied (codes_of (swept_code p a) (swept_code q b) (swept_code r c)) (suc n) live)
     (half_run a b c p q r n completed live m sees)
     (run_one IsIn (apply (suc n) 1) (half_applied (codes_of a b c) (suc n) live) (applied (codes_of (swept_code p a) (swept_code q b) (swept_code r c)) (suc n) live) (applies_second a b c p q r (suc n) live live live sees))
+
+-- the volume of a tree was just opened
+pub opens : (a b c : Code) (n : ℕ) (tree : List Block) → ((d : Block) → IsIn d tree → LiesInOneChunk d) → ((d : Block) → IsIn d tree → IsTaken (codes_of a b c (block_chunk d))) → IsOpened IsIn (resting (codes_of a b c) n tree tree Idle [])
+opens a b c n tree one covered = record {
+  live = λ d i. i;
+  in_one_chunk = one;
+  covered = covered;
+  pins = λ d i. i;
+  fresh = λ d i. i;
+  queued = λ d i. i;
+  no_flush = refl;
+  no_pass = refl;
+  no_cursor = λ k. refl;
+  unreserved = refl;
+}

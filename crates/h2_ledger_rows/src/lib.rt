@@ -4,5 +4,10 @@
 #![tactic(auto)]
 
 mod passes;
+mod premises;
 
 pub use passes::{worked_pass_law, worked_passes_law};
+pub use premises::{
+    worked_first_marked_law, worked_joined_law, worked_second_marked_law, worked_third_pass_law,
+    worked_twice_law,
+};
