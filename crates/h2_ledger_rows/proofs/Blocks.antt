@@ -4,7 +4,7 @@ use Rattle.std.proofs.lemmas.Bool.Decides.{nat_tests}
 use Rattle.h2_num.specs.declared.block.Block.{Block}
 use Rattle.h2_codes.specs.declared.code.Code.{Code}
 use Rattle.h2_codes.specs.declared.code.Code.TheVariants.{Free, Reserved, Staged, Used}
-use Rattle.h2_ledger.specs.Ledger.{block_chunk, HasBlockIn}
+use Rattle.h2_ledger.specs.Ledger.{block_chunk, IsTaken, HasBlockIn}
 use Rattle.h2_ledger_rows.specs.Ledgers.{IsIn, chunk_block, old_tree, new_tree, codes_of}
 
 pub in_old : (b : Block) → IsIn b old_tree → block_chunk b ≡ 256
@@ -101,3 +101,7 @@ used_not_reserved e = absurd (let n : ◌≡◌ {A = ℕ} 3 1 = unlike_codes Use
 pub reserved_not_free : Reserved ≡ Free → ⊥
 unfolding number
 reserved_not_free e = absurd (let n : ◌≡◌ {A = ℕ} 1 0 = unlike_codes Reserved Free e in omega arith)
+
+pub free_not_taken : IsTaken Free → ⊥
+free_not_taken (inl e) = free_not_staged e
+free_not_taken (inr e) = free_not_used e

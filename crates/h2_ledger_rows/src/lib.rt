@@ -5,9 +5,11 @@
 
 mod passes;
 mod premises;
+mod sound;
 
 pub use passes::{worked_pass_law, worked_passes_law};
 pub use premises::{
     worked_first_marked_law, worked_joined_law, worked_second_marked_law, worked_third_pass_law,
     worked_twice_law,
 };
+pub use sound::{worked_sound_law, worked_unwritten_law};
