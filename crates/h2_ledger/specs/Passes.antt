@@ -12,7 +12,7 @@ use Rattle.h2_ledger.specs.Runs.{NoJoinIn, Run, AppliesUnmarked, IsOpened}
 abbrev pub IsComplete : ℕ → ℕ → List Move → Type 0
 IsComplete chunks number moves = (segment : ℕ) → segment_chunks * segment < chunks → Contains moves (apply number segment)
 
--- two complete passes, the first before the second, with no complete pass between them
+-- two complete passes, with no complete pass whose number lies between theirs
 pub record AreSuccessive (chunks p q : ℕ) (moves : List Move) : Type 0 where
   pub first : IsComplete chunks p moves
   pub second : IsComplete chunks q moves
