@@ -1,0 +1,5 @@
+pub mod Blocks
+pub mod Steps
+pub mod Shown
+pub mod Lists
+pub mod Joining

@@ -1,0 +1,5 @@
+pub mod Ledgers
+pub mod Passes
+pub mod Premises
+pub mod Sound
+pub mod Unwritten
