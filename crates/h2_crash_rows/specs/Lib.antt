@@ -4,3 +4,5 @@ pub mod Mounts
 pub mod Plan
 pub mod Formats
 pub mod VolumeCuts
+pub mod Landings
+pub mod Pages

@@ -4,9 +4,13 @@
 #![tactic(auto)]
 
 mod cuts;
+mod landings;
 mod mounts;
+mod pages;
 mod volume_cuts;
 
 pub use cuts::{worked_cuts_law, worked_headers_law};
+pub use landings::{worked_landings_law, worked_queues_law};
 pub use mounts::{worked_format_law, worked_marks_law, worked_mounts_law, worked_plan_law};
+pub use pages::worked_pages_law;
 pub use volume_cuts::worked_volume_cuts_law;
