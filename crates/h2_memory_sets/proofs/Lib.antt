@@ -51,3 +51,4 @@ pub mod Going
 pub mod Gone
 pub mod Below
 pub mod Counted
+pub mod Fits
