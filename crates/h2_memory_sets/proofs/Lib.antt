@@ -52,3 +52,4 @@ pub mod Going
 pub mod Gone
 pub mod Below
 pub mod Counted
+pub mod Fits

@@ -30,7 +30,7 @@ use Rattle.h2_memory_sets.proofs.Passing.{and_parts}
 use Rattle.h2_memory_sets.proofs.Plantable.{from_aligned, from_ends}
 
 -- the owner that a leaf is
-owned_is : (top key : ℕ) (o : Option Owner) → owned_by top key o ≡ true → o ≡ Some (record { root = top; key = key })
+pub owned_is : (top key : ℕ) (o : Option Owner) → owned_by top key o ≡ true → o ≡ Some (record { root = top; key = key })
 owned_is top key None e = absurd (cc)
 owned_is top key (Some o) e = let is = owner_is top key o e in ap (λ n. Some (record { root = n; key = o.key })) is.0 ∙ ap (λ n. Some (record { root = top; key = n })) is.1
 

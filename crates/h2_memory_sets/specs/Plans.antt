@@ -1,5 +1,5 @@
 -- What one call of the traits does to what is planned, and to the blocks of all nodes, loaded or not.
-use Rattle.std.specs.Prelude.{◌≡◌, ◌<◌, ◌≤◌, ◌+◌, ◌-◌, ◌^◌, ℕ, true, List, length, Some, None, Result, Ok, Err, slice_get}
+use Rattle.std.specs.Prelude.{◌≡◌, ◌<◌, ◌≤◌, ◌+◌, ◌-◌, ◌^◌, ℕ, true, false, List, length, Some, None, Result, Ok, Err, slice_get}
 use Rattle.h2_num.specs.Causes.{one_more}
 use Rattle.h2_ref.specs.declared.faults.Trouble.{Trouble}
 use Rattle.h2_ref.specs.declared.faults.Trouble.TheVariants.{Failed, Bad, NoMemory}
@@ -12,10 +12,11 @@ use Rattle.h2_inode.specs.declared.inode.Inode.{Inode}
 use Rattle.h2_inode.specs.Inode.{keys_from}
 use Rattle.h2_inode.specs.Nodes.{set_of as set_of_body}
 use Rattle.h2_memory_sets.specs.declared.memory.MemorySets.{MemorySets}
-use Rattle.h2_memory_sets.specs.Inodes.{IsSought}
+use Rattle.h2_memory_sets.specs.declared.node.Node.{Node}
+use Rattle.h2_memory_sets.specs.Inodes.{IsRootNode}
 use Rattle.h2_memory_sets.specs.Owners.{refit}
 use Rattle.h2_memory_sets.specs.Seen.{forest_of, beside_seen, blocks_of, failing_load, spoiled_load, refused_spare, KeepsNames, KeepsPlans}
-use Rattle.h2_memory_sets.specs.View.{Block, IsLoadable}
+use Rattle.h2_memory_sets.specs.View.{Block, AllFitBelow}
 
 -- nothing has changed that can be seen
 pub record StaysAll (p q : MemorySets) : Type 0 where
@@ -35,13 +36,33 @@ pub record LeadsTo (f : Forest) (at i c : ℕ) : Type 0 where
 abbrev pub NeedsLoad : Forest → ℕ → ℕ → Type 0
 NeedsLoad f at i = (c : ℕ) → LeadsTo f at i c → ⊥
 
--- no block that isn't loaded may be the one to which the reference at place i of node at leads
-abbrev pub NoneFits : MemorySets → ℕ → ℕ → Type 0
-NoneFits p at i = (r : Ref) (c : ℕ) → slice_get (refs (forest_of p) at) i ≡ Some r → IsLoadable p.nodes.items at r c → ⊥
+-- node c isn't loaded, its block lies below node at, at the key of the reference r, and it may be a node of this tree
+pub record FitsThere (p : MemorySets) (at : ℕ) (r : Ref) (c : ℕ) : Type 0 where
+  pub held : Block
+  pub read : slice_get (blocks_of p) c ≡ Some held
+  pub away : (let f = forest_of p in f.stands c) ≡ false
+  pub up : held.up ≡ Some at
+  pub low : held.low ≡ r.key
+  pub fits : AllFitBelow r (slice_get p.nodes.items (let f = forest_of p in f.root at)) held.set
 
--- no block that isn't loaded may be that of the inode which the leaf with the key in the tree of the root names
+-- there is no such node for the reference at place i of node at
+abbrev pub NoneFits : MemorySets → ℕ → ℕ → Type 0
+NoneFits p at i = (r : Ref) (c : ℕ) → slice_get (refs (forest_of p) at) i ≡ Some r → FitsThere p at r c → ⊥
+
+-- node c isn't loaded, the leaf with the key in the tree of the root names it, and it is the root of the inode with this
+-- number
+pub record FitsLeaf (p : MemorySets) (root key c : ℕ) : Type 0 where
+  pub node : Node
+  pub read : slice_get p.nodes.items c ≡ Some node
+  pub away : node.loaded ≡ false
+  pub owner : node.owner ≡ Some (record { root = root; key = key })
+  pub item : Inode
+  pub holds : node.inode ≡ Some item
+  pub fits : IsRootNode node item key
+
+-- there is no such node
 abbrev pub NoneNamed : MemorySets → ℕ → ℕ → Type 0
-NoneNamed p root key = (c : ℕ) → IsSought p.nodes.items root key c → ⊥
+NoneNamed p root key = (c : ℕ) → FitsLeaf p root key c → ⊥
 
 -- One load was counted: a failure of the disk that is planned is one load nearer, or it came and was counted. A load that
 -- the disk fails meets no block; with each other one a bad block that is planned is nearer too.

@@ -56,6 +56,7 @@ impl Nodes for MemorySets {
         ensures fails { let r : Ref = leaf.now in IsUnloaded (forest_of self.old) root.0 r.key → FailsExactlyIf (failing_load self.old ≡ 1) result }
         ensures spoils { let r : Ref = leaf.now in IsUnloaded (forest_of self.old) root.0 r.key → (failing_load self.old ≡ 1 → ⊥) → (spoiled_load self.old ≡ 1) ⊎ NoneNamed self.old root.0 r.key → TellsBad result }
         ensures bad { let r : Ref = leaf.now in TellsBad result → (spoiled_load self.old ≡ 1) ⊎ NoneNamed self.old root.0 r.key }
+        ensures unrefused { IfErr result (λ e. e ≡ Trouble.NoMemory → ⊥) }
         ensures counts_bad { let f = forest_of self.old in let g = forest_of self.new in TellsBad result → g.bad ≡ one_more f.bad }
         ensures blocks { blocks_of self.new ≡ blocks_of self.old }
     {

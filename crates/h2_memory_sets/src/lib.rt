@@ -8,6 +8,9 @@
 //! Each call of the two traits keeps what `specs/Later` says (`GoesOn`): all names, what each block holds that isn't
 //! written or lost by then, loaded or not, and which loads and calls are still to fail. The disk fails one load at most
 //! for each that is planned, and none where none is.
+//!
+//! Of one call the clauses at [`MemorySets`] say more, by `specs/Plans`: which load it counts, where it fails or answers a
+//! bad block, and what becomes of the block of each node, loaded or not.
 #![tactic(auto)]
 
 mod adding;

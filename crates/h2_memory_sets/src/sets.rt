@@ -72,6 +72,7 @@ impl Sets for MemorySets {
         ensures fails { NeedsLoad (forest_of self.old) at.0 i → FailsExactlyIf (failing_load self.old ≡ 1) result }
         ensures spoils { NeedsLoad (forest_of self.old) at.0 i → (failing_load self.old ≡ 1 → ⊥) → (spoiled_load self.old ≡ 1) ⊎ NoneFits self.old at.0 i → TellsBad result }
         ensures bad { TellsBad result → (spoiled_load self.old ≡ 1) ⊎ NoneFits self.old at.0 i }
+        ensures unrefused { IfErr result (λ e. e ≡ Trouble.NoMemory → ⊥) }
         ensures counts_bad { let f = forest_of self.old in let g = forest_of self.new in TellsBad result → g.bad ≡ one_more f.bad }
         ensures blocks { blocks_of self.new ≡ blocks_of self.old }
     {

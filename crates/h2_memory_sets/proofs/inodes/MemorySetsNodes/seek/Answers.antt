@@ -9,6 +9,7 @@ use Rattle.h2_memory_sets.specs.LaterLaws.{blocks_refl, fails_still, spoils_stil
 use Rattle.h2_memory_sets.specs.View.{block}
 use Rattle.h2_memory_sets.specs.Kept.{AreKept}
 use Rattle.h2_memory_sets.specs.Plans.{NoneNamed}
+use Rattle.h2_memory_sets.proofs.Fits.{fits_leaf, leaf_loads}
 use Rattle.h2_memory_sets.proofs.Counted.{counts_failed, counts_met}
 use Rattle.h2_memory_sets.proofs.Flagged.{blocks_set}
 use Rattle.h2_memory_sets.proofs.Going.{keeps_sought, fails_now, fails_later, spoils_now, spoils_later, not_due}
@@ -241,7 +242,7 @@ returns-clause-spoils c = λ needs other why.
     let l = subst (λ (zs : List Node). IsSought zs c.args.root.0 c.args.leaf.now.key c.in-Some-find_sought.c) c.deref-2.ensures.value c.in-Some-find_sought.ensures.found in
     elim why as (λ _. ⊥) [
       | inl due ↦ c.in-Some-find_sought.ensures.spoiled due
-      | inr none ↦ none c.in-Some-find_sought.c l
+      | inr none ↦ none c.in-Some-find_sought.c (fits_leaf c.args.self.now c.args.root.0 c.args.leaf.now.key c.in-Some-find_sought.c l)
     ]
 
 pub returns-clause-bad : goal.returns-clause-bad
@@ -258,7 +259,7 @@ returns-in_default-find_sought-clause-bad c = λ tells.
     let p = c.args.self.now in
     elim (c.in_default-find_sought.ensures.none (subst AreKept (sym c.deref-2.ensures.value) p.kept)) as (λ _. (p.spoiled ≡ 1) ⊎ NoneNamed p c.args.root.0 c.args.leaf.now.key) [
       | inl due ↦ inl due
-      | inr none ↦ inr (λ k l. none k (subst (λ (zs : List Node). IsSought zs c.args.root.0 c.args.leaf.now.key k) (sym c.deref-2.ensures.value) l))
+      | inr none ↦ inr (λ k t. none k (subst (λ (zs : List Node). IsSought zs c.args.root.0 c.args.leaf.now.key k) (sym c.deref-2.ensures.value) (leaf_loads p c.args.root.0 c.args.leaf.now.key k c.requires.sound t)))
     ]
 
 pub returns-clause-counts_bad : goal.returns-clause-counts_bad

@@ -15,6 +15,7 @@ use Rattle.h2_memory_sets.proofs.Hinted.{only_child}
 use Rattle.h2_memory_sets.specs.LaterLaws.{blocks_refl, fails_still, spoils_still}
 use Rattle.h2_memory_sets.specs.Plans.{NoneFits}
 use Rattle.h2_memory_sets.proofs.Nesting.{few_bits}
+use Rattle.h2_memory_sets.proofs.Fits.{fits_there, there_loads}
 use Rattle.h2_memory_sets.proofs.Counted.{leads_there, leads_nowhere, counts_failed, counts_met}
 use Rattle.h2_memory_sets.proofs.Flagged.{blocks_set}
 use Rattle.h2_memory_sets.proofs.Going.{keeps_brought, fails_now, fails_later, spoils_now, spoils_later, not_due}
@@ -355,7 +356,7 @@ returns-clause-spoils c = λ needs other why.
     let l = loadable_in _ xs at k q c.deref-2.ensures.value c.in-Some-find_unspoiled.ensures.found in
     elim why as (λ _. ⊥) [
       | inl due ↦ c.in-Some-find_unspoiled.ensures.spoiled due
-      | inr none ↦ none q k (ref_there xs at c.args.i c.index.result.now q node c.at.ensures) l
+      | inr none ↦ none q k (ref_there xs at c.args.i c.index.result.now q node c.at.ensures) (fits_there c.args.self.now at q k l)
     ]
 
 pub returns-clause-bad : goal.returns-clause-bad
@@ -379,7 +380,7 @@ returns-in_default-find_unspoiled-clause-bad c = λ tells.
     let few = few_bits _ c.requires.sound at c.requires.stands in
     elim (c.in_default-find_unspoiled.ensures.none (omega (arith, fits, few))) as (λ _. (p.spoiled ≡ 1) ⊎ NoneFits p at c.args.i) [
       | inl due ↦ inl due
-      | inr none ↦ inr (λ r k read l. none k (subst (λ (zs : List Node). IsLoadable zs at q k) (sym c.deref-2.ensures.value) (subst (λ (z : Ref). IsLoadable xs at z k) (sym (ref_same xs at c.args.i c.index.result.now q node c.at.ensures r read)) l)))
+      | inr none ↦ inr (λ r k read t. none k (subst (λ (zs : List Node). IsLoadable zs at q k) (sym c.deref-2.ensures.value) (subst (λ (z : Ref). IsLoadable xs at z k) (sym (ref_same xs at c.args.i c.index.result.now q node c.at.ensures r read)) (there_loads p at r k c.requires.sound t))))
     ]
 
 pub returns-clause-counts_bad : goal.returns-clause-counts_bad
