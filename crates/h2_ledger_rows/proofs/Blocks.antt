@@ -1,11 +1,14 @@
 -- Which blocks of the small trees lie in which chunks, and the codes of chunks.
 use Rattle.std.proofs.Common.{◌≡◌, ◌≢◌, ◌⊎◌, ◌<◌, ◌≤◌, ℕ, Bool, true, false, nat_lt, nat_eq, MatchBool, List, arith, ap, sym, ◌∙◌, inl, inr, refl}
+use Rattle.std.proofs.lemmas.Bool.{cases_eq, cases_lt}
 use Rattle.std.proofs.lemmas.Bool.Decides.{nat_tests}
+use Rattle.h2_codes.specs.Free.{free_below, NoneFreeBelow}
+use Rattle.h2_ledger_rows.specs.Takes.{codes_after, full_codes}
 use Rattle.h2_num.specs.declared.block.Block.{Block}
 use Rattle.h2_codes.specs.declared.code.Code.{Code}
 use Rattle.h2_codes.specs.declared.code.Code.TheVariants.{Free, Reserved, Staged, Used}
 use Rattle.h2_ledger.specs.Ledger.{block_chunk, IsTaken, HasBlockIn}
-use Rattle.h2_ledger_rows.specs.Ledgers.{IsIn, chunk_block, old_tree, new_tree, codes_of}
+use Rattle.h2_ledger_rows.specs.Ledgers.{IsIn, chunk_block, old_tree, new_tree, codes_of, used_codes}
 
 pub in_old : (b : Block) → IsIn b old_tree → block_chunk b ≡ 256
 in_old b (inl e) = ap block_chunk e
@@ -105,3 +108,32 @@ reserved_not_free e = absurd (let n : ◌≡◌ {A = ℕ} 1 0 = unlike_codes Res
 pub free_not_taken : IsTaken Free → ⊥
 free_not_taken (inl e) = free_not_staged e
 free_not_taken (inr e) = free_not_used e
+
+-- no chunk before 259 is free
+pub none_lower : NoneFreeBelow used_codes 259
+none_lower c lt e = split (cases_lt c 256) (cases_eq c 256) (cases_eq c 257) (cases_eq c 258)
+  where
+    used : (k : ℕ) → c ≡ k → used_codes k ≡ Used → ⊥
+    used k f g = free_not_used (sym e ∙ ap used_codes f ∙ g)
+
+    split : (c < 256) ⊎ (256 ≤ c) → (c ≡ 256) ⊎ (c ≡ 256 → ⊥) → (c ≡ 257) ⊎ (c ≡ 257 → ⊥) → (c ≡ 258) ⊎ (c ≡ 258 → ⊥) → ⊥
+    split (inl low) u v w = reserved_not_free (sym (reserved_code Used Used Used c low) ∙ e)
+    split (inr le) (inl f) v w = used 256 f refl
+    split (inr le) (inr u) (inl f) w = used 257 f refl
+    split (inr le) (inr u) (inr v) (inl f) = used 258 f refl
+    split (inr le) (inr u) (inr v) (inr w) = absurd (omega arith)
+
+pub free_count : free_below used_codes 512 ≡ 253
+unfolding free_below
+free_count = refl
+
+-- a full volume has no free chunk
+pub none_free : (c : ℕ) → full_codes c ≡ Free → ⊥
+none_free c e = split (cases_lt c 256)
+  where
+    split : (c < 256) ⊎ (256 ≤ c) → ⊥
+    split (inl lt) = reserved_not_free (sym (let a : nat_lt c 256 ≡ true = below c 256 lt in rw a refl) ∙ e)
+    split (inr le) = free_not_used (sym e ∙ (let a : nat_lt c 256 ≡ false = from c 256 le in rw a refl))
+
+pub other_codes : (c : ℕ) → c ≢ 259 → codes_after c ≡ used_codes c
+other_codes c ne = let a : nat_eq c 259 ≡ false = unlike c 259 ne in rw a refl

@@ -3,3 +3,4 @@ pub mod Steps
 pub mod Shown
 pub mod Lists
 pub mod Joining
+pub mod Taking

@@ -3,3 +3,4 @@ pub mod Passes
 pub mod Premises
 pub mod Sound
 pub mod Unwritten
+pub mod Takes

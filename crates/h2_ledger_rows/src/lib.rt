@@ -6,6 +6,7 @@
 mod passes;
 mod premises;
 mod sound;
+mod takes;
 
 pub use passes::{worked_pass_law, worked_passes_law};
 pub use premises::{
@@ -13,3 +14,4 @@ pub use premises::{
     worked_twice_law,
 };
 pub use sound::{worked_sound_law, worked_unwritten_law};
+pub use takes::{worked_adopt_law, worked_take_law};

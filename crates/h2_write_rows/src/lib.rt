@@ -3,6 +3,8 @@
 //! relations refuse other values.
 #![tactic(auto)]
 
+mod links;
 mod writes;
 
+pub use links::{worked_cut_law, worked_holes_law, worked_linked_law, worked_references_law};
 pub use writes::{worked_merged_law, worked_touched_law, worked_written_law};

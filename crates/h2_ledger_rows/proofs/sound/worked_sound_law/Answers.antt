@@ -11,7 +11,7 @@ use Rattle.h2_ledger.specs.RunLaws.{opens_sound, runs_sound}
 use Rattle.h2_ledger.specs.SoundLaws.{keeps_sound}
 use Rattle.h2_ledger_rows.specs.Ledgers.{IsIn, block_of, chunk_block, old_tree, used_codes, resting, opened}
 use Rattle.h2_ledger_rows.specs.Passes.{half_pass, pass_moves, half_applied, after_one, after_two, marked_only}
-use Rattle.h2_ledger_rows.proofs.Blocks.{old_sees, used_not_staged, free_not_taken}
+use Rattle.h2_ledger_rows.proofs.Blocks.{old_sees, used_not_staged, free_not_taken, free_count}
 use Rattle.h2_ledger_rows.proofs.Steps.{begins, freezes, half_run, whole_run}
 use Rattle.h2_ledger_rows.proofs.Joining.{opens_old}
 use Rattle.h2_ledger_rows.proofs.sound.worked_sound_law.Goals as goal
@@ -40,10 +40,6 @@ unlike_sizes j k e = ap number e
 sizes_differ : Small ≡ Middle → ⊥
 unfolding number
 sizes_differ e = absurd (let f : ◌≡◌ {A = ℕ} 0 1 = unlike_sizes Small Middle e in omega arith)
-
-free_count : free_below used_codes 512 ≡ 253
-unfolding free_below
-free_count = refl
 
 too_many : 254 ≤ free_below used_codes 512 → ⊥
 too_many le = absurd (let e : free_below used_codes 512 ≡ 253 = free_count in omega arith)
