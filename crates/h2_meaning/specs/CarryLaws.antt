@@ -34,7 +34,7 @@ module _ (p : Passage) (f : Follows p) where
     node_by t u i j File_kind x y (File bytes n) sim size links same h = (bytes_carried p f t u i.size j.size x y bytes sim size same h.0, h.1 ∙ sym links)
     node_by t u i j Pfs_kind x y node sim size links same h = absurd h
 
-    node_carried : (t : p.from.Tree) (u : p.to.Tree) (i j : Inode) (node : Node) → p.Matches t u → SameInode i j → IsNode p.from S t i node → IsNode p.to T u j node
+    pub node_carried : (t : p.from.Tree) (u : p.to.Tree) (i j : Inode) (node : Node) → p.Matches t u → SameInode i j → IsNode p.from S t i node → IsNode p.to T u j node
     node_carried t u i j node sim same h =
         subst (λ k. IsNodeBy p.to T u j k j.body node) (sym same.kind) (node_by t u i j i.kind i.body j.body node sim same.size same.links same.body h)
 

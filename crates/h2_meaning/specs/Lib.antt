@@ -3,6 +3,9 @@ pub mod Forest
 pub mod SingleLaws
 pub mod CarryLaws
 pub mod LoadedLaws
+pub mod Replaced
+pub mod ReplacedLaws
+pub mod ReplacedForestLaws
 pub mod OrderLaws
 pub mod FoundLaws
 pub mod Targets

@@ -8,7 +8,8 @@
 //! The laws stand on functions with empty bodies: a tree stands for one thing at most, and it stands for the same in
 //! a second reading that gives whatever the first one gives (`specs/Following` of `h2_inode`). Two laws say so of
 //! loaded nodes: one table and one forest at most stand in them, and they stand after loads and after changes of
-//! other trees.
+//! other trees. After a change of one inode a table is the one before with this inode replaced, and a forest the one
+//! before with the PFS replaced (`specs/Replaced`).
 #![tactic(auto)]
 
 mod change;
@@ -16,12 +17,14 @@ mod example;
 mod laws;
 mod loaded;
 mod reading;
+mod replaced;
 
 pub use change::Change;
 pub use example::{new_image_law, new_volume_law, one_block_law, one_entry_law};
 pub use laws::{carry_law, image_law, leaf_law, one_meaning_law, order_law};
 pub use loaded::{loaded_law, one_loaded_law};
 pub use reading::Reading;
+pub use replaced::replaced_law;
 
 #[cfg(test)]
 mod tests;

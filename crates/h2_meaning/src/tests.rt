@@ -30,4 +30,5 @@ fn laws_hold_of_a_new_volume() {
     image_law();
     one_loaded_law();
     loaded_law();
+    replaced_law();
 }

@@ -1,0 +1,17 @@
+use Rattle.std.specs.Prelude.{◌≡◌, true, Some}
+use Rattle.h2_meaning.specs.Forest.{InTable}
+use Rattle.h2_meaning.specs.ReplacedLaws.{nodes_replaced, table_kept}
+use Rattle.h2_meaning.specs.ReplacedForestLaws.{forest_kept}
+use Rattle.h2_meaning.proofs.replaced.replaced_law.Goals as goal
+
+pub returns-clause-nodes : goal.returns-clause-nodes
+returns-clause-nodes c = λ u v stay block t k root before after table old node renews plain is named targets.
+    nodes_replaced u v (λ m. stay m ≡ true) root renews t k named (λ r b. block r ≡ Some b) plain is (InTable before) (InTable after) targets table old node
+
+pub returns-clause-tables : goal.returns-clause-tables
+returns-clause-tables c = λ u v stay block t k root next now_next table old node renews plain is named.
+    table_kept u v (λ m. stay m ≡ true) root renews t k named (λ r b. block r ≡ Some b) plain is next now_next table old node
+
+pub returns-clause-forests : goal.returns-clause-forests
+returns-clause-forests c = λ u v stay block top t root next forest p renews plain is named within now.
+    forest_kept u v (λ m. stay m ≡ true) root renews (λ r b. block r ≡ Some b) plain top t next forest p is named within now

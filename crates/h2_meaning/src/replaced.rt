@@ -1,0 +1,38 @@
+ghost use Rattle.std.specs.Prelude.{◌≡◌, ℕ, Bool, true, false, Contains, Option, Some};
+ghost use Rattle.std.specs.FinMap.{get, insert};
+ghost use Rattle.h2_num.specs.Places.{Places};
+ghost use Rattle.h2_ref.specs.declared.reference.Ref.{Ref};
+ghost use Rattle.h2_set.specs.Calls.{names_node};
+ghost use Rattle.h2_set.specs.Forest.{IsRootOf};
+ghost use Rattle.h2_forest.specs.declared.table.Node.{Node};
+ghost use Rattle.h2_forest.specs.declared.pfs.Pfs.{Pfs};
+ghost use Rattle.h2_forest.specs.Forest.{PlainForest};
+ghost use Rattle.h2_forest.specs.Table.{Table};
+ghost use Rattle.h2_consistent.specs.FileTree.{IsFileTree};
+ghost use Rattle.h2_inode.specs.Loaded.{at_root, View, reading};
+ghost use Rattle.h2_meaning.specs.Forest.{InTable, IsTable, IsForest};
+ghost use Rattle.h2_meaning.specs.Replaced.{RenewsAllBut, HoldsNodes, HoldsNode, SameKind, IsIn, HoldsPfs, with_pfs};
+
+/// Laws of a change of one inode of a PFS, that with number k, which a leaf of the PFS's tree at root t names, where all
+/// other trees of the PFS stay or are renewed. The tree then stands for the table before with this inode replaced, which
+/// is a table of a PFS where it is a file tree. Before it is one, the inodes are held all the same.
+pub fn replaced_law()
+    ensures nodes { (u v : View) (stay : ℕ → Bool) (block : Ref → Option Places) (t k c : ℕ) (before after table : Table) (old node : Node)
+        → RenewsAllBut u v (λ m. stay m ≡ true) c → ((r : Ref) (b : Places) → block r ≡ Some b → names_node r.kind ≡ false) → stay t ≡ true
+        → IsRootOf u.forest t k c → ((target number : ℕ) → InTable before target number → InTable after target number)
+        → get table k ≡ Some old → HoldsNode v (λ r b. block r ≡ Some b) (InTable after) c k node
+        → HoldsNodes (reading u (λ r b. block r ≡ Some b)) (InTable before) (at_root t) table
+        → HoldsNodes (reading v (λ r b. block r ≡ Some b)) (InTable after) (at_root t) (insert table k node) }
+    ensures tables { (u v : View) (stay : ℕ → Bool) (block : Ref → Option Places) (t k c next now_next : ℕ) (table : Table) (old node : Node)
+        → RenewsAllBut u v (λ m. stay m ≡ true) c → ((r : Ref) (b : Places) → block r ≡ Some b → names_node r.kind ≡ false) → stay t ≡ true
+        → IsRootOf u.forest t k c → get table k ≡ Some old → SameKind old node
+        → HoldsNode v (λ r b. block r ≡ Some b) (InTable (insert table k node)) c k node → IsFileTree now_next (insert table k node)
+        → IsTable (reading u (λ r b. block r ≡ Some b)) (at_root t) next table
+        → IsTable (reading v (λ r b. block r ≡ Some b)) (at_root t) now_next (insert table k node) }
+    ensures forests { (u v : View) (stay : ℕ → Bool) (block : Ref → Option Places) (top t c next : ℕ) (forest : PlainForest) (p : Pfs)
+        → RenewsAllBut u v (λ m. stay m ≡ true) c → ((r : Ref) (b : Places) → block r ≡ Some b → names_node r.kind ≡ false) → stay top ≡ true
+        → IsRootOf u.forest top p.id t → IsIn u.forest t c → HoldsPfs v (λ r b. block r ≡ Some b) t p
+        → ((q : Pfs) → Contains forest.pfss q → q.id ≡ p.id → q.name ≡ p.name)
+        → IsForest (reading u (λ r b. block r ≡ Some b)) (at_root top) next forest
+        → IsForest (reading v (λ r b. block r ≡ Some b)) (at_root top) next (with_pfs forest p) }
+{}
