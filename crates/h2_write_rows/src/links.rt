@@ -1,8 +1,6 @@
 ghost use Rattle.std.specs.Prelude.{[], ◌∷◌, true, false, ℕ, Option, None, Some};
 ghost use Rattle.h2_num.specs.Places.{Places};
 ghost use Rattle.h2_ref.specs.declared.reference.Ref.{Ref};
-ghost use Rattle.h2_set.specs.Forest.{Forest};
-ghost use Rattle.h2_inode.specs.Nodes.{Fields, Told};
 ghost use Rattle.h2_file.specs.Writing.{AreOfTouched};
 ghost use Rattle.h2_file.specs.FileContents.{IsBlockOf, EndsIn, LinksBytes, CoversBytes};
 ghost use Rattle.h2_write_rows.specs.Writes.{touched_of, block_at, one_block};
@@ -30,14 +28,13 @@ pub fn worked_linked_law()
 {}
 
 /// Laws: block 0 has the places of bytes that leave the inode, and block 2 hasn't. A place behind a file's bytes is in a
-/// hole, and one in a block with a byte isn't.
+/// hole, and one in a block with a byte isn't: that block is found.
 pub fn worked_holes_law()
     ensures covers { CoversBytes (block_at 0 ∷ []) (1 ∷ 2 ∷ []) }
     ensures not_lost { CoversBytes (block_at 32768 ∷ []) (1 ∷ []) → ⊥ }
-    ensures hole { (f : Forest) (inodes : ℕ → Option Fields) (tells : Ref → Option Told) (blocks : Ref → Option Places)
-        → IsBlockOf f inodes tells blocks 0 1 (1 ∷ []) 16385 None }
-    ensures not_hole { (f : Forest) (inodes : ℕ → Option Fields) (tells : Ref → Option Told) (blocks : Ref → Option Places)
-        → IsBlockOf f inodes tells blocks 0 1 (1 ∷ []) 5 None → ⊥ }
+    ensures found { IsBlockOf (one_block (1 ∷ [])) 1 (1 ∷ []) 5 (Some (block_at 0)) }
+    ensures hole { (blocks : Ref → Option Places) → IsBlockOf blocks 1 (1 ∷ []) 16385 None }
+    ensures not_hole { (blocks : Ref → Option Places) → IsBlockOf blocks 1 (1 ∷ []) 5 None → ⊥ }
 {}
 
 /// Laws: a cut of three bytes to two ends in a block with the two and zeros behind them. The block as it was won't do, nor

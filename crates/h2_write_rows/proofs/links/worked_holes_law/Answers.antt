@@ -1,6 +1,7 @@
-use Rattle.std.proofs.Common.{◌≡◌, ◌⊎◌, ◌<◌, ◌≤◌, ◌/◌, ℕ, zero, suc, false, [], ◌∷◌, slice_get, arith, sym, ◌∙◌, inl, inr, true≢false, refl, get_or}
-use Rattle.std.specs.Prelude.{Some}
+use Rattle.std.proofs.Common.{◌≡◌, ◌⊎◌, ◌<◌, ◌≤◌, ◌/◌, ◌+◌, ℕ, zero, suc, false, [], ◌∷◌, slice_get, arith, ap, sym, ◌∙◌, inl, inr, true≢false, refl, get_or}
+use Rattle.std.specs.Prelude.{Some, slice_index}
 use Rattle.std.proofs.lemmas.Bool.{cases_lt}
+use Rattle.h2_num.specs.Places.{places}
 use Rattle.h2_ref.specs.declared.reference.Ref.{Ref}
 use Rattle.h2_set.specs.Ranges.{holds, NoneHolds}
 use Rattle.h2_write_rows.specs.Writes.{block_at}
@@ -28,6 +29,7 @@ pub returns : goal.returns
 returns c = record {
   covers = covered;
   not_lost = λ all. one (all 0 not_there);
-  hole = λ f inodes tells blocks k e. past (1 ∷ []) k (behind k e);
-  not_hole = λ f inodes tells blocks hole. one (hole 0 refl);
+  found = (record { kind_is = refl; keybits_are = refl; aligned = refl; below_size = omega arith; block = places (1 ∷ []); read = refl; bytes_are = λ k lt. let at : k ≡ 0 + k = omega arith in ap (slice_index (1 ∷ [])) at }, refl);
+  hole = λ blocks k e. past (1 ∷ []) k (behind k e);
+  not_hole = λ blocks hole. one (hole 0 refl);
 }
