@@ -1,3 +1,4 @@
 pub mod Leaves
 pub mod Needs
 pub mod Passes
+pub mod MapBlocks
