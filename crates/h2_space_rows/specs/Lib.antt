@@ -2,3 +2,4 @@ pub mod Leaves
 pub mod Needs
 pub mod Passes
 pub mod MapBlocks
+pub mod Headers

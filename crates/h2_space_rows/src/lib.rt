@@ -4,11 +4,13 @@
 #![tactic(auto)]
 
 mod codes;
+mod headers;
 mod needs;
 mod passes;
 mod places;
 
 pub use codes::worked_codes_law;
+pub use headers::worked_newest_law;
 pub use needs::{worked_map_counts_law, worked_needs_law};
 pub use passes::worked_passes_law;
 pub use places::{worked_places_law, worked_words_law};
