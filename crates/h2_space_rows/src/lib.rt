@@ -1,6 +1,6 @@
 //! Worked examples of the words in which space is spoken of, as laws; nothing else. They show that the definitions of
-//! `h2_geom`, `h2_codes`, `h2_freemap`, `h2_freeleaf` and `h2_image` give on small values what was worked out by hand, and refuse
-//! other values.
+//! `h2_geom`, `h2_codes`, `h2_freemap`, `h2_header`, `h2_freeleaf` and `h2_image` give on small values what was worked
+//! out by hand, and refuse other values.
 #![tactic(auto)]
 
 mod codes;
