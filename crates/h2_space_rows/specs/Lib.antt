@@ -1,3 +1,5 @@
 pub mod Leaves
 pub mod Needs
 pub mod Passes
+pub mod MapBlocks
+pub mod Headers

@@ -1,6 +1,6 @@
-//! Worked examples of the words by which `written_law` of `h2_file` says what a write makes of a file, as laws; nothing
-//! else. They show that these words give on small values what was worked out by hand, and that those which are
-//! relations refuse other values.
+//! Worked examples of the words by which `h2_file` says what a write or a cut makes of a file, as laws; nothing else.
+//! They show that these words give on small values what was worked out by hand, and that those which are relations
+//! refuse other values.
 #![tactic(auto)]
 
 mod links;
