@@ -8,7 +8,7 @@ use Rattle.h2_set.specs.Calls.{names_node}
 use Rattle.h2_inode.specs.declared.kind.InodeKind.TheVariants.{Pfs as Pfs_kind}
 use Rattle.h2_inode.specs.declared.inode.Inode.{Inode}
 use Rattle.h2_inode.specs.Access.{Access}
-use Rattle.h2_inode.specs.Nodes.{HasInode, IsUnloaded, IsBare}
+use Rattle.h2_inode.specs.Nodes.{HasInode}
 use Rattle.h2_inode.specs.Loaded.{at_root, View, reading, TellsOn}
 use Rattle.h2_inode.specs.Others.{RenewsTree}
 use Rattle.h2_forest.specs.declared.table.Node.{Node}
@@ -20,13 +20,11 @@ use Rattle.h2_meaning.specs.Node.{IsNode, HasMembers}
 use Rattle.h2_meaning.specs.Forest.{IsTable}
 
 -- The roots of which P holds, but for root c, have their trees renewed, and it holds of the roots but c that their leaves
--- name. Of what these leaves name nothing is loaded but below a root. What was told is told, and no leaf that names a
--- node has a name told.
+-- name. The forest before is sound. What was told is told, and no leaf that names a node has a name told.
 pub record RenewsAllBut (u v : View) (P : ℕ → Type 0) (c : ℕ) : Type 0 where
   pub sound : IsSound u.forest
   pub trees : (d : ℕ) → P d → (d ≡ c → ⊥) → RenewsTree u v d
   pub closed : (d key e : ℕ) → P d → (d ≡ c → ⊥) → IsRootOf u.forest d key e → (e ≡ c → ⊥) → P e
-  pub bare : (d key : ℕ) → P d → (d ≡ c → ⊥) → IsUnloaded u.forest d key → IsBare u.forest d key
   pub told : TellsOn u v
   pub name : (r : Ref) (name : List ℕ) → u.forest.name r ≡ Some name → v.forest.name r ≡ Some name
   pub plain : (r : Ref) (name : List ℕ) → u.forest.name r ≡ Some name → names_node r.kind ≡ false

@@ -1,6 +1,6 @@
 -- A forest after a change in one of its PFSs is the one before with this PFS replaced.
-use Rattle.std.specs.Prelude.{◌≡◌, ◌≢◌, ◌<◌, ℕ, zero, suc, ◌^◌, Bool, true, false, cond, nat_eq, List, [], ◌∷◌, map, length, slice_index_or, AllPairs, Contains, refl}
-use Rattle.std.proofs.Common.{sym, ◌∙◌, arith, inl, inr, subst}
+use Rattle.std.specs.Prelude.{◌≡◌, ◌≢◌, ◌<◌, ℕ, zero, suc, ◌^◌, Bool, true, false, cond, nat_eq, List, [], ◌∷◌, map, length, slice_index_or, AllPairs, Contains, refl, Some}
+use Rattle.std.proofs.Common.{sym, ◌∙◌, arith, inl, inr, subst, ap}
 use Rattle.std.proofs.lemmas.Bool.{eqb-true, eq-eqb}
 use Rattle.h2_num.specs.Places.{Places}
 use Rattle.h2_ref.specs.declared.reference.Kind.TheVariants.{Inode as Inode_kind}
@@ -12,13 +12,18 @@ use Rattle.h2_inode.specs.Access.{Access, OneByOne}
 use Rattle.h2_inode.specs.PfsList.{ListedPfs, IsPfs}
 use Rattle.h2_inode.specs.ListLaws.{behind, all_through, rising_carried}
 use Rattle.h2_inode.specs.BareLaws.{leaf_like}
-use Rattle.h2_inode.specs.Loaded.{at_root, View, reading}
-use Rattle.h2_inode.specs.Others.{LeafRenewed}
+use Rattle.h2_inode.specs.Loaded.{at_root, View, reading, NamesInode}
+use Rattle.h2_inode.specs.Others.{LeafRenewed, with_set}
 use Rattle.h2_forest.specs.declared.pfs.Pfs.{Pfs}
 use Rattle.h2_forest.specs.Forest.{PlainForest}
-use Rattle.h2_meaning.specs.Forest.{listed_of, IsWhole, IsForest}
-use Rattle.h2_meaning.specs.Replaced.{RenewsAllBut, IsIn, HoldsPfs, in_place_of, with_pfs}
-use Rattle.h2_meaning.specs.ReplacedLaws.{true_false, through_changed, whole_beside, is_other, only_one}
+use Rattle.std.proofs.lemmas.Option.{same_Some}
+use Rattle.std.specs.FinMap.{get, insert}
+use Rattle.h2_inode.specs.Nodes.{Fields, fields_of, HasInode, NamesOne}
+use Rattle.h2_forest.specs.declared.table.Node.{Node}
+use Rattle.h2_consistent.specs.FileTree.{IsFileTree}
+use Rattle.h2_meaning.specs.Forest.{listed_of, IsWhole, IsForest, InTable, IsTable}
+use Rattle.h2_meaning.specs.Replaced.{RenewsAllBut, IsIn, HoldsPfs, in_place_of, with_pfs, SameKind, HoldsNode}
+use Rattle.h2_meaning.specs.ReplacedLaws.{true_false, through_changed, whole_beside, is_other, only_one, table_kept}
 
 -- Lists of PFSs whose ids and names are the same
 
@@ -135,3 +140,67 @@ forest_kept u v P c h Content blocks top t next f p is named within now same =
       };
       holds = now.holds;
     }) next f same
+
+-- An inode of a PFS of the forest is replaced
+
+partner_of : {X Y : Type 0} (A : X → Y → Type 0) (xs : List X) (ys : List Y) → OneByOne A xs ys → (y : Y) (k : ℕ) → k < length ys → slice_index_or ys k y ≡ y → (x : X) × A x y
+partner_of A [] [] p y k lt e = absurd (omega (arith, lt))
+partner_of A [] (z ∷ ys) p y k lt e = absurd p
+partner_of A (x ∷ xs) [] p y k lt e = absurd p
+partner_of A (x ∷ xs) (z ∷ ys) p y zero lt e = (x, subst (λ w. A x w) e p.0)
+partner_of A (x ∷ xs) (z ∷ ys) p y (suc k) lt e = partner_of A xs ys p.1 y k (omega (arith, lt)) e
+
+module _ (u : View) (Content : Ref → Places → Type 0) (one : NamesOne u.forest) (top t : ℕ) where
+  -- the root that the leaf of a PFS names holds the PFS
+  held_by : (r : Ref) (q : Pfs) (named : IsPfs (reading u Content) (at_root top) r (listed_of q)) → IsTable (reading u Content) named.tree q.next q.table → IsRootOf u.forest top q.id t
+      → NamesInode u.forest u.holds u.tells (at_root top) r named.inode named.tree → HoldsPfs u Content t q
+  held_by r q n table is (inl x) =
+      let same : x.0 ≡ t = one top q.id t x.0 is (subst (λ k. IsRootOf u.forest top k x.0) (sym n.id_is) x.1) in
+      record {
+        inode = n.inode;
+        held = subst (λ d. HasInode u.forest u.holds d n.inode) same x.2;
+        pfs_is = n.pfs_is;
+        numbered = n.numbered ∙ sym n.id_is;
+        name_is = n.name_is;
+        next_is = n.next_is;
+        holds = subst (λ w. IsTable (reading u Content) w q.next q.table) (x.3 ∙ ap at_root same) table;
+      }
+  held_by r q n table is (inr x) = absurd (x.0 t (subst (λ k. IsRootOf u.forest top k t) n.id_is is))
+
+  -- so it is of each PFS of a forest
+  held_in : (next : ℕ) (f : PlainForest) → IsForest (reading u Content) (at_root top) next f → (q : Pfs) → Contains f.pfss q → IsRootOf u.forest top q.id t → HoldsPfs u Content t q
+  held_in next f h q at is =
+      let l = h.list in
+      let x = partner_of (IsWhole (reading u Content) (at_root top)) l.leaves f.pfss h.each q at.0 at.1 at.2 in
+      let w = x.1 in
+      let n = w.named in
+      held_by x.0 q n w.holds is n.read
+
+-- one root holds one PFS with one name
+same_name : (u : View) (Content : Ref → Places → Type 0) (t : ℕ) (p q : Pfs) → HoldsPfs u Content t p → HoldsPfs u Content t q → q.name ≡ p.name
+same_name u Content t p q x y =
+    let i = x.inode in
+    let j = y.inode in
+    let a = x.held in
+    let b = y.held in
+    let fields : fields_of j ≡ fields_of i = same_Some (fields_of j) (fields_of i) (sym b.fields ∙ a.fields) in
+    y.name_is ∙ ap (λ (g : Fields). g.name) fields ∙ sym x.name_is
+
+pub inode_kept : (u v : View) (P : ℕ → Type 0) (c : ℕ) → RenewsAllBut u v P c → (Content : Ref → Places → Type 0) → ((r : Ref) (x : Places) → Content r x → names_node r.kind ≡ false) → (top t k next : ℕ) (f : PlainForest) (p : Pfs) (old node : Node)
+    → NamesOne u.forest → P top → P t → IsRootOf u.forest top p.id t → IsRootOf u.forest t k c → Contains f.pfss p → get p.table k ≡ Some old → SameKind old node
+    → HoldsNode v Content (InTable (insert p.table k node)) c k node → IsFileTree p.next (insert p.table k node)
+    → IsForest (reading u Content) (at_root top) next f → IsForest (reading v Content) (at_root top) next (with_pfs f (record p { table = insert p.table k node }))
+inode_kept u v P c h Content blocks top t k next f p old node one is below named names at there same now whole was =
+    let before = held_in u Content one top t next f was p at named in
+    let after = table_kept u v P c h t k names Content blocks below p.next p.next p.table old node there same now whole before.holds in
+    let i = before.inode in
+    let renewed = h.trees t below (is_other u.forest h.sound t k c names) in
+    forest_kept u v P c h Content blocks top t next f (record p { table = insert p.table k node }) is named (inr (k, names)) (record {
+      inode = with_set i (v.forest.set t);
+      held = renewed.inode i before.held;
+      pfs_is = before.pfs_is;
+      numbered = before.numbered;
+      name_is = before.name_is;
+      next_is = before.next_is;
+      holds = after;
+    }) (λ q has id. same_name u Content t p q before (held_in u Content one top t next f was q has (subst (λ n. IsRootOf u.forest top n t) (sym id) named))) was

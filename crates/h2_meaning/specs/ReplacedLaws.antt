@@ -1,5 +1,5 @@
 -- A table after a change of one of its inodes is the one before with this inode replaced.
-use Rattle.std.specs.Prelude.{◌≡◌, ℕ, ◌^◌, Bool, true, false, cond, List, [], ◌∷◌, map, Some, refl}
+use Rattle.std.specs.Prelude.{◌≡◌, ℕ, ◌^◌, Bool, true, false, cond, List, [], ◌∷◌, map, Some, refl, ◌↔◌}
 use Rattle.std.proofs.Common.{ap, sym, ◌∙◌, inl, inr, subst}
 use Rattle.std.proofs.lemmas.Option.{none-some}
 use Rattle.std.specs.Ordering.{eq_by_cmp, nat_cmp}
@@ -15,13 +15,13 @@ use Rattle.h2_inode.specs.declared.inode.Body.{Body}
 use Rattle.h2_inode.specs.declared.inode.Body.TheVariants.{Refs, Bytes}
 use Rattle.h2_inode.specs.declared.inode.Inode.{Inode}
 use Rattle.h2_inode.specs.Nodes.{IsUnloaded}
-use Rattle.h2_inode.specs.Access.{OneByOne}
+use Rattle.h2_inode.specs.Access.{OneByOne, Access}
 use Rattle.h2_inode.specs.Following.{SameBody, SameInode}
 use Rattle.h2_inode.specs.FollowLaws.{same_inode}
 use Rattle.h2_inode.specs.ListLaws.{rising_carried}
-use Rattle.h2_inode.specs.BareLaws.{leaf_like}
-use Rattle.h2_inode.specs.Loaded.{Tree, at_root, IsTold, NamesInode, View, reading}
-use Rattle.h2_inode.specs.Others.{body_with, with_set, LeafRenewed, RenewsTrees, IsTreeOf, over_renewal}
+use Rattle.h2_inode.specs.BareLaws.{leaf_like, unloaded_bare}
+use Rattle.h2_inode.specs.Loaded.{Tree, at_root, IsTold, NamesInode, View, reading, TellsOn}
+use Rattle.h2_inode.specs.Others.{body_with, with_set, LeafRenewed, RenewsTrees, IsTreeOf, over_renewal, RenewsOthers}
 use Rattle.h2_inode.specs.RenewedLaws.{renewed_follow}
 use Rattle.h2_forest.specs.declared.table.Node.{Node}
 use Rattle.h2_forest.specs.declared.table.Node.TheVariants.{File, Directory}
@@ -134,7 +134,7 @@ module _ (u v : View) (P : ℕ → Type 0) (c : ℕ) (h : RenewsAllBut u v P c) 
         let below : u.forest.belongs e d key ≡ true = (is.belongs d key).1 (inl (refl, refl)) in
         let other : e ≡ c → ⊥ = λ same. p.2 key (subst (λ x. u.forest.belongs x d key ≡ true) same below) in
         (h.closed d key e p.0 p.1 is other, other, λ j up. p.2 key (h.sound.chain c e j d key stands up below));
-    bare = λ d key p. h.bare d key p.0 p.1;
+    sound = h.sound;
     told = h.told;
     name = h.name;
     plain = h.plain;
@@ -158,7 +158,7 @@ module _ (u v : View) (P : ℕ → Type 0) (c : ℕ) (h : RenewsAllBut u v P c) 
         (j, at_root d, inl (d, named, (h.trees d is.0 is.1).inode i x.2, refl), same_with i (v.forest.set d), subst (λ z. IsTreeOf (Beside u P c) z (at_root d)) (sym x.3) (refl, is))
     inode_beside r s i b e ne (inr x) =
         let y = x.1 in
-        let same = e.same (h.bare at r.key p other x.0) in
+        let same = e.same (unloaded_bare u.forest at r.key h.sound x.0) in
         let told : IsTold v.tells s i b = (y.0, subst (λ z. v.tells z ≡ Some y.0) (sym same) (h.told r y.0 y.1), y.2, y.3) in
         let none = subst (λ n. IsUnloaded v.forest at n) (sym e.renewed.key) ((h.trees at p other).unloaded r.key x.0) in
         (i, b, inr (none, told), same_inode i, subst (λ z. IsTreeOf (Beside u P c) z z) (sym y.3) refl)
@@ -236,6 +236,26 @@ module _ (f : Forest) (sound : IsSound f) (at k c : ℕ) (named : IsRootOf f at 
   pub only_one : (key : ℕ) → f.belongs c at key ≡ true → key ≡ k
   only_one key up = elim ((named.belongs at key).0 up) [ inl is ↦ is.1 | inr self ↦ absurd (not_own key self) ]
 
+-- where all roots but one are renewed, the law's premise holds of all roots
+pub all_others : (u v : View) (P : ℕ → Type 0) (c : ℕ) → IsSound u.forest → ((m : ℕ) → P m ↔ ((u.forest.stands m ≡ true) × (u.forest.root m ≡ m))) → RenewsOthers u v c
+    → TellsOn u v → ((r : Ref) (name : List ℕ) → u.forest.name r ≡ Some name → v.forest.name r ≡ Some name) → ((r : Ref) (name : List ℕ) → u.forest.name r ≡ Some name → names_node r.kind ≡ false)
+    → RenewsAllBut u v P c
+all_others u v P c sound roots renews told name plain = record {
+  sound = sound;
+  trees = λ d p other. let is = (roots d).0 p in renews d is.0 is.1 other;
+  closed = λ d key e p other is apart. (roots e).1 (is.stands, is.root);
+  told = told;
+  name = name;
+  plain = plain;
+}
+
+-- a tree that holds the inodes of a file tree holds the table, and the other way round
+pub whole_table : (a : Access) (t : a.Tree) (next : ℕ) (table : Table) → HoldsNodes a (InTable table) t table → IsFileTree next table → IsTable a t next table
+whole_table a t next table is whole = record { members = is.members; has = is.has; table_is = is.table_is; whole = whole }
+
+pub nodes_of : (a : Access) (t : a.Tree) (next : ℕ) (table : Table) → IsTable a t next table → HoldsNodes a (InTable table) t table
+nodes_of a t next table is = record { members = is.members; has = is.has; table_is = is.table_is }
+
 -- The inode of root c, which a leaf of root at names, is replaced
 
 module _ (u v : View) (P : ℕ → Type 0) (c : ℕ) (h : RenewsAllBut u v P c) (at k : ℕ) (named : IsRootOf u.forest at k c) where
@@ -264,5 +284,5 @@ module _ (u v : View) (P : ℕ → Type 0) (c : ℕ) (h : RenewsAllBut u v P c) 
     pub table_kept : (next now_next : ℕ) (table : Table) (old node : Node) → get table k ≡ Some old → SameKind old node → HoldsNode v Content (InTable (insert table k node)) c k node → IsFileTree now_next (insert table k node)
         → IsTable (reading u Content) (at_root at) next table → IsTable (reading v Content) (at_root at) now_next (insert table k node)
     table_kept next now_next table old node there same now whole was =
-        let it = nodes_replaced (InTable table) (InTable (insert table k node)) (targets_kept table k old node there same) table old node there now (record { members = was.members; has = was.has; table_is = was.table_is }) in
-        record { members = it.members; has = it.has; table_is = it.table_is; whole = whole }
+        whole_table (reading v Content) (at_root at) now_next (insert table k node)
+        (nodes_replaced (InTable table) (InTable (insert table k node)) (targets_kept table k old node there same) table old node there now (nodes_of (reading u Content) (at_root at) next table was)) whole

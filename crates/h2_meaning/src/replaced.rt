@@ -1,21 +1,26 @@
-ghost use Rattle.std.specs.Prelude.{◌≡◌, ℕ, Bool, true, false, Contains, Option, Some};
+ghost use Rattle.std.specs.Prelude.{◌≡◌, ◌↔◌, ℕ, Bool, true, false, List, Contains, Option, Some};
 ghost use Rattle.std.specs.FinMap.{get, insert};
 ghost use Rattle.h2_num.specs.Places.{Places};
 ghost use Rattle.h2_ref.specs.declared.reference.Ref.{Ref};
 ghost use Rattle.h2_set.specs.Calls.{names_node};
-ghost use Rattle.h2_set.specs.Forest.{IsRootOf};
+ghost use Rattle.h2_set.specs.Forest.{IsSound, IsRootOf};
 ghost use Rattle.h2_forest.specs.declared.table.Node.{Node};
 ghost use Rattle.h2_forest.specs.declared.pfs.Pfs.{Pfs};
 ghost use Rattle.h2_forest.specs.Forest.{PlainForest};
 ghost use Rattle.h2_forest.specs.Table.{Table};
 ghost use Rattle.h2_consistent.specs.FileTree.{IsFileTree};
-ghost use Rattle.h2_inode.specs.Loaded.{at_root, View, reading};
+ghost use Rattle.h2_inode.specs.Nodes.{NamesOne};
+ghost use Rattle.h2_inode.specs.Loaded.{at_root, View, reading, TellsOn};
+ghost use Rattle.h2_inode.specs.Others.{RenewsOthers};
 ghost use Rattle.h2_meaning.specs.Forest.{InTable, IsTable, IsForest};
 ghost use Rattle.h2_meaning.specs.Replaced.{RenewsAllBut, HoldsNodes, HoldsNode, SameKind, IsIn, HoldsPfs, with_pfs};
 
-/// Laws of a change of one inode of a PFS, that with number k, which a leaf of the PFS's tree at root t names, where all
-/// other trees of the PFS stay or are renewed. The tree then stands for the table before with this inode replaced, which
-/// is a table of a PFS where it is a file tree. Before it is one, the inodes are held all the same.
+/// A law of a change of one inode of a PFS, that with number k, which a leaf of the PFS's tree at root t names, where all
+/// other trees of the PFS stay or are renewed: the tree then stands for the table before with this inode replaced. It is
+/// the table of a PFS where it is a file tree; a command that changes several inodes has tables between that aren't.
+/// The same of a forest, in which a PFS changed, or an inode below it: it is the one before with this PFS replaced, and
+/// where an inode of a PFS's table changed, the PFS is the one before with this inode replaced in its table.
+/// A change that renews all other roots is such a one.
 pub fn replaced_law()
     ensures nodes { (u v : View) (stay : ℕ → Bool) (block : Ref → Option Places) (t k c : ℕ) (before after table : Table) (old node : Node)
         → RenewsAllBut u v (λ m. stay m ≡ true) c → ((r : Ref) (b : Places) → block r ≡ Some b → names_node r.kind ≡ false) → stay t ≡ true
@@ -35,4 +40,18 @@ pub fn replaced_law()
         → ((q : Pfs) → Contains forest.pfss q → q.id ≡ p.id → q.name ≡ p.name)
         → IsForest (reading u (λ r b. block r ≡ Some b)) (at_root top) next forest
         → IsForest (reading v (λ r b. block r ≡ Some b)) (at_root top) next (with_pfs forest p) }
+    ensures inodes { (u v : View) (stay : ℕ → Bool) (block : Ref → Option Places) (top t k c next : ℕ) (forest : PlainForest) (p : Pfs) (old node : Node)
+        → RenewsAllBut u v (λ m. stay m ≡ true) c → ((r : Ref) (b : Places) → block r ≡ Some b → names_node r.kind ≡ false) → NamesOne u.forest → stay top ≡ true → stay t ≡ true
+        → IsRootOf u.forest top p.id t → IsRootOf u.forest t k c → Contains forest.pfss p → get p.table k ≡ Some old → SameKind old node
+        → HoldsNode v (λ r b. block r ≡ Some b) (InTable (insert p.table k node)) c k node → IsFileTree p.next (insert p.table k node)
+        → IsForest (reading u (λ r b. block r ≡ Some b)) (at_root top) next forest
+        → IsForest (reading v (λ r b. block r ≡ Some b)) (at_root top) next (with_pfs forest (record p { table = insert p.table k node })) }
+    ensures held { (v : View) (block : Ref → Option Places) (t next : ℕ) (table : Table) → IsTable (reading v (λ r b. block r ≡ Some b)) (at_root t) next table
+        → HoldsNodes (reading v (λ r b. block r ≡ Some b)) (InTable table) (at_root t) table }
+    ensures whole { (v : View) (block : Ref → Option Places) (t next : ℕ) (table : Table) → HoldsNodes (reading v (λ r b. block r ≡ Some b)) (InTable table) (at_root t) table
+        → IsFileTree next table → IsTable (reading v (λ r b. block r ≡ Some b)) (at_root t) next table }
+    ensures others { (u v : View) (stay : ℕ → Bool) (c : ℕ) → IsSound u.forest → ((m : ℕ) → (stay m ≡ true) ↔ ((u.forest.stands m ≡ true) × (u.forest.root m ≡ m)))
+        → RenewsOthers u v c
+        → TellsOn u v → ((r : Ref) (name : List ℕ) → u.forest.name r ≡ Some name → v.forest.name r ≡ Some name)
+        → ((r : Ref) (name : List ℕ) → u.forest.name r ≡ Some name → names_node r.kind ≡ false) → RenewsAllBut u v (λ m. stay m ≡ true) c }
 {}

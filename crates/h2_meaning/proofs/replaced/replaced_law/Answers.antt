@@ -1,7 +1,8 @@
 use Rattle.std.specs.Prelude.{◌≡◌, true, Some}
+use Rattle.h2_inode.specs.Loaded.{at_root, reading}
 use Rattle.h2_meaning.specs.Forest.{InTable}
-use Rattle.h2_meaning.specs.ReplacedLaws.{nodes_replaced, table_kept}
-use Rattle.h2_meaning.specs.ReplacedForestLaws.{forest_kept}
+use Rattle.h2_meaning.specs.ReplacedLaws.{nodes_replaced, table_kept, all_others, whole_table, nodes_of}
+use Rattle.h2_meaning.specs.ReplacedForestLaws.{forest_kept, inode_kept}
 use Rattle.h2_meaning.proofs.replaced.replaced_law.Goals as goal
 
 pub returns-clause-nodes : goal.returns-clause-nodes
@@ -15,3 +16,16 @@ returns-clause-tables c = λ u v stay block t k root next now_next table old nod
 pub returns-clause-forests : goal.returns-clause-forests
 returns-clause-forests c = λ u v stay block top t root next forest p renews plain is named within now.
     forest_kept u v (λ m. stay m ≡ true) root renews (λ r b. block r ≡ Some b) plain top t next forest p is named within now
+
+pub returns-clause-held : goal.returns-clause-held
+returns-clause-held c = λ v block t. nodes_of (reading v (λ r b. block r ≡ Some b)) (at_root t)
+
+pub returns-clause-whole : goal.returns-clause-whole
+returns-clause-whole c = λ v block t. whole_table (reading v (λ r b. block r ≡ Some b)) (at_root t)
+
+pub returns-clause-others : goal.returns-clause-others
+returns-clause-others c = λ u v stay. all_others u v (λ m. stay m ≡ true)
+
+pub returns-clause-inodes : goal.returns-clause-inodes
+returns-clause-inodes c = λ u v stay block top t k root next forest p old node renews plain.
+    inode_kept u v (λ m. stay m ≡ true) root renews (λ r b. block r ≡ Some b) plain top t k next forest p old node
