@@ -173,7 +173,7 @@ pub record IsSound (f : Forest) : Type 0 where
   pub parent : (m : ℕ) → f.stands m ≡ true → (f.root m ≡ m → ⊥) → HasParent f m
   pub owner : (m top key : ℕ) → f.stands m ≡ true → f.belongs m top key ≡ true → HasOwner f m top key
   pub inode : (m top key : ℕ) → f.stands m ≡ true → f.belongs m top key ≡ true → IsOfInode f m top key
-  -- and to all that the leaf's own tree belongs to
+  -- it belongs to all that the leaf's own tree belongs to, too
   pub chain : (m t k u j : ℕ) → f.stands m ≡ true → f.belongs m t k ≡ true → f.belongs t u j ≡ true → f.belongs m u j ≡ true
   -- the epoch is the number of a checkpoint, so that what is new can be written
   pub epoch : (1 ≤ f.epoch) × (f.epoch ≤ 2 ^ 62)
