@@ -1,0 +1,149 @@
+-- A table after an inode is added to it has this inode and those before.
+use Rattle.std.specs.Prelude.{◌≡◌, ℕ, Bool, true, false, cond, if◌then◌else◌, nat_lt, List, [], ◌∷◌, Option, Some, None, refl}
+use Rattle.std.proofs.Common.{arith, ap, sym, ◌∙◌, inl, inr, subst}
+use Rattle.std.proofs.lemmas.Bool.Decides.{nat_tests}
+use Rattle.std.proofs.lemmas.Option.{none-some}
+use Rattle.std.specs.Ordering.{eq_by_cmp, nat_cmp}
+use Rattle.std.specs.Cmp.{nat_cmp_total}
+use Rattle.std.specs.FinMap.{nat_cmp-IsAntisymmetric, find, get, insert, from_entries, get-insert, get-from_entries, same_map}
+use Rattle.h2_num.specs.Places.{Places}
+use Rattle.h2_ref.specs.declared.reference.Kind.TheVariants.{Inode as Inode_kind}
+use Rattle.h2_ref.specs.declared.reference.Ref.{Ref}
+use Rattle.h2_set.specs.Ranges.{put}
+use Rattle.h2_set.specs.Forest.{IsRootOf}
+use Rattle.h2_set.specs.Calls.{names_node}
+use Rattle.h2_inode.specs.declared.inode.Inode.{Inode}
+use Rattle.h2_inode.specs.Access.{OneByOne}
+use Rattle.h2_inode.specs.Following.{SameInode}
+use Rattle.h2_inode.specs.FollowLaws.{same_inode}
+use Rattle.h2_inode.specs.Loaded.{Tree, at_root, IsTold, NamesInode, View, reading}
+use Rattle.h2_inode.specs.Others.{with_set, IsTreeOf, over_renewal}
+use Rattle.h2_inode.specs.RenewedLaws.{renewed_follow}
+use Rattle.h2_forest.specs.declared.table.Node.{Node}
+use Rattle.h2_forest.specs.Table.{Table}
+use Rattle.h2_meaning.specs.Node.{IsMember}
+use Rattle.h2_meaning.specs.CarryLaws.{node_carried}
+use Rattle.h2_meaning.specs.Replaced.{RenewsAllBut, HoldsNodes, HoldsNode, GainsLeaf}
+use Rattle.h2_meaning.specs.ReplacedLaws.{same_with, tied, untied, Beside, others_renewed, is_other}
+
+-- the list with one member more, at the place of its number
+abbrev put_node : ℕ × Node → List (ℕ × Node) → List (ℕ × Node)
+put_node y [] = y ∷ []
+put_node y (z ∷ zs) = if nat_lt y.0 z.0 then y ∷ z ∷ zs else (if nat_lt z.0 y.0 then z ∷ put_node y zs else y ∷ zs)
+
+-- one more, one by one
+each_put : (Q : Ref → ℕ × Node → Type 0) (leaf : Ref) (y : ℕ × Node) (rs : List Ref) (ms : List (ℕ × Node)) → y.0 ≡ leaf.key → Q leaf y → ((r : Ref) (m : ℕ × Node) → Q r m → m.0 ≡ r.key) → OneByOne Q rs ms → OneByOne Q (put leaf rs) (put_node y ms)
+each_put Q leaf y [] [] key here keys all = (here, tt)
+each_put Q leaf y [] (m ∷ ms) key here keys all = absurd all
+each_put Q leaf y (r ∷ rs) [] key here keys all = absurd all
+each_put Q leaf y (r ∷ rs) (m ∷ ms) key here keys all = decide (nat_lt leaf.key r.key) (nat_lt r.key leaf.key) refl refl (each_put Q leaf y rs ms key here keys all.1)
+  where
+    same : m.0 ≡ r.key
+    same = keys r m all.0
+
+    decide : (a b : Bool) → nat_lt leaf.key r.key ≡ a → nat_lt r.key leaf.key ≡ b → OneByOne Q (put leaf rs) (put_node y ms) → OneByOne Q (put leaf (r ∷ rs)) (put_node y (m ∷ ms))
+    decide true b e e2 rest =
+        let e' : nat_lt y.0 m.0 ≡ true = ap (λ z. nat_lt z m.0) key ∙ ap (λ z. nat_lt leaf.key z) same ∙ e in
+        rw (e, e') (here, all)
+    decide false true e e2 rest =
+        let e' : nat_lt y.0 m.0 ≡ false = ap (λ z. nat_lt z m.0) key ∙ ap (λ z. nat_lt leaf.key z) same ∙ e in
+        let f' : nat_lt m.0 y.0 ≡ true = ap (λ z. nat_lt z y.0) same ∙ ap (λ z. nat_lt r.key z) key ∙ e2 in
+        rw (e, e', e2, f') (all.0, rest)
+    decide false false e e2 rest =
+        let e' : nat_lt y.0 m.0 ≡ false = ap (λ z. nat_lt z m.0) key ∙ ap (λ z. nat_lt leaf.key z) same ∙ e in
+        let f' : nat_lt m.0 y.0 ≡ false = ap (λ z. nat_lt z y.0) same ∙ ap (λ z. nat_lt r.key z) key ∙ e2 in
+        rw (e, e', e2, f') (here, all.1)
+
+-- what is found then
+module _ (k : ℕ) (node : Node) (q : ℕ) where
+  swapped : (m : ℕ × Node) (o : Option Node) → (m.0 ≡ k → ⊥) → (a b : Bool) → eq_by_cmp nat_cmp q m.0 ≡ a → eq_by_cmp nat_cmp q k ≡ b → cond a (Some m.1) (cond b (Some node) o) ≡ cond b (Some node) (cond a (Some m.1) o)
+  swapped m o apart true true e f = absurd (apart (sym (tied q m.0 e) ∙ tied q k f))
+  swapped m o apart true false e f = refl
+  swapped m o apart false true e f = refl
+  swapped m o apart false false e f = refl
+
+  hidden : (m : ℕ × Node) (o : Option Node) (a b : Bool) → a ≡ b → cond b (Some node) o ≡ cond b (Some node) (cond a (Some m.1) o)
+  hidden m o true true e = refl
+  hidden m o false false e = refl
+  hidden m o true false e = absurd (cc)
+  hidden m o false true e = refl
+
+  find_put : (ms : List (ℕ × Node)) → find nat_cmp q (put_node (k, node) ms) ≡ cond (eq_by_cmp nat_cmp q k) (Some node) (find nat_cmp q ms)
+  find_put [] = refl
+  find_put (m ∷ ms) = decide (nat_lt k m.0) (nat_lt m.0 k) refl refl (find_put ms)
+    where
+      decide : (a b : Bool) → nat_lt k m.0 ≡ a → nat_lt m.0 k ≡ b → find nat_cmp q (put_node (k, node) ms) ≡ cond (eq_by_cmp nat_cmp q k) (Some node) (find nat_cmp q ms)
+          → find nat_cmp q (if a then (k, node) ∷ m ∷ ms else (if b then m ∷ put_node (k, node) ms else (k, node) ∷ ms)) ≡ cond (eq_by_cmp nat_cmp q k) (Some node) (find nat_cmp q (m ∷ ms))
+      decide true b e f rest = refl
+      decide false true e f rest =
+          ap (cond (eq_by_cmp nat_cmp q m.0) (Some m.1)) rest
+          ∙ swapped m (find nat_cmp q ms) (λ (same : m.0 ≡ k). let lt : nat_lt m.0 k ≡ true = f in grind (arith, nat_tests)) (eq_by_cmp nat_cmp q m.0) (eq_by_cmp nat_cmp q k) refl refl
+      decide false false e f rest =
+          let same : m.0 ≡ k = grind (arith, nat_tests) in
+          hidden m (find nat_cmp q ms) (eq_by_cmp nat_cmp q m.0) (eq_by_cmp nat_cmp q k) (ap (eq_by_cmp nat_cmp q) same)
+
+table_put : (k : ℕ) (node : Node) (ms : List (ℕ × Node)) → insert (from_entries {R = nat_cmp} ms) k node ≡ from_entries (put_node (k, node) ms)
+table_put k node ms = same_map nat_cmp_total nat_cmp-IsAntisymmetric (insert (from_entries ms) k node) (from_entries (put_node (k, node) ms)) (λ q.
+    get-insert nat_cmp_total (from_entries ms) k node q
+    ∙ ap (cond (eq_by_cmp nat_cmp q k) (Some node)) (get-from_entries nat_cmp_total ms q)
+    ∙ sym (get-from_entries nat_cmp_total (put_node (k, node) ms) q ∙ find_put k node q ms))
+
+module _ (u v : View) (P : ℕ → Type 0) (t : ℕ) (h : RenewsAllBut u v P t) (leaf : Ref) (g : GainsLeaf u v P t leaf) (Content : Ref → Places → Type 0) (blocks : (r : Ref) (x : Places) → Content r x → names_node r.kind ≡ false) where
+  still_beside : (key d : ℕ) → IsRootOf u.forest t key d → Beside u P t d
+  still_beside key d is =
+      let below : u.forest.belongs d t key ≡ true = (is.belongs t key).1 (inl (refl, refl)) in
+      ((g.named key d is).1, (λ same. is_other u.forest h.sound t key d is (sym same)), λ j up. (h.sound.owner t t key g.stands (h.sound.chain t d j t key g.stands up below)).other g.root)
+
+  inode_still : (r : Ref) (i : Inode) (b : Tree) → (r.key ≡ leaf.key → ⊥) → NamesInode u.forest u.holds u.tells (at_root t) r i b
+      → (j : Inode) × (d : Tree) × NamesInode v.forest v.holds v.tells (at_root t) r j d × SameInode i j × IsTreeOf (Beside u P t) b d
+  inode_still r i b ne (inl x) =
+      let d = x.0 in
+      let is = still_beside r.key d x.1 in
+      (with_set i (v.forest.set d), at_root d, inl (d, (g.named r.key d x.1).0, (h.trees d is.0 is.1).inode i x.2, refl), same_with i (v.forest.set d), subst (λ z. IsTreeOf (Beside u P t) z (at_root d)) (sym x.3) (refl, is))
+  inode_still r i b ne (inr x) =
+      let y = x.1 in
+      let told : IsTold v.tells r i b = (y.0, h.told r y.0 y.1, y.2, y.3) in
+      (i, b, inr (g.unloaded r.key ne x.0, told), same_inode i, subst (λ z. IsTreeOf (Beside u P t) z z) (sym y.3) refl)
+
+  module _ (S T : ℕ → ℕ → Type 0) (targets : (target number : ℕ) → S target number → T target number) where
+    member_still : (r : Ref) (m : ℕ × Node) → (r.key ≡ leaf.key → ⊥) → IsMember (reading u Content) S (at_root t) r m → IsMember (reading v Content) T (at_root t) r m
+    member_still r m ne was =
+        let x = inode_still r was.inode was.tree ne was.read in
+        let alike : SameInode was.inode x.0 = x.3 in
+        record {
+          kind_is = was.kind_is;
+          inode = x.0;
+          tree = x.1;
+          read = x.2;
+          number_is = was.number_is;
+          numbered = alike.number ∙ was.numbered;
+          node_is = node_carried (over_renewal u v (Beside u P t) Content) (renewed_follow u v (Beside u P t) (others_renewed u v P t h g.stands) Content blocks) S T targets was.tree x.1 was.inode x.0 m.1 x.4 alike was.node_is;
+        }
+
+    members_still : (rs : List Ref) (ms : List (ℕ × Node)) → find nat_cmp leaf.key ms ≡ None → OneByOne (IsMember (reading u Content) S (at_root t)) rs ms → OneByOne (IsMember (reading v Content) T (at_root t)) rs ms
+    members_still [] [] none p = tt
+    members_still [] (m ∷ ms) none p = absurd p
+    members_still (r ∷ rs) [] none p = absurd p
+    members_still (r ∷ rs) (m ∷ ms) none p = by (eq_by_cmp nat_cmp leaf.key m.0) refl (λ free. members_still rs ms free p.1)
+      where
+        by : (b : Bool) → eq_by_cmp nat_cmp leaf.key m.0 ≡ b → (find nat_cmp leaf.key ms ≡ None → OneByOne (IsMember (reading v Content) T (at_root t)) rs ms) → OneByOne (IsMember (reading v Content) T (at_root t)) (r ∷ rs) (m ∷ ms)
+        by true e rest = absurd (none-some m.1 (sym none ∙ ap (λ z. cond z (Some m.1) (find nat_cmp leaf.key ms)) e))
+        by false e rest = (member_still r m (λ same. untied leaf.key m.0 e (sym same ∙ sym p.0.number_is)) p.0, rest (sym (ap (λ z. cond z (Some m.1) (find nat_cmp leaf.key ms)) e) ∙ none))
+
+    pub nodes_added : (d : ℕ) (table : Table) (node : Node) → get table leaf.key ≡ None → leaf.kind ≡ Inode_kind → IsRootOf v.forest t leaf.key d → HoldsNode v Content T d leaf.key node
+        → HoldsNodes (reading u Content) S (at_root t) table → HoldsNodes (reading v Content) T (at_root t) (insert table leaf.key node)
+    nodes_added d table node none kind named now was =
+        let has = was.has in
+        let leaves = g.leaves has.leaves has.has.read in
+        let free : find nat_cmp leaf.key was.members ≡ None = sym (get-from_entries nat_cmp_total was.members leaf.key) ∙ sym (ap (λ x. get x leaf.key) was.table_is) ∙ none in
+        record {
+          members = put_node (leaf.key, node) was.members;
+          has = record {
+            leaves = put leaf has.leaves;
+            has = record { read = leaves; ordered = g.ordered (put leaf has.leaves) leaves };
+            each = each_put (IsMember (reading v Content) T (at_root t)) leaf (leaf.key, node) has.leaves was.members refl
+                (record { kind_is = kind; inode = now.inode; tree = at_root d; read = inl (d, named, now.held, refl); number_is = refl; numbered = now.numbered; node_is = now.node_is })
+                (λ r m is. is.number_is) (members_still has.leaves was.members free has.each);
+          };
+          table_is = ap (λ x. insert x leaf.key node) was.table_is ∙ table_put leaf.key node was.members;
+        }
