@@ -1,8 +1,8 @@
-use Rattle.std.specs.Prelude.{◌≡◌, true, Some}
+use Rattle.std.specs.Prelude.{◌≡◌, true, Some, refl}
 use Rattle.h2_inode.specs.Loaded.{at_root, reading}
 use Rattle.h2_meaning.specs.Forest.{InTable}
 use Rattle.h2_meaning.specs.ReplacedLaws.{nodes_replaced, table_kept, all_others, whole_table, nodes_of}
-use Rattle.h2_meaning.specs.AddedLaws.{nodes_added}
+use Rattle.h2_meaning.specs.AddedLaws.{nodes_added, nodes_removed}
 use Rattle.h2_meaning.specs.ReplacedForestLaws.{forest_kept, inode_kept}
 use Rattle.h2_meaning.proofs.replaced.replaced_law.Goals as goal
 
@@ -33,4 +33,8 @@ returns-clause-inodes c = λ u v stay block top t k root next forest p old node 
 
 pub returns-clause-added : goal.returns-clause-added
 returns-clause-added c = λ u v stay block t d leaf before after table node renews plain gains targets.
-    nodes_added u v (λ m. stay m ≡ true) t renews leaf gains (λ r b. block r ≡ Some b) plain (InTable before) (InTable after) targets d table node
+    nodes_added u v (λ m. stay m ≡ true) t renews leaf.key gains.others (λ r b. block r ≡ Some b) plain (InTable before) (InTable after) targets leaf refl gains.leaves d table node
+
+pub returns-clause-removed : goal.returns-clause-removed
+returns-clause-removed c = λ u v stay block t key before after table renews plain loses targets.
+    nodes_removed u v (λ m. stay m ≡ true) t renews key loses.others (λ r b. block r ≡ Some b) plain (InTable before) (InTable after) targets loses.leaves table
