@@ -1,4 +1,4 @@
-ghost use Rattle.std.specs.Prelude.{◌≡◌, ◌↔◌, ℕ, Bool, true, false, List, Contains, Option, Some, None};
+ghost use Rattle.std.specs.Prelude.{◌≡◌, ◌↔◌, ℕ, Bool, true, false, List, Contains, Option, Some, None, IsSome};
 ghost use Rattle.std.specs.FinMap.{get, insert, remove};
 ghost use Rattle.h2_num.specs.Places.{Places};
 ghost use Rattle.h2_ref.specs.declared.reference.Kind.TheVariants.{Inode as Inode_kind};
@@ -22,7 +22,7 @@ ghost use Rattle.h2_meaning.specs.Replaced.{RenewsAllBut, HoldsNodes, HoldsNode,
 /// The same of a forest, in which a PFS changed, or an inode below it: it is the one before with this PFS replaced, and
 /// where an inode of a PFS's table changed, the PFS is the one before with this inode replaced in its table.
 /// A tree to which an inode is added has those of the table before, and this one; one from which one is taken out, the
-/// others.
+/// others; the entries of a file tree name its inodes alone.
 /// A change that renews all other roots is such a one.
 pub fn replaced_law()
     ensures nodes { (u v : View) (stay : ℕ → Bool) (block : Ref → Option Places) (t k c : ℕ) (before after table : Table) (old node : Node)
@@ -64,6 +64,10 @@ pub fn replaced_law()
         → HoldsNodes (reading v (λ r b. block r ≡ Some b)) (InTable table) (at_root t) table }
     ensures whole { (v : View) (block : Ref → Option Places) (t next : ℕ) (table : Table) → HoldsNodes (reading v (λ r b. block r ≡ Some b)) (InTable table) (at_root t) table
         → IsFileTree next table → IsTable (reading v (λ r b. block r ≡ Some b)) (at_root t) next table }
+    ensures narrowed { (v : View) (block : Ref → Option Places) (t next : ℕ) (before after table : Table) → IsFileTree next table
+        → ((target number : ℕ) → InTable before target number → IsSome (get table number) → InTable after target number)
+        → HoldsNodes (reading v (λ r b. block r ≡ Some b)) (InTable before) (at_root t) table
+        → HoldsNodes (reading v (λ r b. block r ≡ Some b)) (InTable after) (at_root t) table }
     ensures others { (u v : View) (stay : ℕ → Bool) (c : ℕ) → IsSound u.forest → ((m : ℕ) → (stay m ≡ true) ↔ ((u.forest.stands m ≡ true) × (u.forest.root m ≡ m)))
         → RenewsOthers u v c → ((d key : ℕ) → u.forest.stands d ≡ true → u.forest.root d ≡ d → IsUnloaded u.forest d key → IsBare u.forest d key)
         → TellsOn u v → ((r : Ref) (name : List ℕ) → u.forest.name r ≡ Some name → v.forest.name r ≡ Some name)
