@@ -12,7 +12,7 @@ use Rattle.h2_meaning.specs.Node.{IsMember, HasMembers}
 use Rattle.h2_meaning.specs.Forest.{InTable, IsTable}
 use Rattle.h2_meaning.specs.OrderLaws.{numbers_ascend}
 
-numbers_differ : (a : Access) (T : ℕ → ℕ → Type 0) (t : a.Tree) (members : List (ℕ × Node)) → HasMembers a T t members → AllPairs (λ (x y : ℕ × Node). x.0 ≢ y.0) members
+pub numbers_differ : (a : Access) (T : ℕ → ℕ → Type 0) (t : a.Tree) (members : List (ℕ × Node)) → HasMembers a T t members → AllPairs (λ (x y : ℕ × Node). x.0 ≢ y.0) members
 numbers_differ a T t members h = λ i j d lt len e. let less : (slice_index_or members i d).0 < (slice_index_or members j d).0 = numbers_ascend a T t members h i j d lt len in absurd (omega (arith, less, e))
 
 pub node_of_leaf : (a : Access) (t : a.Tree) (next : ℕ) (table : Table) (h : IsTable a t next table) (r : Ref) → Contains h.has.leaves r

@@ -6,6 +6,8 @@ pub mod LoadedLaws
 pub mod Replaced
 pub mod ReplacedLaws
 pub mod ReplacedForestLaws
+pub mod AddedLaws
+pub mod NarrowLaws
 pub mod OrderLaws
 pub mod FoundLaws
 pub mod Targets

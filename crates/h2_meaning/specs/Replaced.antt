@@ -1,14 +1,15 @@
 -- A change of one inode of a table or a forest: all other trees stay or are renewed, and the inode is replaced.
-use Rattle.std.specs.Prelude.{◌≡◌, ◌⊎◌, ℕ, List, map, cond, false, nat_eq, Some, ⊤}
+use Rattle.std.specs.Prelude.{◌≡◌, ◌⊎◌, ◌^◌, ℕ, List, map, cond, true, false, nat_eq, Some, ⊤}
 use Rattle.std.specs.FinMap.{from_entries}
 use Rattle.h2_num.specs.Places.{Places}
 use Rattle.h2_ref.specs.declared.reference.Ref.{Ref}
-use Rattle.h2_set.specs.Forest.{Forest, IsSound, IsRootOf}
+use Rattle.h2_set.specs.Forest.{Forest, IsSound, IsRootOf, LeavesOf}
+use Rattle.h2_set.specs.Ranges.{put, without, Rising}
 use Rattle.h2_set.specs.Calls.{names_node}
 use Rattle.h2_inode.specs.declared.kind.InodeKind.TheVariants.{Pfs as Pfs_kind}
 use Rattle.h2_inode.specs.declared.inode.Inode.{Inode}
 use Rattle.h2_inode.specs.Access.{Access}
-use Rattle.h2_inode.specs.Nodes.{HasInode}
+use Rattle.h2_inode.specs.Nodes.{HasInode, IsUnloaded}
 use Rattle.h2_inode.specs.Loaded.{at_root, View, reading, TellsOn}
 use Rattle.h2_inode.specs.Others.{RenewsTree}
 use Rattle.h2_forest.specs.declared.table.Node.{Node}
@@ -70,3 +71,22 @@ in_place_of p old = cond (nat_eq old.id p.id) p old
 -- the forest with the PFS in the place of the one with its id
 abbrev pub with_pfs : PlainForest → Pfs → PlainForest
 with_pfs f p = record f { pfss = map (in_place_of p) f.pfss }
+
+-- The leaves of root t but that with the key name what they named, roots of which P holds, and where nothing was loaded,
+-- nothing is. The leaves stand in order.
+pub record KeepsNamedBut (u v : View) (P : ℕ → Type 0) (t but : ℕ) : Type 0 where
+  pub stands : u.forest.stands t ≡ true
+  pub root : u.forest.root t ≡ t
+  pub ordered : (l : List Ref) → LeavesOf v.forest t l → Rising 0 (2 ^ 64) l
+  pub named : (key d : ℕ) → (key ≡ but → ⊥) → IsRootOf u.forest t key d → IsRootOf v.forest t key d × P d
+  pub unloaded : (key : ℕ) → (key ≡ but → ⊥) → IsUnloaded u.forest t key → IsUnloaded v.forest t key
+
+-- root t has one leaf more, and its other leaves name what they named
+pub record GainsLeaf (u v : View) (P : ℕ → Type 0) (t : ℕ) (leaf : Ref) : Type 0 where
+  pub leaves : (l : List Ref) → LeavesOf u.forest t l → LeavesOf v.forest t (put leaf l)
+  pub others : KeepsNamedBut u v P t leaf.key
+
+-- root t has one leaf less, that with the key, and its other leaves name what they named
+pub record LosesLeaf (u v : View) (P : ℕ → Type 0) (t key : ℕ) : Type 0 where
+  pub leaves : (l : List Ref) → LeavesOf u.forest t l → LeavesOf v.forest t (without key l)
+  pub others : KeepsNamedBut u v P t key

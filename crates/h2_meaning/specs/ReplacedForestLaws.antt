@@ -48,7 +48,7 @@ names_differ xs ys p differ = λ i j d lt len e.
     differ i j d lt second.0 (sym first.1.1 ∙ e ∙ second.1.1)
 
 -- Every leaf that stands beside a PFS names one of the list
-wholes : {X Y : Type 0} (A B : X → Y → Type 0) → (xs : List X) (ys : List Y) → ((x : X) (y : Y) → Contains ys y → A x y → B x y) → OneByOne A xs ys → OneByOne B xs ys
+pub wholes : {X Y : Type 0} (A B : X → Y → Type 0) → (xs : List X) (ys : List Y) → ((x : X) (y : Y) → Contains ys y → A x y → B x y) → OneByOne A xs ys → OneByOne B xs ys
 wholes A B [] [] f p = tt
 wholes A B [] (y ∷ ys) f p = absurd p
 wholes A B (x ∷ xs) [] f p = absurd p

@@ -38,11 +38,11 @@ same_body : (b : Body) (s : RefSet) → SameBody b (body_with b s)
 same_body (Refs r) s = tt
 same_body (Bytes bytes) s = refl
 
-same_with : (i : Inode) (s : RefSet) → SameInode i (with_set i s)
+pub same_with : (i : Inode) (s : RefSet) → SameInode i (with_set i s)
 same_with i s = record { kind = refl; number = refl; size = refl; links = refl; next = refl; name = refl; body = same_body i.body s }
 
 -- numbers that tie are the same
-tied : (n k : ℕ) → eq_by_cmp nat_cmp n k ≡ true → n ≡ k
+pub tied : (n k : ℕ) → eq_by_cmp nat_cmp n k ≡ true → n ≡ k
 tied n k e = nat_cmp-IsAntisymmetric n k ((Equal-is (nat_cmp n k)).0 e)
 
 -- an answer isn't both
@@ -50,7 +50,7 @@ pub true_false : true ≡ false → ⊥
 true_false e = cc
 
 -- numbers that don't tie differ
-untied : (n k : ℕ) → eq_by_cmp nat_cmp n k ≡ false → n ≡ k → ⊥
+pub untied : (n k : ℕ) → eq_by_cmp nat_cmp n k ≡ false → n ≡ k → ⊥
 untied n k e same = true_false (sym (subst (λ m. eq_by_cmp nat_cmp n m ≡ true) same ((eq_by_cmp_equiv nat_cmp_total).refl n)) ∙ e)
 
 -- A table with one inode replaced
