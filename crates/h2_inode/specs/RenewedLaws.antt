@@ -46,7 +46,7 @@ same_body (Refs r) s = tt
 same_body (Bytes bytes) s = refl
 
 -- an inode is the same with another set
-same_with : (i : Inode) (s : RefSet) → SameInode i (with_set i s)
+pub same_with : (i : Inode) (s : RefSet) → SameInode i (with_set i s)
 same_with i s = record { kind = refl; number = refl; size = refl; links = refl; next = refl; name = refl; body = same_body i.body s }
 
 -- Renewed trees stand for what they stood for

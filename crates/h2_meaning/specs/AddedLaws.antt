@@ -18,14 +18,14 @@ use Rattle.h2_inode.specs.Following.{SameInode}
 use Rattle.h2_inode.specs.FollowLaws.{same_inode}
 use Rattle.h2_inode.specs.Loaded.{Tree, at_root, IsTold, NamesInode, View, reading}
 use Rattle.h2_inode.specs.Others.{with_set, IsTreeOf, over_renewal}
-use Rattle.h2_inode.specs.RenewedLaws.{renewed_follow}
+use Rattle.h2_inode.specs.RenewedLaws.{renewed_follow, same_with}
 use Rattle.h2_forest.specs.declared.table.Node.{Node}
 use Rattle.h2_forest.specs.Table.{Table}
 use Rattle.h2_meaning.specs.Node.{IsMember}
 use Rattle.h2_meaning.specs.FoundLaws.{numbers_differ}
 use Rattle.h2_meaning.specs.CarryLaws.{node_carried}
 use Rattle.h2_meaning.specs.Replaced.{RenewsAllBut, HoldsNodes, HoldsNode, KeepsNamedBut}
-use Rattle.h2_meaning.specs.ReplacedLaws.{same_with, tied, untied, Beside, others_renewed, is_other}
+use Rattle.h2_meaning.specs.ReplacedLaws.{tied, untied, Beside, others_renewed, is_other}
 
 -- the list with one member more, at the place of its number
 abbrev put_node : ℕ × Node → List (ℕ × Node) → List (ℕ × Node)

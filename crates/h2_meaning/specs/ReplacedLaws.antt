@@ -8,21 +8,18 @@ use Rattle.std.specs.FinMap.{nat_cmp-IsAntisymmetric, find, get, insert, from_en
 use Rattle.h2_num.specs.Places.{Places}
 use Rattle.h2_ref.specs.declared.reference.Kind.TheVariants.{Inode as Inode_kind}
 use Rattle.h2_ref.specs.declared.reference.Ref.{Ref}
-use Rattle.h2_set.specs.RefSet.{RefSet}
 use Rattle.h2_set.specs.Forest.{Forest, IsSound, IsRootOf, HasOwner}
 use Rattle.h2_set.specs.Calls.{names_node}
-use Rattle.h2_inode.specs.declared.inode.Body.{Body}
-use Rattle.h2_inode.specs.declared.inode.Body.TheVariants.{Refs, Bytes}
 use Rattle.h2_inode.specs.declared.inode.Inode.{Inode}
 use Rattle.h2_inode.specs.Nodes.{IsUnloaded}
 use Rattle.h2_inode.specs.Access.{OneByOne, Access}
-use Rattle.h2_inode.specs.Following.{SameBody, SameInode}
+use Rattle.h2_inode.specs.Following.{SameInode}
 use Rattle.h2_inode.specs.FollowLaws.{same_inode}
 use Rattle.h2_inode.specs.ListLaws.{rising_carried}
 use Rattle.h2_inode.specs.BareLaws.{leaf_like, unloaded_bare}
 use Rattle.h2_inode.specs.Loaded.{Tree, at_root, IsTold, NamesInode, View, reading, TellsOn}
-use Rattle.h2_inode.specs.Others.{body_with, with_set, LeafRenewed, RenewsTrees, IsTreeOf, over_renewal, RenewsOthers}
-use Rattle.h2_inode.specs.RenewedLaws.{renewed_follow}
+use Rattle.h2_inode.specs.Others.{with_set, LeafRenewed, RenewsTrees, IsTreeOf, over_renewal, RenewsOthers}
+use Rattle.h2_inode.specs.RenewedLaws.{renewed_follow, same_with}
 use Rattle.h2_forest.specs.declared.table.Node.{Node}
 use Rattle.h2_forest.specs.declared.table.Node.TheVariants.{File, Directory}
 use Rattle.h2_forest.specs.Table.{Table}
@@ -32,14 +29,6 @@ use Rattle.h2_meaning.specs.Node.{IsMember, HasMembers}
 use Rattle.h2_meaning.specs.Forest.{IsTarget, InTable, IsTable, IsWhole}
 use Rattle.h2_meaning.specs.CarryLaws.{node_carried, table_carried}
 use Rattle.h2_meaning.specs.Replaced.{RenewsAllBut, HoldsNodes, HoldsNode, SameKind}
-
--- an inode is the same with another set
-same_body : (b : Body) (s : RefSet) → SameBody b (body_with b s)
-same_body (Refs r) s = tt
-same_body (Bytes bytes) s = refl
-
-pub same_with : (i : Inode) (s : RefSet) → SameInode i (with_set i s)
-same_with i s = record { kind = refl; number = refl; size = refl; links = refl; next = refl; name = refl; body = same_body i.body s }
 
 -- numbers that tie are the same
 pub tied : (n k : ℕ) → eq_by_cmp nat_cmp n k ≡ true → n ≡ k
