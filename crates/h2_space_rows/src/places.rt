@@ -14,7 +14,8 @@ pub fn worked_places_law()
     ensures leaf { map_place (map_block 0 2 3) ≡ 67223552 }
     ensures node { map_place (map_block 1 8 1) ≡ 268518400 }
     ensures top { map_place (map_block 2 64 2) ≡ 2147584000 }
-    ensures last_block { IsMapBlock (map_block 2 511 3) }
+    ensures last_leaf { IsMapBlock (map_block 0 511 3) }
+    ensures last_node { IsMapBlock (map_block 2 448 3) }
     ensures not_level { IsMapBlock (map_block 3 0 0) → ⊥ }
     ensures not_zone { IsMapBlock (map_block 0 512 0) → ⊥ }
     ensures not_copy { IsMapBlock (map_block 0 0 4) → ⊥ }

@@ -20,7 +20,8 @@ returns c = record {
   leaf = refl;
   node = refl;
   top = refl;
-  last_block = record { in_levels = omega arith; in_zones = omega arith; in_copies = omega arith };
+  last_leaf = record { in_levels = omega arith; in_zones = omega arith; in_copies = omega arith };
+  last_node = record { in_levels = omega arith; in_zones = omega arith; in_copies = omega arith };
   not_level = λ is. absurd (let lt : 3 < 3 = is.in_levels in omega arith);
   not_zone = λ is. absurd (let lt : 512 < 512 = is.in_zones in omega arith);
   not_copy = λ is. absurd (let lt : 4 < 4 = is.in_copies in omega arith);
