@@ -1,6 +1,6 @@
-//! Worked examples of what a power cut may leave of a disk and of a volume on it, as laws; nothing else. They show that
-//! the definitions of `h2_disk` and `h2_checkpoint` say on small values what was worked out by hand, of images that may
-//! be left as of those that can't.
+//! Worked examples of what a power cut may leave of a disk and of a volume on it, of the queue of a flush, and of pages
+//! that a disk in memory keeps, as laws; nothing else. They show that the definitions of `h2_disk` and `h2_checkpoint`
+//! say on small values what was worked out by hand, of images that may be left as of those that can't.
 #![tactic(auto)]
 
 mod cuts;

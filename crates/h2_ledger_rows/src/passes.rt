@@ -12,7 +12,7 @@ ghost use Rattle.h2_ledger_rows.specs.Passes.{half_pass, pass_moves, given_up, t
 /// Laws: from an opened volume on, whose tree has a block in chunk 256, the moves of a pass lead to the ledger in which
 /// the used chunks 257 and 258 are staged, and those of a second one to the ledger in which they are free. One pass
 /// neither frees them nor leaves them used, and doesn't stage chunk 256. A pass can't scan before its header is out, nor
-/// apply a segment again or before its turn, nor end before the last segment.
+/// apply a segment again or before its turn, nor be given up once it has applied one.
 pub fn worked_pass_law()
     ensures opened { IsOpened IsIn opened }
     ensures half { Run IsIn (half_pass 2) opened (half_applied used_codes 2 old_tree) }

@@ -8,10 +8,11 @@ ghost use Rattle.h2_ledger.specs.Sound.{IsSound};
 ghost use Rattle.h2_ledger_rows.specs.Ledgers.{IsIn, block_of, chunk_block, old_tree, new_tree, used_codes, resting, opened};
 ghost use Rattle.h2_ledger_rows.specs.Takes.{after_first, after_next, reserving, after_whole, full, after_full};
 
-/// Laws: with chunks 256 to 258 used, a first small block is taken in chunk 259, the lowest that is free, and the next one
-/// behind it; a whole chunk is chunk 259 too, also as the last thing that is reserved. In a full volume a small block is
-/// taken at the cursor and none in a free chunk. Nothing is taken in a chunk behind the lowest, in a free one while the
-/// cursor has room, with a gap behind the cursor, or where all that is free is reserved for others.
+/// Laws: with chunks 256 to 258 used, a first small block is taken in chunk 259, the lowest that is free, and the next
+/// one behind it. A whole chunk is chunk 259 too, also where all that is free is reserved, of which it is one then. In a
+/// full volume a small block is taken at the cursor and none in a free chunk. Nothing is taken in a chunk behind the
+/// lowest, in a free one while the cursor has room, with a gap behind the cursor, or where all that is free is reserved
+/// for others.
 pub fn worked_take_law()
     ensures first { TakesFirst IsIn Small (block_of 259 0 10) opened after_first }
     ensures next { TakesNext IsIn Small (block_of 259 1024 10) after_first after_next }
