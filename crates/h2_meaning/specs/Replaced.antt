@@ -72,8 +72,8 @@ in_place_of p old = cond (nat_eq old.id p.id) p old
 abbrev pub with_pfs : PlainForest → Pfs → PlainForest
 with_pfs f p = record f { pfss = map (in_place_of p) f.pfss }
 
--- The leaves of root t but that with the key name what they named, roots of which P holds, and where nothing was loaded,
--- nothing is. The leaves stand in order.
+-- Node t is a root that stands. The leaves of its tree but that with the key name what they named, roots of which P
+-- holds, and where they named none that was loaded, they do so still. The leaves stand in order.
 pub record KeepsNamedBut (u v : View) (P : ℕ → Type 0) (t but : ℕ) : Type 0 where
   pub stands : u.forest.stands t ≡ true
   pub root : u.forest.root t ≡ t
