@@ -4,12 +4,14 @@
 #![tactic(auto)]
 
 mod codes;
+mod flags;
 mod headers;
 mod needs;
 mod passes;
 mod places;
 
 pub use codes::worked_codes_law;
+pub use flags::worked_bytes_law;
 pub use headers::worked_newest_law;
 pub use needs::{worked_map_counts_law, worked_needs_law};
 pub use passes::worked_passes_law;

@@ -1,0 +1,9 @@
+-- References of blocks of a file.
+use Rattle.std.specs.Prelude.{ℕ, None}
+use Rattle.h2_ref.specs.declared.reference.Kind.TheVariants.{Content}
+use Rattle.h2_ref.specs.declared.reference.Check.TheVariants.{Nothing}
+use Rattle.h2_ref.specs.declared.reference.Ref.{Ref}
+
+-- the reference of a block that begins at a place of its file
+abbrev pub block_at : ℕ → Ref
+block_at key = record { kind = Content; key = key; keybits = 14; place = 4194304; radix = 14; id = 1; check = Nothing; dirent = None }
