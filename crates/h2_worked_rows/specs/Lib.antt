@@ -1,2 +1,3 @@
 pub mod Forests
 pub mod Refs
+pub mod Trees
