@@ -17,7 +17,7 @@ use Rattle.h2_inode.specs.Loaded.{at_root}
 use Rattle.h2_contents.specs.Bytes.{cut_to as bytes_to}
 use Rattle.h2_contents.specs.ByteLaws.{byte_cut, length-cut_to}
 use Rattle.h2_file.specs.Cutting.{cut_block, IsCutBlock, in_place, cut_to, CutsFile}
-use Rattle.h2_file.specs.FileContents.{file_reading, FileHas, HasBytesOf, IsBlockOf, EndsIn}
+use Rattle.h2_file.specs.FileContents.{file_reading, FileHas, blocks_alone, IsBlockOf, EndsIn}
 use Rattle.h2_file.proofs.Parts.{cut_key, cut_one, cut_gone}
 
 pub all_head : {X : Type 0} (P : X → Type 0) (x : X) (xs : List X) → All P (x ∷ xs) → P x
@@ -61,8 +61,8 @@ no_part a t size bytes start k (x ∷ l) all same none = by (holds start x) refl
     by false out e true in_k more = absurd (let clash : true ≡ false = sym (part_has a t size bytes x start k (all_head (IsPart a t size bytes) x l all) same in_k) ∙ out in cc)
     by false out e false in_k more = more e
 
--- a part of a file, told by its block's bytes alone
-part_bytes : (a : Access) (t : a.Tree) (blocks : Ref → Option Places) (size : ℕ) (bytes : List ℕ) (r : Ref) → ((block : Places) → a.ContentOf t r block → blocks r ≡ Some block) → IsPart a t size bytes r → HasBytesOf blocks size bytes r
+-- a part of a file, by its block's bytes alone
+part_bytes : (a : Access) (t : a.Tree) (blocks : Ref → Option Places) (size : ℕ) (bytes : List ℕ) (r : Ref) → ((block : Places) → a.ContentOf t r block → blocks r ≡ Some block) → IsPart a t size bytes r → IsPart (blocks_alone blocks) tt size bytes r
 part_bytes a t blocks size bytes r known h = record {
   kind_is = h.kind_is;
   keybits_are = h.keybits_are;

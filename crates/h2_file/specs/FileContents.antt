@@ -1,13 +1,12 @@
 -- The bytes that a file's tree stands for, as its loaded nodes and what is told of others say.
-use Rattle.std.specs.Prelude.{◌≡◌, ◌<◌, ◌≤◌, ◌+◌, ◌/◌, ◌%◌, ℕ, true, List, Option, Some, None, length, slice_get, slice_index}
+use Rattle.std.specs.Prelude.{◌≡◌, ◌<◌, ◌≤◌, ◌+◌, ◌/◌, ℕ, true, List, Option, Some, None, length, slice_get, slice_index}
 use Rattle.h2_num.specs.Places.{Places}
-use Rattle.h2_ref.specs.declared.reference.Kind.TheVariants.{Content}
 use Rattle.h2_ref.specs.declared.reference.Ref.{Ref}
 use Rattle.h2_set.specs.Ranges.{holds, NoneHolds}
 use Rattle.h2_set.specs.Forest.{Forest}
 use Rattle.h2_inode.specs.Nodes.{Fields, Told}
 use Rattle.h2_inode.specs.Access.{Access}
-use Rattle.h2_inode.specs.Contents.{IsContents}
+use Rattle.h2_inode.specs.Contents.{IsPart, IsContents}
 use Rattle.h2_inode.specs.Loaded.{loaded_nodes, at_root}
 use Rattle.h2_contents.specs.Bytes.{cut_to as bytes_to}
 use Rattle.h2_file.specs.Cutting.{cut_block}
@@ -20,21 +19,21 @@ file_reading f inodes tells blocks = loaded_nodes f inodes tells (λ r block. bl
 abbrev pub FileHas : Forest → (ℕ → Option Fields) → (Ref → Option Told) → (Ref → Option Places) → ℕ → ℕ → List ℕ → Type 0
 FileHas f inodes tells blocks at size bytes = IsContents (file_reading f inodes tells blocks) (at_root at) size bytes
 
--- the reference's block has the 16384 bytes of a file of this size from its key on; past the file's end these are zeros
-pub record HasBytesOf (blocks : Ref → Option Places) (size : ℕ) (bytes : List ℕ) (r : Ref) : Type 0 where
-  pub kind_is : r.kind ≡ Content
-  pub keybits_are : r.keybits ≡ 14
-  pub aligned : r.key % 16384 ≡ 0
-  pub below_size : r.key < size
-  pub block : Places
-  pub read : blocks r ≡ Some block
-  pub bytes_are : (k : ℕ) → k < 16384 → block k ≡ slice_index bytes (r.key + k)
+-- the reading of blocks alone, which have these bytes where they are known; no tree is read
+abbrev pub blocks_alone : (Ref → Option Places) → Access
+blocks_alone blocks = record {
+  Tree = Unit {0};
+  LeavesOf = λ t leaves. ⊥;
+  InodeOf = λ t r i below. ⊥;
+  NameOf = λ t r name. ⊥;
+  ContentOf = λ t r block. blocks r ≡ Some block;
+}
 
 -- What was found for a place of a file with these bytes: the block that has its byte, or a hole. There all 16384 bytes
 -- are zeros that the block with the place would have.
 abbrev pub IsBlockOf : (Ref → Option Places) → ℕ → List ℕ → ℕ → Option Ref → Type 0
 IsBlockOf blocks size bytes start None = (k : ℕ) → k / 16384 ≡ start / 16384 → slice_index bytes k ≡ 0
-IsBlockOf blocks size bytes start (Some r) = HasBytesOf blocks size bytes r × (holds start r ≡ true)
+IsBlockOf blocks size bytes start (Some r) = IsPart (blocks_alone blocks) tt size bytes r × (holds start r ≡ true)
 
 -- The block in which a cut to the size ends: a last one has the bytes up to the size, and zeros behind them. Where none
 -- is given, nothing but zeros lies from the size on in that block.

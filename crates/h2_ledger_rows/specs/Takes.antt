@@ -50,6 +50,10 @@ reserving reserved = taking used_codes None reserved old_tree []
 abbrev pub after_whole : ℕ → Ledger (List Block)
 after_whole reserved = taking codes_after None reserved (chunk_block 259 ∷ old_tree) (chunk_block 259 ∷ [])
 
+-- a full volume without cursors
+abbrev pub full_without_cursor : Ledger (List Block)
+full_without_cursor = taking full_codes None 0 old_tree []
+
 -- a full volume whose small blocks have a cursor, and after a block was taken there
 abbrev pub full : Ledger (List Block)
 full = taking full_codes (cursor_at 258 1024) 0 old_tree []

@@ -6,13 +6,13 @@ ghost use Rattle.h2_ledger.specs.Ledger.{Ledger};
 ghost use Rattle.h2_ledger.specs.Moves.{TakesFirst, TakesNext, TakesWhole, Adopts, Reserves};
 ghost use Rattle.h2_ledger.specs.Sound.{IsSound};
 ghost use Rattle.h2_ledger_rows.specs.Ledgers.{IsIn, block_of, chunk_block, old_tree, new_tree, used_codes, resting, opened};
-ghost use Rattle.h2_ledger_rows.specs.Takes.{after_first, after_next, reserving, after_whole, full, after_full};
+ghost use Rattle.h2_ledger_rows.specs.Takes.{after_first, after_next, reserving, after_whole, full, full_without_cursor, after_full};
 
-/// Laws: with chunks 256 to 258 used, a first small block is taken in chunk 259, the lowest that is free, and the next
-/// one behind it. A whole chunk is chunk 259 too, also where all that is free is reserved, of which it is one then. In a
-/// full volume a small block is taken at the cursor and none in a free chunk. Nothing is taken in a chunk behind the
-/// lowest, in a free one while the cursor has room, with a gap behind the cursor, or where all that is free is reserved
-/// for others.
+/// Laws: with chunks 256 to 258 used, a first small block is taken in chunk 259, the lowest that is free, and the
+/// next one behind it. A whole chunk is chunk 259 too, also where all that is free is reserved, of which it is one
+/// then. In a full volume a small block is taken at the cursor, and none without one. Nothing is taken in a chunk
+/// behind the lowest, in a free one while the cursor has room, with a gap behind the cursor, or where all that is
+/// free is reserved for others.
 pub fn worked_take_law()
     ensures first { TakesFirst IsIn Small (block_of 259 0 10) opened after_first }
     ensures next { TakesNext IsIn Small (block_of 259 1024 10) after_first after_next }
@@ -20,7 +20,7 @@ pub fn worked_take_law()
     ensures whole { TakesWhole IsIn (chunk_block 259) opened (after_whole 0) }
     ensures reserved { TakesWhole IsIn (chunk_block 259) (reserving 253) (after_whole 252) }
     ensures in_full { TakesNext IsIn Small (block_of 258 1024 10) full after_full }
-    ensures not_in_full { (b : Block) (y : Ledger (List Block)) → TakesFirst IsIn Small b full y → ⊥ }
+    ensures not_in_full { (b : Block) (y : Ledger (List Block)) → TakesFirst IsIn Small b full_without_cursor y → ⊥ }
     ensures not_behind_lowest { (y : Ledger (List Block)) → TakesFirst IsIn Small (block_of 260 0 10) opened y → ⊥ }
     ensures not_whole_behind { (y : Ledger (List Block)) → TakesWhole IsIn (chunk_block 260) opened y → ⊥ }
     ensures not_beside_cursor { (y : Ledger (List Block)) → TakesFirst IsIn Small (block_of 260 0 10) after_first y → ⊥ }
