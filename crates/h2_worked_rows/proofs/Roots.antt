@@ -1,7 +1,8 @@
 -- What belongs to what in the forest of two trees.
-use Rattle.std.proofs.Common.{◌≡◌, ℕ, Bool, true, false, ◌&&◌, nat_eq, refl, true≢false, sym, ◌∙◌}
+use Rattle.std.proofs.Common.{◌≡◌, ◌⊎◌, ℕ, Bool, true, false, ◌&&◌, nat_eq, refl, true≢false, sym, subst, inl, inr}
 use Rattle.std.proofs.lemmas.Bool.{eqb-true}
-use Rattle.h2_worked_rows.specs.Trees.{is_fifth}
+use Rattle.h2_set.specs.Forest.{IsRootOf}
+use Rattle.h2_worked_rows.specs.Trees.{is_fifth, two_roots}
 
 never : (b : Bool) → (b && false) ≡ true → ⊥
 never true e = true≢false (sym e)
@@ -22,3 +23,17 @@ pub fifth_is : (m top key : ℕ) → is_fifth m top key ≡ true → (m ≡ 1) �
 fifth_is m top key e =
     let h = both (nat_eq m 1) (nat_eq top 0) (nat_eq key 5) e in
     (eqb-true m 1 h.0, eqb-true top 0 h.1, eqb-true key 5 h.2)
+
+belongs_there : (t k : ℕ) → (t ≡ 0) × (k ≡ 5) → is_fifth 1 t k ≡ true
+belongs_there t k e = subst (λ x. is_fifth 1 x k ≡ true) (sym e.0) (subst (λ y. is_fifth 1 0 y ≡ true) (sym e.1) refl)
+
+forth : (t k : ℕ) → is_fifth 1 t k ≡ true → ((t ≡ 0) × (k ≡ 5)) ⊎ (is_fifth 0 t k ≡ true)
+forth t k e = let is = fifth_is 1 t k e in inl (is.1, is.2)
+
+back : (t k : ℕ) → ((t ≡ 0) × (k ≡ 5)) ⊎ (is_fifth 0 t k ≡ true) → is_fifth 1 t k ≡ true
+back t k (inl e) = belongs_there t k e
+back t k (inr e) = absurd (true≢false (sym e))
+
+-- root 1 is that of inode 5
+pub fifth_root : IsRootOf two_roots 0 5 1
+fifth_root = record { stands = refl; root = refl; belongs = λ t k. (forth t k, back t k) }
