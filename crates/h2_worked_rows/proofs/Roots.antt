@@ -1,6 +1,7 @@
 -- What belongs to what in the forest of two trees.
-use Rattle.std.proofs.Common.{◌≡◌, ◌⊎◌, ℕ, Bool, true, false, ◌&&◌, nat_eq, refl, true≢false, sym, subst, inl, inr}
+use Rattle.std.proofs.Common.{◌≡◌, ◌⊎◌, ℕ, suc, Bool, true, false, ◌&&◌, nat_eq, nat_lt, arith, refl, true≢false, sym, ◌∙◌, subst, inl, inr}
 use Rattle.std.proofs.lemmas.Bool.{eqb-true}
+use Rattle.std.proofs.lemmas.Bool.Decides.{nat_tests}
 use Rattle.h2_set.specs.Forest.{IsRootOf}
 use Rattle.h2_worked_rows.specs.Trees.{is_fifth, two_roots}
 
@@ -37,3 +38,9 @@ back t k (inr e) = absurd (true≢false (sym e))
 -- root 1 is that of inode 5
 pub fifth_root : IsRootOf two_roots 0 5 1
 fifth_root = record { stands = refl; root = refl; belongs = λ t k. (forth t k, back t k) }
+
+-- no third root stands
+pub no_third : (m : ℕ) → nat_lt (suc (suc m)) 2 ≡ true → ⊥
+no_third m stands =
+    let away : nat_lt (suc (suc m)) 2 ≡ false = grind (arith, nat_tests) in
+    true≢false (sym stands ∙ away)

@@ -1,3 +1,4 @@
 pub mod Forests
 pub mod Refs
 pub mod Trees
+pub mod Views

@@ -9,6 +9,7 @@ mod meanings;
 mod ranges;
 mod sound;
 mod trees;
+mod views;
 
 pub use forests::{worked_forests_law, worked_names_law};
 pub use handles::{worked_handles_law, worked_orphans_law};
@@ -16,3 +17,4 @@ pub use meanings::{worked_embedded_law, worked_replaced_law};
 pub use ranges::worked_ranges_law;
 pub use sound::worked_sound_forest_law;
 pub use trees::{worked_file_law, worked_other_law, worked_roots_law};
+pub use views::{worked_bodies_law, worked_leaves_law, worked_views_law};

@@ -1,14 +1,13 @@
 use Rattle.std.proofs.Common.{◌≡◌, ◌≤◌, ◌<◌, ◌+◌, ◌*◌, ◌^◌, ◌%◌, ◌⊎◌, ◌&&◌, ◌||◌, ℕ, Bool, true, false, nat_eq, nat_lt, [], ◌∷◌, List, Option, Some, None, refl, sym, ◌∙◌, inl, inr, zero, suc, slice_get, subst, true≢false, arith, length}
 use Rattle.std.proofs.lemmas.Option.{none-some, same_Some}
 use Rattle.std.proofs.lemmas.Bool.{eqb-true}
-use Rattle.std.proofs.lemmas.Bool.Decides.{nat_tests}
 use Rattle.h2_ref.specs.declared.reference.Ref.{Ref}
 use Rattle.h2_set.specs.Ranges.{Rising}
 use Rattle.h2_set.specs.RefSet.{RefSet, IsRefSet}
 use Rattle.h2_set.specs.Forest.{Link, loaded, untold, refs, Fits, IsSoundNode, IsSound, HasParent, HasOwner, IsOfInode, IsRootOf, here}
 use Rattle.h2_worked_rows.specs.Refs.{block_at, fifth_leaf}
 use Rattle.h2_worked_rows.specs.Trees.{is_fifth, is_seventh, refs_of_root, two_roots, without_fifth, with_leaf_twice, with_third_held}
-use Rattle.h2_worked_rows.proofs.Roots.{fifth_is, fifth_root}
+use Rattle.h2_worked_rows.proofs.Roots.{fifth_is, fifth_root, no_third}
 use Rattle.h2_worked_rows.proofs.sound.worked_sound_forest_law.Goals as goal
 
 no_link : (c : ℕ) → untold ≡ loaded c → ⊥
@@ -80,13 +79,10 @@ second_node = record {
   slope = omega arith;
 }
 
-from : (j n : ℕ) → n ≤ j → nat_lt j n ≡ false
-from j n le = grind (arith, nat_tests)
-
 node_is : (m : ℕ) → nat_lt m 2 ≡ true → IsSoundNode two_roots m
 node_is zero stands = first_node
 node_is (suc zero) stands = second_node
-node_is (suc (suc m)) stands = absurd (true≢false (sym stands ∙ from (suc (suc m)) 2 (omega arith)))
+node_is (suc (suc m)) stands = absurd (no_third m stands)
 
 owner_is : (m top key : ℕ) → is_fifth m top key ≡ true → HasOwner two_roots m top key
 owner_is m top key e =
