@@ -3,3 +3,4 @@ pub mod Needs
 pub mod Passes
 pub mod MapBlocks
 pub mod Headers
+pub mod Marred

@@ -4,6 +4,7 @@
 #![tactic(auto)]
 
 mod codes;
+mod faults;
 mod flags;
 mod headers;
 mod needs;
@@ -11,6 +12,7 @@ mod passes;
 mod places;
 
 pub use codes::worked_codes_law;
+pub use faults::worked_least_law;
 pub use flags::worked_bytes_law;
 pub use headers::worked_newest_law;
 pub use needs::{worked_map_counts_law, worked_needs_law};

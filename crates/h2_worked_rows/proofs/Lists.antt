@@ -1,5 +1,5 @@
 -- What holds of the elements of lists of none, one and two.
-use Rattle.std.proofs.Common.{◌≡◌, ◌<◌, ℕ, zero, suc, [], ◌∷◌, arith, refl}
+use Rattle.std.proofs.Common.{◌≡◌, ◌<◌, zero, suc, [], ◌∷◌, arith, refl}
 use Rattle.std.specs.List.{All, AllPairs, Contains}
 
 pub all_none : {X : Type 0} (P : X → Type 0) → All P []

@@ -1,5 +1,5 @@
 -- What is held of the roots of two trees, and changes of one leaf.
-use Rattle.std.specs.Prelude.{◌≡◌, ℕ, [], ◌∷◌, cond, nat_eq, Option, None, Some}
+use Rattle.std.specs.Prelude.{◌≡◌, [], ◌∷◌, cond, nat_eq, Option, None, Some}
 use Rattle.h2_num.specs.Places.{Places}
 use Rattle.h2_ref.specs.declared.reference.Kind.TheVariants.{Content, Inode as Inode_kind}
 use Rattle.h2_ref.specs.declared.reference.Check.TheVariants.{Nothing}

@@ -1,6 +1,6 @@
-use Rattle.std.proofs.Common.{◌≡◌, ◌≢◌, ◌≤◌, ◌<◌, ℕ, List, [], ◌∷◌, Bool, true, false, IsSome, arith, ap, sym, ◌∙◌, subst, inl, inr, refl, get_or}
+use Rattle.std.proofs.Common.{◌≡◌, ◌≢◌, ◌≤◌, ◌<◌, ℕ, List, [], ◌∷◌, Bool, true, false, IsSome, arith, ap, sym, subst, inl, inr, refl, get_or}
 use Rattle.std.specs.Ordering.{nat_cmp, eq_by_cmp}
-use Rattle.std.specs.FinMap.{empty, get, get-empty}
+use Rattle.std.specs.FinMap.{empty, get-empty}
 use Rattle.h2_dirkey.specs.PfsName.{IsPfsNameByte, IsPfsName}
 use Rattle.h2_command.specs.declared.command.Command.TheVariants.{PfsCreate}
 use Rattle.h2_command.specs.Lawful.{Lawful}

@@ -1,4 +1,4 @@
-use Rattle.std.proofs.Common.{◌≡◌, ◌∙◌, ℕ, [], ◌∷◌, Option, Some, None, IsSome, arith, ap, sym, subst, refl}
+use Rattle.std.proofs.Common.{◌≡◌, ◌∙◌, ℕ, [], ◌∷◌, Option, IsSome, arith, ap, sym, subst, refl}
 use Rattle.std.specs.Ordering.{nat_cmp, eq_by_cmp}
 use Rattle.std.specs.FinMap.{get, empty, get-empty}
 use Rattle.h2_command.specs.declared.command.Command.TheVariants.{ReadAt}
@@ -9,7 +9,7 @@ use Rattle.h2_forest.specs.Handles.{Handles, handle_cmp}
 use Rattle.h2_forest.specs.Steps.{given}
 use Rattle.h2_forest.specs.Table.{bytes_of}
 use Rattle.h2_forest.specs.Forest.{PlainForest, opened_in, read_reply, answer}
-use Rattle.h2_consistent.specs.Handles.{HasFile, HandlesStand, IsOpen, IsRead}
+use Rattle.h2_consistent.specs.Handles.{HasFile, HandlesStand, IsOpen}
 use Rattle.h2_worked_rows.specs.Forests.{pfs_of, one_file, file_forest, one_handle}
 use Rattle.h2_worked_rows.proofs.Lists.{only_one, the_one}
 use Rattle.h2_worked_rows.proofs.Maps.{file_if, file_at, handle_at, named_by, not_some, not_none}

@@ -3,9 +3,9 @@ use Rattle.std.specs.List.{Contains}
 use Rattle.std.specs.Ordering.{nat_cmp, eq_by_cmp}
 use Rattle.std.specs.FinMap.{get, empty, get-empty}
 use Rattle.h2_forest.specs.declared.pfs.Pfs.{Pfs}
-use Rattle.h2_forest.specs.Handles.{Handles, handle_cmp}
+use Rattle.h2_forest.specs.Handles.{handle_cmp}
 use Rattle.h2_forest.specs.Table.{is_orphan}
-use Rattle.h2_consistent.specs.Handles.{IsOpen, OrphansAreOpen, HasNoOrphans}
+use Rattle.h2_consistent.specs.Handles.{IsOpen, HasNoOrphans}
 use Rattle.h2_worked_rows.specs.Forests.{pfs_of, one_file, file_forest, one_handle}
 use Rattle.h2_worked_rows.proofs.Lists.{only_one, the_one}
 use Rattle.h2_worked_rows.proofs.Maps.{equal_number, file_if, file_at, handle_at, named_by, not_some, not_none}

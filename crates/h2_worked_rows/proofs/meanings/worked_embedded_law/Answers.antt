@@ -1,4 +1,4 @@
-use Rattle.std.proofs.Common.{◌≡◌, ℕ, List, [], ◌∷◌, get_or, arith, ap, refl}
+use Rattle.std.proofs.Common.{◌≡◌, ℕ, List, get_or, arith, ap, refl}
 use Rattle.h2_worked_rows.proofs.meanings.worked_embedded_law.Goals as goal
 
 pub returns : goal.returns

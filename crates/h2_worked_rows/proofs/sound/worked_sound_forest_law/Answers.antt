@@ -1,12 +1,10 @@
-use Rattle.std.proofs.Common.{◌≡◌, ◌≤◌, ◌<◌, ◌+◌, ◌*◌, ◌^◌, ◌%◌, ◌⊎◌, ◌&&◌, ◌||◌, ℕ, Bool, true, false, nat_eq, nat_lt, [], ◌∷◌, List, Option, Some, None, refl, sym, ◌∙◌, inl, inr, zero, suc, slice_get, subst, true≢false, arith, length}
+use Rattle.std.proofs.Common.{◌≡◌, ◌≤◌, ◌<◌, ◌^◌, ◌⊎◌, ◌||◌, ℕ, Bool, true, false, nat_eq, nat_lt, [], ◌∷◌, Some, refl, sym, inl, inr, zero, suc, slice_get, subst, true≢false, arith}
 use Rattle.std.proofs.lemmas.Option.{none-some, same_Some}
 use Rattle.std.proofs.lemmas.Bool.{eqb-true}
 use Rattle.h2_ref.specs.declared.reference.Ref.{Ref}
-use Rattle.h2_set.specs.Ranges.{Rising}
-use Rattle.h2_set.specs.RefSet.{RefSet, IsRefSet}
-use Rattle.h2_set.specs.Forest.{Link, loaded, untold, refs, Fits, IsSoundNode, IsSound, HasParent, HasOwner, IsOfInode, IsRootOf, here}
+use Rattle.h2_set.specs.Forest.{loaded, untold, Fits, IsSoundNode, IsSound, HasOwner, IsOfInode, IsRootOf, here}
 use Rattle.h2_worked_rows.specs.Refs.{block_at, fifth_leaf}
-use Rattle.h2_worked_rows.specs.Trees.{is_fifth, is_seventh, refs_of_root, two_roots, without_fifth, with_leaf_twice, with_third_held}
+use Rattle.h2_worked_rows.specs.Trees.{is_fifth, is_seventh, two_roots, without_fifth}
 use Rattle.h2_worked_rows.proofs.Roots.{fifth_is, fifth_root, no_third}
 use Rattle.h2_worked_rows.proofs.sound.worked_sound_forest_law.Goals as goal
 

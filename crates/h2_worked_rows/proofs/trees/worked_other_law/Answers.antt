@@ -1,4 +1,4 @@
-use Rattle.std.proofs.Common.{◌≡◌, ℕ, true, false, refl, sym, arith, true≢false}
+use Rattle.std.proofs.Common.{◌≡◌, ℕ, refl, sym, arith, true≢false}
 use Rattle.h2_worked_rows.proofs.Roots.{none_sixth}
 use Rattle.h2_worked_rows.proofs.trees.worked_other_law.Goals as goal
 

@@ -1,10 +1,10 @@
-use Rattle.std.proofs.Common.{◌≡◌, ◌↔◌, ◌⊎◌, ℕ, Bool, true, false, [], ◌∷◌, Option, Some, None, refl, sym, ◌∙◌, inl, inr, zero, suc, slice_get, subst, true≢false}
+use Rattle.std.proofs.Common.{◌≡◌, ℕ, false, [], ◌∷◌, refl, sym, ◌∙◌, inl, zero, suc, subst, true≢false}
 use Rattle.std.proofs.lemmas.Option.{none-some, same_Some}
 use Rattle.h2_ref.specs.declared.reference.Ref.{Ref}
 use Rattle.h2_set.specs.Ranges.{holds, NoneHolds}
 use Rattle.h2_set.specs.Forest.{done, one, nowhere, here, IsRootOf}
 use Rattle.h2_worked_rows.specs.Refs.{fifth_leaf}
-use Rattle.h2_worked_rows.specs.Trees.{is_fifth, two_roots}
+use Rattle.h2_worked_rows.specs.Trees.{two_roots}
 use Rattle.h2_worked_rows.proofs.Roots.{none_sixth, fifth_is, fifth_root}
 use Rattle.h2_worked_rows.proofs.trees.worked_roots_law.Goals as goal
 

@@ -1,10 +1,10 @@
-use Rattle.std.proofs.Common.{◌≡◌, ℕ, true, Some, refl, sym, ap, subst, arith, zero, suc, true≢false}
+use Rattle.std.proofs.Common.{◌≡◌, ℕ, true, refl, sym, ap, subst, arith, zero, suc, true≢false}
 use Rattle.std.proofs.lemmas.Option.{none-some, same_Some}
 use Rattle.h2_ref.specs.declared.reference.Ref.{Ref}
 use Rattle.h2_tree.specs.OtherTrees.{KeepsOtherLeaves}
 use Rattle.h2_worked_rows.specs.Refs.{block_at, fifth_leaf}
 use Rattle.h2_worked_rows.specs.Trees.{is_fifth, two_roots}
-use Rattle.h2_worked_rows.specs.Views.{new_block, with_new_leaf, with_new_block}
+use Rattle.h2_worked_rows.specs.Views.{new_block, with_new_leaf}
 use Rattle.h2_worked_rows.proofs.Roots.{no_third}
 use Rattle.h2_worked_rows.proofs.views.worked_leaves_law.Goals as goal
 

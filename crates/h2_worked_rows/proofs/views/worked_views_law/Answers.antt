@@ -1,9 +1,8 @@
-use Rattle.std.proofs.Common.{◌≡◌, ◌<◌, ℕ, Bool, true, false, nat_eq, Option, None, Some, refl, sym, ◌∙◌, ap, arith, zero, suc}
+use Rattle.std.proofs.Common.{◌≡◌, ◌<◌, ℕ, false, nat_eq, Option, refl, sym, ◌∙◌, ap, arith}
 use Rattle.std.proofs.lemmas.Option.{none-some, same_Some}
 use Rattle.std.proofs.lemmas.Bool.Decides.{nat_tests}
 use Rattle.h2_num.specs.Places.{Places}
 use Rattle.h2_ref.specs.declared.reference.Ref.{Ref}
-use Rattle.h2_inode.specs.Nodes.{Fields}
 use Rattle.h2_inode.specs.Loaded.{BlocksOne, HoldsBut}
 use Rattle.h2_worked_rows.specs.Refs.{fifth_leaf}
 use Rattle.h2_worked_rows.specs.Views.{known_block, empty_view, fifth_view, fifth_fields}
