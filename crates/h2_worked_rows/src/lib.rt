@@ -6,6 +6,7 @@
 mod forests;
 mod handles;
 mod meanings;
+mod passages;
 mod ranges;
 mod sound;
 mod trees;
@@ -14,6 +15,7 @@ mod views;
 pub use forests::{worked_forests_law, worked_names_law};
 pub use handles::{worked_handles_law, worked_orphans_law};
 pub use meanings::{worked_embedded_law, worked_replaced_law};
+pub use passages::worked_passages_law;
 pub use ranges::worked_ranges_law;
 pub use sound::worked_sound_forest_law;
 pub use trees::{worked_file_law, worked_other_law, worked_roots_law};
