@@ -1,4 +1,4 @@
-use Rattle.std.proofs.Common.{◌≡◌, ℕ, true, refl, sym, arith, ap, true≢false}
+use Rattle.std.proofs.Common.{◌≡◌, ℕ, refl, arith, true≢false}
 use Rattle.h2_inode.specs.Nodes.{IsBare}
 use Rattle.h2_worked_rows.specs.Trees.{two_roots}
 use Rattle.h2_worked_rows.proofs.passages.worked_passages_law.Goals as goal
